@@ -1,0 +1,13 @@
+//! The calculus of data descriptions: its terms and modules, and what they mean.
+#![tactic(auto)]
+
+mod decl;
+mod module;
+mod reading;
+mod term;
+
+pub use decl::{Decl, Decls, NameIds, Shape};
+pub use module::Module;
+pub use pads_dispatch::{Arg, Args, Base};
+pub use reading::Reading;
+pub use term::{Arm, Arms, Case, Cases, Exprs, Key, Part, Parts, Result2, Seq, Term};
