@@ -1,3 +1,4 @@
 pub mod RunLemmas
 pub mod RangeLemmas
 pub mod ReadingLemmas
+pub mod SpellingLemmas

@@ -1,3 +1,4 @@
+pub mod Filled
 pub mod Kinds
 pub mod Readings
 pub mod Spellings

@@ -4,6 +4,8 @@
 mod digits;
 mod kind;
 mod reading;
+mod spelling;
 
 pub use kind::Kind;
 pub use reading::{read_int, read_int_fw};
+pub use spelling::{spell_int, spell_int_fw};
