@@ -1,0 +1,4 @@
+pub mod RunLemmas
+pub mod RangeLemmas
+pub mod ReadingLemmas
+pub mod SpellingLemmas
