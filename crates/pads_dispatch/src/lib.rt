@@ -2,5 +2,7 @@
 #![tactic(auto)]
 
 mod base;
+mod read;
 
 pub use base::{Arg, Args, Base};
+pub use read::read_base;
