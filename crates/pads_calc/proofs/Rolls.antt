@@ -2,6 +2,7 @@
 use Rattle.std.proofs.Common.{◌≡◌, ◌∙◌, sym, ap, refl, ℕ, List, map, Option, None, Some, option_map}
 use Rattle.pads_expr.specs.declared.expr.Expr.{Expr}
 use Rattle.pads_expr.specs.Value.{Pairs, value}
+use Rattle.pads_expr.specs.Worth.{told}
 use Rattle.pads_dispatch.specs.declared.base.Base.{Base}
 use Rattle.pads_calc.specs.declared.reading.Reading.{Reading}
 use Rattle.pads_calc.specs.declared.term.Arm.{Arm, fold-Arm, fold_out-Arm}
@@ -140,7 +141,7 @@ module _ (origin : ℕ) (bytes : List ℕ) (call : Caller) where
   read-Call number args env i =
       ap (λ t. read origin bytes call t env i) (sym (term.rolls-Call number args)) ∙ ap (λ (r : Reader). r env i) (read-roll (Term-F.Call number args))
 
-  pub read-Compute : (e : Expr) (form : Result2) (env : Pairs) (i : ℕ) → read origin bytes call (term.Compute e form) env i ≡ compute_of origin form (value e env) i
+  pub read-Compute : (e : Expr) (form : Result2) (env : Pairs) (i : ℕ) → read origin bytes call (term.Compute e form) env i ≡ compute_of origin form (told (value e env)) i
   read-Compute e form env i =
       ap (λ t. read origin bytes call t env i) (sym (term.rolls-Compute e form)) ∙ ap (λ (r : Reader). r env i) (read-roll (Term-F.Compute e form))
 

@@ -4,7 +4,7 @@ use Rattle.pads_value.specs.declared.value.Val.{Val}
 use Rattle.pads_value.specs.declared.value.Val.TheVariants as val
 use Rattle.pads_expr.specs.declared.expr.Expr.{Expr}
 use Rattle.pads_expr.specs.Value.{Pairs, value}
-use Rattle.pads_expr.specs.Worth.{Worth, Answer, Is, Absent, Ill}
+use Rattle.pads_expr.specs.Worth.{Worth, told}
 use Rattle.pads_expr.specs.Worth as worth
 use Rattle.pads_dispatch.specs.declared.base.Arg.{Arg}
 use Rattle.pads_dispatch.specs.declared.base.Arg.TheVariants as arg
@@ -16,13 +16,12 @@ arg_of_worth (worth.Text text) = Some (arg.Text text)
 arg_of_worth (worth.Truth truth) = None
 arg_of_worth (worth.Part part) = None
 
-abbrev pub arg_of_answer : Answer → Option Arg
-arg_of_answer (Is found) = arg_of_worth found
-arg_of_answer Absent = None
-arg_of_answer Ill = None
+abbrev pub arg_told : Option Worth → Option Arg
+arg_told None = None
+arg_told (Some found) = arg_of_worth found
 
 abbrev pub argument : Expr → Pairs → Option Arg
-argument e env = arg_of_answer (value e env)
+argument e env = arg_told (told (value e env))
 
 -- the arguments, where each has a value
 abbrev pub and_more : Option Arg → Option (List Arg) → Option (List Arg)
@@ -41,13 +40,12 @@ is_true_worth (worth.Text text) = false
 is_true_worth (worth.Truth truth) = truth
 is_true_worth (worth.Part part) = false
 
-abbrev pub is_true_answer : Answer → Bool
-is_true_answer (Is found) = is_true_worth found
-is_true_answer Absent = false
-is_true_answer Ill = false
+abbrev pub is_true_told : Option Worth → Bool
+is_true_told None = false
+is_true_told (Some found) = is_true_worth found
 
 abbrev pub is_true : Expr → Pairs → Bool
-is_true e env = is_true_answer (value e env)
+is_true e env = is_true_told (told (value e env))
 
 abbrev pub value_of_arg : Arg → Val
 value_of_arg (arg.Num number) = val.Num number

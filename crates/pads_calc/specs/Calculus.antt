@@ -21,6 +21,7 @@ use Rattle.pads_calc.specs.Readings.{Reader, fails}
 use Rattle.pads_calc.specs.Structs.{Named, in_turn, struct_of}
 use Rattle.pads_calc.specs.Wrappers.{guard_of, absorb_of, scan}
 use Rattle.pads_expr.specs.Value.{value}
+use Rattle.pads_expr.specs.Worth.{told}
 
 -- what a call of a declaration with such arguments reads as
 abbrev pub Caller : Type 0
@@ -40,7 +41,7 @@ module _ (origin : ℕ) (bytes : List ℕ) (call : Caller) where
   term_step (Term-F.Guard inner binder condition) env i = guard_of binder condition env (inner env i)
   term_step (Term-F.Seq s) env i = seq_of origin bytes s env i
   term_step (Term-F.Call number args) env i = call number args env i
-  term_step (Term-F.Compute e form) env i = compute_of origin form (value e env) i
+  term_step (Term-F.Compute e form) env i = compute_of origin form (told (value e env)) i
   term_step (Term-F.Absorb inner) env i = absorb_of (inner env i)
   term_step (Term-F.Scan inner) env i = scan origin bytes inner env i
 

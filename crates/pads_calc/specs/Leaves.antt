@@ -6,7 +6,7 @@ use Rattle.pads_value.specs.declared.reading.Read.{Read}
 use Rattle.pads_value.specs.declared.reading.Read.TheVariants.{Good, Soft, Hard}
 use Rattle.pads_value.specs.declared.value.Val.{Val}
 use Rattle.pads_value.specs.declared.value.Val.TheVariants as val
-use Rattle.pads_expr.specs.Worth.{Worth, Answer, Is, Absent, Ill}
+use Rattle.pads_expr.specs.Worth.{Worth}
 use Rattle.pads_expr.specs.Worth as worth
 use Rattle.pads_dispatch.specs.declared.base.Arg.{Arg}
 use Rattle.pads_dispatch.specs.declared.base.Base.{Base}
@@ -56,14 +56,13 @@ computed form.Text (worth.Text text) = Some (val.Text text)
 computed form.Text (worth.Truth truth) = None
 computed form.Text (worth.Part part) = None
 
-abbrev pub computed_answer : Result2 → Answer → Option Val
-computed_answer form (Is found) = computed form found
-computed_answer form Absent = None
-computed_answer form Ill = None
+abbrev pub computed_told : Result2 → Option Worth → Option Val
+computed_told form None = None
+computed_told form (Some found) = computed form found
 
 abbrev pub compute_node : ℕ → ℕ → Option Val → Reading
 compute_node origin i None = fails origin cause.Compute i
 compute_node origin i (Some value) = leaf origin value i i
 
-abbrev pub compute_of : ℕ → Result2 → Answer → ℕ → Reading
-compute_of origin form answer i = compute_node origin i (computed_answer form answer)
+abbrev pub compute_of : ℕ → Result2 → Option Worth → ℕ → Reading
+compute_of origin form found i = compute_node origin i (computed_told form found)

@@ -4,6 +4,7 @@ pub mod Calculus
 pub mod Choices
 pub mod Counts
 pub mod Leaves
+pub mod Places
 pub mod Readings
 pub mod Scopes
 pub mod Structs

@@ -1,2 +1,3 @@
-pub mod Readings
 pub mod Labels
+pub mod Readings
+pub mod Sizes
