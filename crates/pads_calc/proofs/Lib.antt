@@ -1,1 +1,4 @@
+pub mod Bindings
+pub mod Lists
+pub mod Positions
 pub mod Rolls

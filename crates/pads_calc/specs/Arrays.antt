@@ -13,6 +13,10 @@ use Rattle.pads_expr.specs.declared.expr.Expr.{Expr}
 use Rattle.pads_dispatch.specs.declared.base.Arg.{Arg}
 use Rattle.pads_dispatch.specs.declared.base.Arg.TheVariants as arg
 use Rattle.pads_calc.specs.declared.reading.Reading.{Reading}
+use Rattle.pads_calc.specs.declared.turn.Ending.{Ending}
+use Rattle.pads_calc.specs.declared.turn.Ending.TheVariants as ending
+use Rattle.pads_calc.specs.declared.turn.Turn.{Turn}
+use Rattle.pads_calc.specs.declared.turn.Turn.TheVariants as turn
 use Rattle.pads_calc.specs.Arguments.{argument, is_true}
 use Rattle.pads_calc.specs.Leaves.{at_end}
 use Rattle.pads_calc.specs.Readings.{Reader, node, fails, is_ok, values, pds, end_of}
@@ -62,23 +66,14 @@ abbrev pub below_size : Option ℕ → Option Cause
 below_size None = None
 below_size (Some size) = Some cause.ArraySize
 
-pub data Ending : Type 0 where
-  goes_on : Ending
-  ends : Option Cause → Ending
-
 -- before each element, in this order: the size, the last element, the terminator, the record's end
-unfoldable pub ending : List ℕ → SeqReader → Option ℕ → List Val → Pairs → ℕ → Ending
-ending bytes s size elements env j =
-    if is_full size (length elements) then ends None
-    else if is_last s.last s.elts elements env then ends None
-    else if is_stopped s.stop env j then ends (below_size size)
-    else if at_end bytes j then ends (below_size size)
-    else goes_on
-
--- a turn is kept, or it ends the array and neither its bytes nor its element are kept
-pub data Turn : Type 0 where
-  undone : Cause → Turn
-  kept : Reading → Turn
+unfoldable pub ending_at : List ℕ → SeqReader → Option ℕ → List Val → Pairs → ℕ → Ending
+ending_at bytes s size elements env j =
+    if is_full size (length elements) then ending.Ends None
+    else if is_last s.last s.elts elements env then ending.Ends None
+    else if is_stopped s.stop env j then ending.Ends (below_size size)
+    else if at_end bytes j then ending.Ends (below_size size)
+    else ending.GoesOn
 
 -- where the element begins: from the second on behind the separator, if that reads without a fault
 abbrev pub element_at : Option Reader → Bool → Pairs → ℕ → Option ℕ
@@ -97,16 +92,16 @@ is_fail_class class.Fail = true
 -- on a turn takes a byte
 abbrev pub turn_of : Bool → ℕ → ℕ → Reading → Turn
 turn_of is_first j begin r =
-    if is_fail_class (out-Pd r.pd).class && nat_eq r.place begin then undone cause.ArrayElem
-    else if not is_first && nat_eq r.place j then undone cause.ArrayStall
-    else kept r
+    if is_fail_class (out-Pd r.pd).class && nat_eq r.place begin then turn.Undone cause.ArrayElem
+    else if not is_first && nat_eq r.place j then turn.Undone cause.ArrayStall
+    else turn.Kept r
 
 abbrev pub turn_at : Reader → Bool → Pairs → ℕ → Option ℕ → Turn
-turn_at elem is_first env j None = undone cause.ArraySep
+turn_at elem is_first env j None = turn.Undone cause.ArraySep
 turn_at elem is_first env j (Some begin) = turn_of is_first j begin (elem env begin)
 
-unfoldable pub turn : SeqReader → Bool → Pairs → ℕ → Turn
-turn s is_first env j = turn_at s.elem is_first env j (element_at s.sep is_first env j)
+unfoldable pub turn_from : SeqReader → Bool → Pairs → ℕ → Turn
+turn_from s is_first env j = turn_at s.elem is_first env j (element_at s.sep is_first env j)
 
 -- the elements from some place on, and the array's own cause
 pub record Elements : Type 0 where
@@ -117,19 +112,19 @@ abbrev pub no_more : Option Cause → Elements
 no_more own = record { own = own; rest = [] }
 
 abbrev pub unless_ended : Ending → Elements → Elements
-unless_ended (ends own) more = no_more own
-unless_ended goes_on more = more
+unless_ended (ending.Ends own) more = no_more own
+unless_ended ending.GoesOn more = more
 
 abbrev pub and_then : Turn → (Reading → Elements) → Elements
-and_then (undone cause) more = no_more (Some cause)
-and_then (kept r) more = let later = more r in record { own = later.own; rest = r ∷ later.rest }
+and_then (turn.Undone cause) more = no_more (Some cause)
+and_then (turn.Kept r) more = let later = more r in record { own = later.own; rest = r ∷ later.rest }
 
 -- the elements from `j` on, behind those that there are, in at most so many turns
 unfoldable pub elements : List ℕ → SeqReader → Option ℕ → Pairs → ℕ → List Val → ℕ → Elements
 elements bytes s size env zero before j = no_more None
 elements bytes s size env (suc turns) before j =
-    unless_ended (ending bytes s size before env j)
-    (and_then (turn s (is_empty before) env j)
+    unless_ended (ending_at bytes s size before env j)
+    (and_then (turn_from s (is_empty before) env j)
     (λ r. elements bytes s size env turns (before ++ r.value ∷ []) r.place))
 
 -- an array's own cause doesn't make it fail

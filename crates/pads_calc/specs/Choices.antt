@@ -1,5 +1,5 @@
 -- Unions: the first branch that reads without a fault, or the case that a value chooses.
-use Rattle.std.specs.Prelude.{ℕ, ◌+◌, Bool, true, false, int_le, ◌&&◌, ℤ, List, [], ◌∷◌, Option, Some, None, position, slice_get, nat_eq, if◌then◌else◌}
+use Rattle.std.specs.Prelude.{ℕ, ◌+◌, Bool, true, false, int_le, ◌&&◌, ℤ, List, [], ◌∷◌, Option, Some, None, position, slice_get, nat_eq, is_none, if◌then◌else◌}
 use Rattle.std.specs.Option.{option_or}
 use Rattle.std.specs.Ordering.{int_eq}
 use lib.Pointwise.{pointwise}
@@ -40,8 +40,7 @@ has_key found None = false
 has_key found (Some wanted) = is_key found wanted
 
 abbrev pub has_no_key : Option Key → Bool
-has_no_key None = true
-has_no_key (Some wanted) = false
+has_no_key wanted = is_none wanted
 
 -- the first case with this key, else the first without a key
 abbrev pub chosen : Option Arg → List (Option Key) → Option ℕ

@@ -1,4 +1,4 @@
-ghost use Rattle.std.specs.Prelude.{◌≡◌, ◌∷◌, ℕ, IfOk, OnOk};
+ghost use Rattle.std.specs.Prelude.{◌≡◌, ◌∷◌, [], IfOk, OnOk};
 ghost use Rattle.pads_calc.specs.Arguments.{arg_told, argument as argument_of, arguments as arguments_of, is_true as is_true_in, value_of_arg, bound_to};
 ghost use Rattle.pads_expr.specs.Seen.{seen};
 ghost use Rattle.std.specs.Option.{option_map};
@@ -51,11 +51,39 @@ pub fn is_true(e: &Expr, env: &Env) -> bool
 }
 
 /// What an argument is as a value.
-fn value_of(arg: Arg) -> Val
-    ensures value { result ≡ value_of_arg arg }
+fn value_of(alloc: Global, arg: &Arg) -> Result<Val, Memory>
+    ensures value { IfOk result (λ value. value ≡ value_of_arg arg.now) }
 {
-    match arg {
-        Arg::Num(number) => Val::Num(number),
-        Arg::Text(text) => Val::Text(text),
+    Ok(match arg {
+        Arg::Num(number) => Val::Num(*number),
+        Arg::Text(text) => Val::Text(Items::from_slice(alloc, text.as_slice())?),
+    })
+}
+
+/// Whether a condition is true of a value that goes by a name in it. Gives the value back.
+pub fn is_true_of(condition: &Expr, name: u16, value: Val, env: &mut Env) -> Result<(bool, Val), Memory>
+    ensures truth { IfOk result (λ answer. answer.0 ≡ is_true_in condition.now ((name, value) ∷ env.old.0)) }
+    ensures value { IfOk result (λ answer. answer.1 ≡ value) }
+    ensures env { OnOk result (env.new ≡ env.old) }
+{
+    env.bind(name, value)?;
+    let truth = is_true(condition, env);
+    let Some((_, value)) = env.pop() else {
+        unreachable!()
+    };
+    Ok((truth, value))
+}
+
+/// The environment of a declaration's body: its parameters, bound to the arguments.
+pub fn bound(alloc: Global, names: &[u16], args: &Args) -> Result<Env, Memory>
+    ensures bound { IfOk result (λ env. env.0 ≡ bound_to names.now args.now []) }
+{
+    let mut env = Env::new(alloc, 0)?;
+    for (i, name) in names.iter().enumerate() {
+        let Some(arg) = args.get(i as u64) else {
+            return Ok(env);
+        };
+        env.bind(*name, value_of(alloc, arg)?)?;
     }
+    Ok(env)
 }

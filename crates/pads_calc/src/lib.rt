@@ -2,16 +2,22 @@
 #![tactic(auto)]
 
 mod args;
+mod choice;
 mod decl;
 mod module;
 mod reading;
 mod record;
+mod run;
 mod term;
+mod turn;
 
-pub use args::{argument, arguments, is_true};
+pub use args::{argument, arguments, bound, is_true, is_true_of};
+pub use choice::chosen;
 pub use decl::{Decl, Decls, NameIds, Shape};
 pub use module::Module;
 pub use pads_dispatch::{Arg, Args, Base};
 pub use reading::Reading;
 pub use record::Record;
+pub use run::Run;
 pub use term::{Arm, Arms, Case, Cases, Exprs, Key, Part, Parts, Result2, Seq, Term};
+pub use turn::{Ending, Turn, is_full, short_of, size_at};
