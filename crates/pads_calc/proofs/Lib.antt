@@ -1,4 +1,5 @@
 pub mod Bindings
+pub mod CountRolls
 pub mod Lists
 pub mod Positions
 pub mod Rolls

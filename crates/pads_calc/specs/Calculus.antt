@@ -2,13 +2,13 @@
 -- semantics of the data description calculus (Fisher, Mandelbaum and Walker, POPL 2006), with its
 -- dependent sums, ordered sums, constrained types, sequences, applications, computed values, absorbed
 -- types and scans, in this project's profile.
-use Rattle.std.specs.Prelude.{ℕ, zero, suc, List, [], map, Option, Some, None, slice_get}
+use Rattle.std.specs.Prelude.{ℕ, zero, suc, List, [], map, Option, Some, None, option_map, slice_get}
 use Rattle.pads_value.specs.declared.cause.Cause.TheVariants as cause
 use Rattle.pads_expr.specs.declared.expr.Expr.{Expr}
 use Rattle.pads_dispatch.specs.declared.base.Arg.{Arg}
 use Rattle.pads_calc.specs.declared.decl.Decl.{Decl}
 use Rattle.pads_calc.specs.declared.reading.Reading.{Reading}
-use Rattle.pads_calc.specs.declared.term.Arm.{Arm-F}
+use Rattle.pads_calc.specs.declared.term.Arm.{Arm, Arm-F}
 use Rattle.pads_calc.specs.declared.term.Case.{Case, Case-F}
 use Rattle.pads_calc.specs.declared.term.Part.{Part, Part-F}
 use Rattle.pads_calc.specs.declared.term.Seq.{Seq, Seq-F}
@@ -60,6 +60,30 @@ seq_step s = record { elem = s.elem; sep = s.sep; size = s.size; last = s.last; 
 -- the reading of a term, where the calls read so
 unfoldable pub read : ℕ → List ℕ → Caller → Term → Reader
 read origin bytes call = fold-Term Reader Reader Keyed Named SeqReader (term_step origin bytes call) arm_step case_step part_step seq_step
+
+-- what the parts of a term read as
+module _ (origin : ℕ) (bytes : List ℕ) (call : Caller) where
+  abbrev pub part_reader : Part → Named
+  part_reader part = record { name = part.name; reader = read origin bytes call part.term }
+
+  abbrev pub arm_reader : Arm → Reader
+  arm_reader arm = read origin bytes call arm.term
+
+  abbrev pub case_reader : Case → Reader
+  case_reader case = read origin bytes call case.arm.term
+
+  abbrev pub option_reader : Option Term → Option Reader
+  option_reader t = option_map (read origin bytes call) t
+
+  abbrev pub seq_reader : Seq → SeqReader
+  seq_reader s = record {
+    elem = read origin bytes call s.elem;
+    sep = option_reader s.sep;
+    size = s.size;
+    last = s.last;
+    stop = option_reader s.stop;
+    elts = s.elts;
+  }
 
 -- a declaration's body, with the arguments as its whole environment
 abbrev pub body_of : ℕ → (Term → Reader) → Option Decl → Option (List Arg) → ℕ → Reading
