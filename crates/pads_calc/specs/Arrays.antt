@@ -67,13 +67,17 @@ below_size None = None
 below_size (Some size) = Some cause.ArraySize
 
 -- before each element, in this order: the size, the last element, the terminator, the record's end
+abbrev pub ending_by : (full last stopped over : Bool) → Option ℕ → Ending
+ending_by full last stopped over size =
+    if full then ending.Ends None
+    else if last then ending.Ends None
+    else if stopped then ending.Ends (below_size size)
+    else if over then ending.Ends (below_size size)
+    else ending.GoesOn
+
 unfoldable pub ending_at : List ℕ → SeqReader → Option ℕ → List Val → Pairs → ℕ → Ending
 ending_at bytes s size elements env j =
-    if is_full size (length elements) then ending.Ends None
-    else if is_last s.last s.elts elements env then ending.Ends None
-    else if is_stopped s.stop env j then ending.Ends (below_size size)
-    else if at_end bytes j then ending.Ends (below_size size)
-    else ending.GoesOn
+    ending_by (is_full size (length elements)) (is_last s.last s.elts elements env) (is_stopped s.stop env j) (at_end bytes j) size
 
 -- where the element begins: from the second on behind the separator, if that reads without a fault
 abbrev pub element_at : Option Reader → Bool → Pairs → ℕ → Option ℕ

@@ -6,6 +6,7 @@ pub mod Counts
 pub mod Leaves
 pub mod Places
 pub mod Readings
+pub mod Rows
 pub mod Scopes
 pub mod Structs
 pub mod Wrappers

@@ -4,6 +4,7 @@
 mod args;
 mod choice;
 mod decl;
+mod guard;
 mod module;
 mod reading;
 mod record;
@@ -14,6 +15,7 @@ mod turn;
 pub use args::{argument, arguments, bound, is_true, is_true_of};
 pub use choice::chosen;
 pub use decl::{Decl, Decls, NameIds, Shape};
+pub use guard::{bind_part, guarded};
 pub use module::Module;
 pub use pads_dispatch::{Arg, Args, Base};
 pub use reading::Reading;
