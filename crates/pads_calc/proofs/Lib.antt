@@ -1,7 +1,11 @@
 pub mod Bindings
+pub mod Calls
 pub mod Cases
+pub mod Choices
 pub mod CountRolls
 pub mod Lists
 pub mod Positions
 pub mod Rolls
+pub mod Runs
+pub mod Scans
 pub mod Turns

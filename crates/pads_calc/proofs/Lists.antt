@@ -1,5 +1,5 @@
 -- What is left of a list from a place on, by what stands at the place.
-use Rattle.std.proofs.Common.{◌≡◌, ℕ, zero, suc, ◌+◌, ◌<◌, List, [], ◌∷◌, length, drop, get_or, Option, Some, None, slice_get, refl, sym, ap, ◌∙◌, arith, add-one, drop-cons}
+use Rattle.std.proofs.Common.{◌≡◌, ℕ, zero, suc, ◌+◌, ◌<◌, ◌≤◌, List, [], ◌∷◌, length, drop, get_or, Option, Some, None, slice_get, refl, sym, ap, ◌∙◌, arith, add-one, drop-cons}
 
 drop-there' : {X : Type 0} (xs : List X) (i : ℕ) (x : X) → slice_get xs i ≡ Some x → drop i xs ≡ x ∷ drop (suc i) xs
 drop-there' [] i x there = cc
@@ -17,3 +17,9 @@ drop-past (y ∷ xs) (suc i) past = drop-past xs i past
 
 pub drop-next : {X : Type 0} (xs : List X) (i : ℕ) (d : X) → i < length xs → drop i xs ≡ get_or xs i d ∷ drop (i + 1) xs
 drop-next xs i d there = rw (add-one) (drop-cons xs i d there)
+
+pub drop-past' : {X : Type 0} (xs : List X) (i : ℕ) → length xs ≤ i → drop i xs ≡ []
+drop-past' [] zero over = refl
+drop-past' [] (suc i) over = refl
+drop-past' (y ∷ xs) zero over = absurd (omega arith)
+drop-past' (y ∷ xs) (suc i) over = drop-past' xs i (omega arith)

@@ -21,14 +21,14 @@ fn arg_of(alloc: Global, found: Option<Res>) -> Result<Option<Arg>, Memory>
 
 /// The argument that an expression stands for, if it stands for one.
 pub fn argument(alloc: Global, e: &Expr, env: &Env) -> Result<Option<Arg>, Memory>
-    ensures argument { IfOk result (λ arg. arg ≡ argument_of e.now env.now.0) }
+    ensures argument { IfOk result (λ arg. arg ≡ argument_of e.now env.now.pairs) }
 {
     arg_of(alloc, eval(e, env))
 }
 
 /// The arguments that expressions stand for; none where one of them stands for none.
 pub fn arguments(alloc: Global, es: &[Expr], env: &Env) -> Result<Option<Args>, Memory>
-    ensures arguments { IfOk result (λ args. args ≡ arguments_of es.now env.now.0) }
+    ensures arguments { IfOk result (λ args. args ≡ arguments_of es.now env.now.pairs) }
 {
     let mut args = Items::new(alloc);
     for e in es {
@@ -42,7 +42,7 @@ pub fn arguments(alloc: Global, es: &[Expr], env: &Env) -> Result<Option<Args>, 
 
 /// Whether an expression is true. One without a value isn't.
 pub fn is_true(e: &Expr, env: &Env) -> bool
-    ensures truth { result ≡ is_true_in e.now env.now.0 }
+    ensures truth { result ≡ is_true_in e.now env.now.pairs }
 {
     match eval(e, env) {
         Some(Res::Truth(truth)) => truth,
@@ -62,9 +62,9 @@ fn value_of(alloc: Global, arg: &Arg) -> Result<Val, Memory>
 
 /// Whether a condition is true of a value that goes by a name in it. Gives the value back.
 pub fn is_true_of(condition: &Expr, name: u16, value: Val, env: &mut Env) -> Result<(bool, Val), Memory>
-    ensures truth { IfOk result (λ answer. answer.0 ≡ is_true_in condition.now ((name, value) ∷ env.old.0)) }
+    ensures truth { IfOk result (λ answer. answer.0 ≡ is_true_in condition.now ((name, value) ∷ env.old.pairs)) }
     ensures value { IfOk result (λ answer. answer.1 ≡ value) }
-    ensures env { OnOk result (env.new ≡ env.old) }
+    ensures env { OnOk result (env.new.pairs ≡ env.old.pairs) }
 {
     env.bind(name, value)?;
     let truth = is_true(condition, env);
@@ -76,7 +76,7 @@ pub fn is_true_of(condition: &Expr, name: u16, value: Val, env: &mut Env) -> Res
 
 /// The environment of a declaration's body: its parameters, bound to the arguments.
 pub fn bound(alloc: Global, names: &[u16], args: &Args) -> Result<Env, Memory>
-    ensures bound { IfOk result (λ env. env.0 ≡ bound_to names.now args.now []) }
+    ensures bound { IfOk result (λ env. env.pairs ≡ bound_to names.now args.now []) }
 {
     let mut env = Env::new(alloc, 0)?;
     for (i, name) in names.iter().enumerate() {

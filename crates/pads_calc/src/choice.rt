@@ -57,7 +57,7 @@ fn chosen_by(found: &Arg, cases: &[Case]) -> Option<usize>
 
 /// The number of the case that an expression's value chooses, if there is one.
 pub fn chosen(alloc: Global, e: &Expr, env: &Env, cases: &[Case]) -> Result<Option<usize>, Memory>
-    ensures chosen { IfOk result (λ number. number ≡ chosen_of (argument_of e.now env.now.0) (map (λ c. c.key) cases.now)) }
+    ensures chosen { IfOk result (λ number. number ≡ chosen_of (argument_of e.now env.now.pairs) (map (λ c. c.key) cases.now)) }
 {
     match argument(alloc, e, env)? {
         None => Ok(None),

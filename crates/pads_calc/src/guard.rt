@@ -10,9 +10,9 @@ use std::alloc::Global;
 
 /// A reading under a constraint, which is asked of a clean reading alone.
 pub fn guarded(reading: Reading, binder: u16, condition: &Expr, env: &mut Env) -> Result<Reading, Memory>
-    ensures guarded { IfOk result (λ r. r ≡ guard_of binder condition.now env.old.0 reading) }
+    ensures guarded { IfOk result (λ r. r ≡ guard_of binder condition.now env.old.pairs reading) }
     ensures place { IfOk result (λ r. r.place ≡ reading.place) }
-    ensures env { OnOk result (env.new ≡ env.old) }
+    ensures env { OnOk result (env.new.pairs ≡ env.old.pairs) }
 {
     if !reading.is_ok() {
         return Ok(reading);
@@ -25,7 +25,7 @@ pub fn guarded(reading: Reading, binder: u16, condition: &Expr, env: &mut Env) -
 
 /// Binds a part's value in the environment of the later parts, where the part has a name.
 pub fn bind_part(alloc: Global, name: Option<u16>, value: &Val, env: &mut Env) -> Result<(), Memory>
-    ensures bound { OnOk result (env.new.0 ≡ bound_by name value.now env.old.0) }
+    ensures bound { OnOk result (env.new.pairs ≡ bound_by name value.now env.old.pairs) }
 {
     match name {
         None => Ok(()),

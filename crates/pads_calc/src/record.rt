@@ -109,7 +109,7 @@ impl<'a> Record<'a> {
     /// A base type with its arguments.
     pub fn base(&self, alloc: Global, base: &Base, args: &[Expr], env: &Env, place: u64) -> Result<Reading, Memory>
         requires { place ≤ length self.now.bytes.now }
-        ensures base { IfOk result (λ r. r ≡ base_of self.now.origin self.now.bytes.now base.now (arguments_of args.now env.now.0) place) }
+        ensures base { IfOk result (λ r. r ≡ base_of self.now.origin self.now.bytes.now base.now (arguments_of args.now env.now.pairs) place) }
         ensures within { IfOk result (λ r. EndsWithin self.now.bytes.now place r) }
     {
         let args = arguments(alloc, args, env)?;
@@ -119,7 +119,7 @@ impl<'a> Record<'a> {
     /// The value of an expression, over no bytes.
     pub fn computed(&self, alloc: Global, e: &Expr, form: &Result2, env: &Env, place: u64) -> Result<Reading, Memory>
         requires { place ≤ length self.now.bytes.now }
-        ensures computed { IfOk result (λ r. r ≡ compute_of self.now.origin form.now (told (value e.now env.now.0)) place) }
+        ensures computed { IfOk result (λ r. r ≡ compute_of self.now.origin form.now (told (value e.now env.now.pairs)) place) }
         ensures within { IfOk result (λ r. EndsWithin self.now.bytes.now place r) }
     {
         let value = computed_value(alloc, *form, eval(e, env))?;

@@ -44,7 +44,7 @@ fn size_of_worth(found: Option<Res>) -> Option<u128>
 /// The size that an array is to have, or that none is asked for; none where the expression has no value
 /// that is a size.
 pub fn size_at(size: Option<&Expr>, env: &Env) -> Option<Option<u128>>
-    ensures size { result ≡ size_of (option_copied size.entry) env.now.0 }
+    ensures size { result ≡ size_of (option_copied size.entry) env.now.pairs }
 {
     match size {
         None => Some(None),

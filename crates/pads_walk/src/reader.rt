@@ -25,25 +25,15 @@ pub(crate) struct Reader<'a> {
     pub ghost counted: { module_counts decls.now ≡ true },
 }
 
-/// Forgets the bindings behind the first `count`.
-fn unbind(env: &mut Env, count: u64)
-    requires { count ≤ length env.old.0 }
-    ensures cut { env.new.0 ≡ drop (length env.old.0 - count) env.old.0 }
-{
-    while env.len() > count {
-        let _ = env.pop();
-    }
-}
-
 impl Reader<'_> {
     /// A term in an environment at a place, where calls may be nested so deep.
     #[cycle(reader)]
     fn read(&self, term: &Term, env: &mut Env, place: u64, depth: u8) -> Result<Reading, Memory>
         requires within { place ≤ length self.now.record.bytes.now }
         requires counted { counts_fit term.now ≡ true }
-        ensures value { IfOk result (λ r. r ≡ meaning self.now.record.origin self.now.record.bytes.now self.now.decls.now depth term.now env.old.0 place) }
+        ensures value { IfOk result (λ r. r ≡ meaning self.now.record.origin self.now.record.bytes.now self.now.decls.now depth term.now env.old.pairs place) }
         ensures within { IfOk result (λ r. EndsWithin self.now.record.bytes.now place r) }
-        ensures env { OnOk result (env.new.0 ≡ env.old.0) }
+        ensures env { OnOk result (env.new.pairs ≡ env.old.pairs) }
     {
         match term {
             Term::Unit => Ok(self.record.unit(self.alloc, place)),
@@ -70,9 +60,9 @@ impl Reader<'_> {
     fn read_struct(&self, parts: &[Part], env: &mut Env, place: u64, depth: u8) -> Result<Reading, Memory>
         requires within { place ≤ length self.now.record.bytes.now }
         requires counted { list_all (λ part. counts_fit part.term) parts.now ≡ true }
-        ensures value { IfOk result (λ r. r ≡ struct_of self.now.record.origin (in_turn (map (part_reader self.now.record.origin self.now.record.bytes.now (caller self.now.record.origin self.now.record.bytes.now self.now.decls.now depth)) parts.now) env.old.0 place) place) }
+        ensures value { IfOk result (λ r. r ≡ struct_of self.now.record.origin (in_turn (map (part_reader self.now.record.origin self.now.record.bytes.now (caller self.now.record.origin self.now.record.bytes.now self.now.decls.now depth)) parts.now) env.old.pairs place) place) }
         ensures within { IfOk result (λ r. EndsWithin self.now.record.bytes.now place r) }
-        ensures env { OnOk result (env.new.0 ≡ env.old.0) }
+        ensures env { OnOk result (env.new.pairs ≡ env.old.pairs) }
     {
         let outer = env.len();
         let mut run = Run::new(self.alloc, place);
@@ -81,7 +71,7 @@ impl Reader<'_> {
             bind_part(self.alloc, part.name, &reading.value, env)?;
             run.push(reading)?;
         }
-        unbind(env, outer);
+        env.cut(outer);
         Ok(run.into_struct(self.record.origin, place))
     }
 
@@ -89,7 +79,7 @@ impl Reader<'_> {
     #[cycle(reader)]
     fn read_call(&self, number: u16, args: &[Expr], env: &Env, place: u64, depth: u8) -> Result<Reading, Memory>
         requires within { place ≤ length self.now.record.bytes.now }
-        ensures value { IfOk result (λ r. r ≡ caller self.now.record.origin self.now.record.bytes.now self.now.decls.now depth number args.now env.now.0 place) }
+        ensures value { IfOk result (λ r. r ≡ caller self.now.record.origin self.now.record.bytes.now self.now.decls.now depth number args.now env.now.pairs place) }
         ensures within { IfOk result (λ r. EndsWithin self.now.record.bytes.now place r) }
     {
         let origin = self.record.origin;
@@ -111,9 +101,9 @@ impl Reader<'_> {
     fn read_scan(&self, inner: &Term, env: &mut Env, place: u64, depth: u8) -> Result<Reading, Memory>
         requires within { place ≤ length self.now.record.bytes.now }
         requires counted { counts_fit inner.now ≡ true }
-        ensures value { IfOk result (λ r. r ≡ scan self.now.record.origin self.now.record.bytes.now (meaning self.now.record.origin self.now.record.bytes.now self.now.decls.now depth inner.now) env.old.0 place) }
+        ensures value { IfOk result (λ r. r ≡ scan self.now.record.origin self.now.record.bytes.now (meaning self.now.record.origin self.now.record.bytes.now self.now.decls.now depth inner.now) env.old.pairs place) }
         ensures within { IfOk result (λ r. EndsWithin self.now.record.bytes.now place r) }
-        ensures env { OnOk result (env.new.0 ≡ env.old.0) }
+        ensures env { OnOk result (env.new.pairs ≡ env.old.pairs) }
     {
         let first = self.read(inner, env, place, depth)?;
         if first.is_ok() {
