@@ -3,6 +3,7 @@ pub mod Calls
 pub mod Cases
 pub mod Choices
 pub mod CountRolls
+pub mod Elements
 pub mod Lists
 pub mod Positions
 pub mod Rolls

@@ -30,7 +30,7 @@ follows-push whole i kept kids place r rest h = record {
   end_is = h.end_is;
 }
 
-append-none : {A : Type 0} (xs : List A) → xs ++ [] ≡ xs
+pub append-none : {A : Type 0} (xs : List A) → xs ++ [] ≡ xs
 append-none [] = refl
 append-none (x ∷ xs) = ap (λ rest. x ∷ rest) (append-none xs)
 
