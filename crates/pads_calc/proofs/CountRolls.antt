@@ -11,7 +11,7 @@ use Rattle.pads_calc.specs.declared.term.Seq.{Seq, fold-Seq, fold_out-Seq}
 use Rattle.pads_calc.specs.declared.term.Term.{Term, Term-F, fold-Term, fold-roll-Term, roll-Term, map-Term}
 use Rattle.pads_calc.specs.declared.term.Term.TheShapes.{former-Seq-sep}
 use Rattle.pads_calc.specs.declared.term.Term.TheVariants as term
-use Rattle.pads_calc.specs.Counts.{counts_fit, few, most, fits, all_fit, if_there, term_counts, arm_counts, case_counts, part_counts, seq_counts}
+use Rattle.pads_calc.specs.Counts.{counts_fit, option_counts, few, most, fits, all_fit, if_there, term_counts, arm_counts, case_counts, part_counts, seq_counts}
 
 abbrev of_arm : Arm → Bool
 of_arm = fold-Arm Bool Bool Bool Bool Bool term_counts arm_counts case_counts part_counts seq_counts
@@ -35,10 +35,6 @@ of_arm-is arm = fold_out-Arm Bool Bool Bool Bool Bool term_counts arm_counts cas
 
 of_case-is : (case : Case) → of_case case ≡ counts_fit case.arm.term
 of_case-is case = fold_out-Case Bool Bool Bool Bool Bool term_counts arm_counts case_counts part_counts seq_counts case ∙ of_arm-is case.arm
-
-abbrev pub option_counts : Option Term → Bool
-option_counts None = true
-option_counts (Some t) = counts_fit t
 
 sep-counts : (o : Option Term) → if_there ((former-Seq-sep).map Term Bool counts_fit o) ≡ option_counts o
 sep-counts None = refl
@@ -108,3 +104,12 @@ few-cases e cases h = both-left _ _ (sym (counts-Switch e cases) ∙ h)
 
 pub fit-cases : (e : Expr) (cases : List Case) → counts_fit (term.Switch e cases) ≡ true → list_all (λ case. counts_fit case.arm.term) cases ≡ true
 fit-cases e cases h = both-right (few cases) _ (sym (counts-Switch e cases) ∙ h)
+
+pub fit-elem : (s : Seq) → counts_fit (term.Seq s) ≡ true → counts_fit s.elem ≡ true
+fit-elem s h = both-left (counts_fit s.elem) (option_counts s.sep) (both-left (counts_fit s.elem && option_counts s.sep) (option_counts s.stop) (sym (counts-Seq s) ∙ h))
+
+pub fit-sep : (s : Seq) → counts_fit (term.Seq s) ≡ true → option_counts s.sep ≡ true
+fit-sep s h = both-right (counts_fit s.elem) (option_counts s.sep) (both-left (counts_fit s.elem && option_counts s.sep) (option_counts s.stop) (sym (counts-Seq s) ∙ h))
+
+pub fit-stop : (s : Seq) → counts_fit (term.Seq s) ≡ true → option_counts s.stop ≡ true
+fit-stop s h = both-right (counts_fit s.elem && option_counts s.sep) (option_counts s.stop) (sym (counts-Seq s) ∙ h)
