@@ -1,5 +1,5 @@
 -- A term is larger than the terms in it.
-use Rattle.std.proofs.Common.{◌≡◌, ℕ, ◌+◌, ◌<◌, ◌≤◌, List, arith}
+use Rattle.std.proofs.Common.{◌≡◌, ℕ, zero, suc, ◌+◌, ◌<◌, ◌≤◌, List, [], ◌∷◌, Some, slice_get, arith}
 use denote.Param.Weighed.{most}
 use Rattle.pads_expr.specs.declared.expr.Expr.{Expr}
 use Rattle.pads_calc.specs.declared.term.Arm.{Arm, size-Arm}
@@ -29,3 +29,12 @@ size-Absorb inner = grind (arith, the_lemmas)
 
 pub size-Scan : (inner : Term) → size-Term inner < size-Term (term.Scan inner)
 size-Scan inner = grind (arith, the_lemmas)
+
+pub size-in_Case : (case : Case) → size-Term case.arm.term < size-Case case
+size-in_Case case = grind (arith, the_lemmas)
+
+-- each item of a list is at most as large as the largest
+pub most-there : {A : Type 0} (size : A → ℕ) (xs : List A) (n : ℕ) (x : A) → slice_get xs n ≡ Some x → size x ≤ most size xs
+most-there size [] n x there = cc
+most-there size (y ∷ xs) zero x there = let e : x ≡ y = cc in rw e (omega arith)
+most-there size (y ∷ xs) (suc n) x there = omega (arith, most-there size xs n x there)

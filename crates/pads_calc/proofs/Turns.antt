@@ -1,5 +1,5 @@
 -- Turns of an array: where they end, and what one more unrolling says.
-use Rattle.std.proofs.Common.{◌≡◌, ◌≢◌, ℕ, suc, ◌+◌, ◌<◌, ◌≤◌, Bool, true, false, not, ◌&&◌, nat_eq, if◌then◌else◌, List, [], ◌∷◌, ◌++◌, length, Option, Some, None, refl, sym, ap, ◌∙◌, arith}
+use Rattle.std.proofs.Common.{◌≡◌, ◌≢◌, ℕ, suc, ◌+◌, ◌<◌, ◌≤◌, Bool, true, false, not, ◌&&◌, nat_eq, if◌then◌else◌, List, [], ◌∷◌, ◌++◌, length, Option, Some, None, refl, sym, ap, ◌∙◌, arith, length-append}
 use Rattle.std.proofs.lemmas.Bool.{eqb-false}
 use Rattle.std.proofs.lemmas.Grind.{common_steps}
 use Rattle.pads_value.specs.declared.cause.Cause.TheVariants as cause
@@ -68,3 +68,10 @@ module _ (s : SeqReader) (is_first : Bool) (env : Pairs) (j : ℕ) where
   pub turn-with : (begin : ℕ) → element_at s.sep is_first env j ≡ Some begin → turn_from s is_first env j ≡ turn_of is_first j begin (s.elem env begin)
   unfolding turn_from
   turn-with begin there = rw there refl
+
+-- one element more, and one byte more from the second on
+pub turns-room : (bytes : List ℕ) (i : ℕ) (before : List Val) (j : ℕ) (r : Reading) → i ≤ j → length before + i ≤ j + 1 → TurnsWithin bytes (is_empty before) j (turn.Kept r) →
+    length (before ++ r.value ∷ []) + i ≤ r.place + 1
+turns-room bytes i [] j r from room within = omega (arith, from, within.0.0)
+turns-room bytes i (value ∷ before) j r from room within =
+    omega (arith, room, within.1 refl, length-append (value ∷ before) (r.value ∷ []))

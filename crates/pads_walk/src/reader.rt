@@ -164,10 +164,12 @@ impl Reader<'_> {
         if is_full(size, run.values.len()) {
             return Ok(Ending::Ends(None));
         }
-        if run.is_last(self.alloc, seq.last.as_ref(), seq.elts, env)? {
+        let is_last = run.is_last(self.alloc, seq.last.as_ref(), seq.elts, env)?;
+        if is_last {
             return Ok(Ending::Ends(None));
         }
-        if self.stops(seq, env, run.place, depth)? {
+        let stops = self.stops(seq, env, run.place, depth)?;
+        if stops {
             return Ok(Ending::Ends(short_of(size)));
         }
         if self.record.is_end(run.place) {
