@@ -19,6 +19,7 @@ use pads_value::{Cause, Memory};
 use std::alloc::Global;
 
 /// A record that is being read by a module's declarations.
+#[derive(Drop)]
 pub(crate) struct Reader<'a> {
     pub(crate) alloc: Global,
     pub(crate) decls: &'a [Decl],
