@@ -1,3 +1,6 @@
+ghost use Rattle.std.specs.Prelude.{◌≡◌};
+ghost use Rattle.pads_dispatch.specs.Labels.{labels_fit as labels_fit_of};
+
 use pads_code::Coding;
 use pads_int::Kind;
 use pads_value::{Bytes, Items};
@@ -20,3 +23,13 @@ pub enum Arg {
 
 /// Arguments in their order.
 pub type Args = Items<Arg>;
+
+/// Whether 16 bits number the labels of a base type, where it has labels.
+pub fn labels_fit(base: &Base) -> bool
+    ensures fit { result ≡ labels_fit_of base.now }
+{
+    match base {
+        Base::Int(_, _) => true,
+        Base::IntFw(_, _) => true,
+    }
+}

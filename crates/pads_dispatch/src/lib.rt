@@ -4,5 +4,5 @@
 mod base;
 mod read;
 
-pub use base::{Arg, Args, Base};
+pub use base::{Arg, Args, Base, labels_fit};
 pub use read::read_base;
