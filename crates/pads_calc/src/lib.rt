@@ -10,6 +10,7 @@ mod module;
 mod reading;
 mod record;
 mod run;
+mod scope;
 mod term;
 mod turn;
 
