@@ -12,4 +12,5 @@ pub mod Runs
 pub mod Scans
 pub mod ScopeRolls
 pub mod Sizes
+pub mod TermRolls
 pub mod Turns
