@@ -1,5 +1,5 @@
 -- Which names a scope binds.
-use Rattle.std.proofs.Common.{◌≡◌, ◌∙◌, sym, ap, refl, ℕ, List, [], ◌∷◌, Bor, Option, None, Some, Bool, true, false, ◌||◌, nat_eq, take, length, ◌<◌, get_or}
+use Rattle.std.proofs.Common.{◌≡◌, ◌∙◌, sym, ap, refl, ℕ, List, [], ◌∷◌, Bor, Option, None, Some, Bool, true, false, ◌||◌, nat_eq, zero, suc, ◌+◌, take, length, ◌<◌, get_or, arith, add-one}
 use Rattle.std.specs.List.{list_any}
 use Rattle.pads_calc.specs.declared.term.Part.{Part}
 use Rattle.pads_calc.specs.declared.scope.Scope.{Scope, Scope-F, fold-Scope, fold-roll-Scope}
@@ -34,3 +34,13 @@ pub scope-Bind : (name : ℕ) (outer : Bor Scope) → bound_names (scope.Bind na
 scope-Bind name outer = ap bound_names (sym (scope.rolls-Bind name outer)) ∙ fold-roll-Scope (List ℕ) bound_step (Scope-F.Bind name outer)
 
 pub ruleset bound_rules = (scope-Bind)
+
+pub names-more' : (parts : List Part) (n : ℕ) (part : Part) (scope : List ℕ) → n < length parts → part ≡ get_or parts n part →
+    parts_names (take (suc n) parts) scope ≡ bind_name part.name (parts_names (take n parts) scope)
+names-more' [] n part scope more here = absurd (omega arith)
+names-more' (first ∷ parts) zero part scope more here = ap (λ (p : Part). bind_name p.name scope) (sym here)
+names-more' (first ∷ parts) (suc n) part scope more here = names-more' parts n part (bind_name first.name scope) (omega arith) here
+
+pub names-more : (parts : List Part) (n : ℕ) (part : Part) (scope : List ℕ) → n < length parts → part ≡ get_or parts n part →
+    parts_names (take (n + 1) parts) scope ≡ bind_name part.name (parts_names (take n parts) scope)
+names-more parts n part scope more here = rw (add-one) (names-more' parts n part scope more here)

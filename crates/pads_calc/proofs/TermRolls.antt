@@ -1,5 +1,5 @@
 -- What the scope of a term says of the terms in it.
-use Rattle.std.proofs.Common.{◌≡◌, ◌∙◌, sym, ap, refl, ℕ, List, [], ◌∷◌, map, length, slice_get, nat_lt, Bool, true, false, ◌&&◌, Option, None, Some}
+use Rattle.std.proofs.Common.{◌≡◌, ◌∙◌, sym, ap, refl, ℕ, List, [], ◌∷◌, map, length, drop, get_or, slice_get, ◌+◌, ◌<◌, ◌≤◌, nat_lt, Bool, true, false, ◌&&◌, Option, None, Some}
 use Rattle.std.specs.List.{list_all}
 use Rattle.std.proofs.lemmas.List.Folds.{list_all-map}
 use Rattle.pads_expr.specs.declared.expr.Expr.{Expr}
@@ -12,7 +12,8 @@ use Rattle.pads_calc.specs.declared.term.Seq.{Seq, fold-Seq, fold_out-Seq}
 use Rattle.pads_calc.specs.declared.term.Term.{Term, Term-F, fold-Term, fold-roll-Term, roll-Term, map-Term}
 use Rattle.pads_calc.specs.declared.term.Term.TheShapes.{former-Seq-sep}
 use Rattle.pads_calc.specs.declared.term.Term.TheVariants as term
-use Rattle.pads_calc.specs.Scopes.{InScope, Binding, in_scope, term_scope, arm_scope, case_scope, part_scope, seq_scope, arm_in, case_in, binding_of, option_term_in, seq_in, if_any, all_in, parts_in, name_there, exprs_in_scope, expr_in_scope, option_in_scope, has_arity}
+use Rattle.pads_calc.specs.Scopes.{InScope, Binding, in_scope, bind_name, term_scope, arm_scope, case_scope, part_scope, seq_scope, arm_in, case_in, binding_of, option_term_in, seq_in, if_any, all_in, parts_in, name_there, exprs_in_scope, expr_in_scope, option_in_scope, has_arity}
+use Rattle.pads_calc.proofs.Lists.{drop-next, drop-past'}
 use Rattle.pads_calc.proofs.Rolls.{mapped}
 
 module _ (names : ℕ) (arities : List ℕ) where
@@ -125,3 +126,15 @@ module _ (names : ℕ) (arities : List ℕ) where
 pub ruleset term_rules = (
   in-Unit, in-Base, in-Lit, in-Eor, in-Struct, in-Alt, in-Switch, in-Guard, in-Seq, in-Call, in-Compute, in-Absorb, in-Scan,
 )
+
+-- the next part of a struct
+pub parts_in-next : (names : ℕ) (arities : List ℕ) (parts : List Part) (n : ℕ) (part : Part) (scope : List ℕ) → n < length parts → part ≡ get_or parts n part →
+    parts_in (map (binding_of names arities) (drop n parts)) scope
+    ≡ (in_scope names arities part.term scope && parts_in (map (binding_of names arities) (drop (n + 1) parts)) (bind_name part.name scope))
+parts_in-next names arities parts n part scope more here =
+    ap (λ rest. parts_in (map (binding_of names arities) rest) scope)
+    (drop-next parts n part more ∙ ap (λ first. first ∷ drop (n + 1) parts) (sym here))
+
+pub parts_in-past : (names : ℕ) (arities : List ℕ) (parts : List Part) (n : ℕ) (scope : List ℕ) → length parts ≤ n →
+    parts_in (map (binding_of names arities) (drop n parts)) scope ≡ true
+parts_in-past names arities parts n scope over = ap (λ rest. parts_in (map (binding_of names arities) rest) scope) (drop-past' parts n over)

@@ -2,6 +2,7 @@
 #![tactic(auto)]
 
 mod args;
+mod checking;
 mod choice;
 mod counts;
 mod decl;
