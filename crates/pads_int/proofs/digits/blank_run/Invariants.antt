@@ -1,5 +1,4 @@
 use Rattle.std.proofs.Common.{nat_eq}
-use Rattle.std.specs.Char.{is_ascii_digit}
 use Rattle.pads_code.specs.CodePage.{point}
 use Rattle.pads_int.specs.Readings.{blank}
 use Rattle.pads_int.proofs.RunLemmas.{PassBelow}
