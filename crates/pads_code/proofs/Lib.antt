@@ -1,1 +1,2 @@
 pub mod CodePageLemmas
+pub mod TextLemmas

@@ -1,13 +1,13 @@
 -- What the text of an integer reads as, in the terms of the PADS manual's integer base types: an
 -- optional sign, `+` or for signed kinds `-`, and decimal digits. The forms are this project's formats'.
-use Rattle.std.specs.Prelude.{ℕ, ℤ, pos, negsuc, neg_ℤ, Bool, false, ◌&&◌, ◌||◌, not, ◌==◌, nat_lt, if◌then◌else◌, List, [], ◌∷◌, map, take, drop, length, fold, ◌+◌, ◌-◌, ◌*◌}
+use Rattle.std.specs.Prelude.{ℕ, ℤ, pos, negsuc, neg_ℤ, Bool, false, ◌&&◌, ◌||◌, not, ◌==◌, nat_lt, if◌then◌else◌, List, [], ◌∷◌, take, drop, length, fold, ◌+◌, ◌-◌, ◌*◌}
 use Rattle.std.specs.Char.{is_ascii_digit}
 use Rattle.std.specs.List.{prefix_len, take_while, list_all}
 use Rattle.pads_value.specs.declared.reading.Read.{Read}
 use Rattle.pads_value.specs.declared.reading.Read.TheVariants.{Good, Soft, Hard}
 use Rattle.pads_value.specs.declared.cause.Cause.TheVariants as cause
 use Rattle.pads_code.specs.declared.Coding.{Coding}
-use Rattle.pads_code.specs.CodePage.{point}
+use Rattle.pads_code.specs.CodePage.{points_of}
 use Rattle.pads_int.specs.declared.kind.Kind.{Kind}
 use Rattle.pads_int.specs.Kinds.{is_signed, in_range}
 
@@ -20,10 +20,6 @@ minus = 45
 
 abbrev pub blank : ℕ
 blank = 32
-
--- the code points that bytes stand for
-abbrev pub points_of : Coding → List ℕ → List ℕ
-points_of coding bytes = map (point coding) bytes
 
 -- how many code points the sign in front takes: one or none
 abbrev pub sign_size : Kind → List ℕ → ℕ
