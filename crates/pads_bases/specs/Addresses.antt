@@ -3,12 +3,12 @@
 use Rattle.std.specs.Prelude.{◌≡◌, ℕ, zero, suc, ℤ, pos, negsuc, ◌+◌, ◌-◌, ◌*◌, ◌/◌, ◌%◌, ◌^◌, ◌≤◌, Bool, true, ◌&&◌, ◌==◌, nat_le, nat_lt, if◌then◌else◌, List, [], ◌∷◌, ◌++◌, drop, length, Option, Some, None, option_map, option_and_then}
 use Rattle.std.specs.Char.{is_ascii_digit}
 use Rattle.std.specs.List.{take_while, list_all}
-use Rattle.std.specs.Str.Parse.{digits_value}
 use Rattle.std.specs.Fmt.{decimal}
 use Rattle.pads_value.specs.declared.reading.Read.{Read}
 use Rattle.pads_value.specs.declared.reading.Read.TheVariants.{Good, Soft, Hard}
 use Rattle.pads_value.specs.declared.cause.Cause.TheVariants as cause
 use Rattle.pads_code.specs.declared.Coding.{Coding}
+use Rattle.pads_code.specs.Numerals.{is_numeral, number}
 use Rattle.pads_code.specs.CodePage.{points_of, bytes_of}
 
 -- the code point `.`
@@ -17,8 +17,7 @@ dot = 46
 
 -- 1 to 3 digits, and at most 255
 abbrev pub is_octet : List ℕ → Bool
-is_octet digits =
-    list_all is_ascii_digit digits && (nat_le 1 (length digits) && (nat_le (length digits) 3 && nat_le (digits_value 10 digits) 255))
+is_octet digits = is_numeral digits && (nat_le (length digits) 3 && nat_le (number digits) 255)
 
 -- a number that was read, and what stands behind it
 pub record Numbered : Type 0 where
@@ -29,7 +28,7 @@ pub record Numbered : Type 0 where
 unfoldable pub octet : List ℕ → Option Numbered
 octet points =
     let digits = take_while is_ascii_digit points in
-    if is_octet digits then Some (record { number = digits_value 10 digits; rest = drop (length digits) points }) else None
+    if is_octet digits then Some (record { number = number digits; rest = drop (length digits) points }) else None
 
 -- what stands behind a `.`
 abbrev pub behind_dot : List ℕ → Option (List ℕ)
@@ -73,7 +72,7 @@ pub record IsAddress (n : ℕ) (points : List ℕ) : Type 0 where
   pub second : is_octet b ≡ true
   pub third : is_octet c ≡ true
   pub fourth : is_octet d ≡ true
-  pub number : n ≡ ((digits_value 10 a * 256 + digits_value 10 b) * 256 + digits_value 10 c) * 256 + digits_value 10 d
+  pub value : n ≡ ((number a * 256 + number b) * 256 + number c) * 256 + number d
 
 pub record SpellsIp (coding : Coding) (v : ℤ) (bytes : List ℕ) : Type 0 where
   pub n : ℕ

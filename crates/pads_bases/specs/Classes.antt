@@ -1,5 +1,5 @@
 -- Class texts: which code points a class such as `A-Za-z0-9` has, and the longest run of them.
-use Rattle.std.specs.Prelude.{◌≡◌, ℕ, Bool, true, ◌==◌, ◌&&◌, nat_le, if◌then◌else◌, not, List, [], ◌∷◌, ◌<◌, length, Option, Some, None}
+use Rattle.std.specs.Prelude.{◌≡◌, ℕ, Bool, true, ◌==◌, ◌&&◌, nat_le, if◌then◌else◌, not, List, [], ◌∷◌, ◌<◌, length, slice_index, Option, Some, None}
 use Rattle.std.specs.List.{take_while, list_all, list_any}
 use Rattle.pads_value.specs.declared.reading.Read.{Read}
 use Rattle.pads_value.specs.declared.reading.Read.TheVariants.{Good, Soft, Hard}
@@ -28,6 +28,10 @@ intervals (a ∷ mark ∷ b ∷ class) =
     if mark == dash then record { low = a; high = b } ∷ intervals class
     else single a ∷ intervals (mark ∷ b ∷ class)
 
+-- three code points with a dash in the middle stand in front
+abbrev pub opens_interval : List ℕ → Bool
+opens_interval class = nat_le 3 (length class) && (slice_index class 1 == dash)
+
 abbrev pub is_interval : Interval → Bool
 is_interval i = nat_le i.low i.high
 
@@ -43,7 +47,7 @@ abbrev pub has_point : List ℕ → ℕ → Bool
 has_point class p = list_any (lies_in p) (intervals class)
 
 -- whether a class has the point; none where the class is malformed or empty
-unfoldable pub class_has : List ℕ → ℕ → Option Bool
+abbrev pub class_has : List ℕ → ℕ → Option Bool
 class_has class p = if is_class class then Some (has_point class p) else None
 
 -- the longest run of code points in the class

@@ -2,8 +2,13 @@
 //! whole texts in a coding.
 #![tactic(auto)]
 
+mod address;
 mod binary;
+mod class;
 mod enums;
+mod text;
 
 pub use binary::{Order, Range};
+pub use class::{in_class, read_class};
 pub use enums::{Label, Labels};
+pub use text::{decode_text, encode_text, read_char, read_fixed, read_until};

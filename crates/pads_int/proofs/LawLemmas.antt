@@ -17,7 +17,7 @@ use Rattle.pads_int.specs.Kinds.{in_range}
 use Rattle.pads_int.specs.Readings.{blank, field_reading, int_reading, int_fw_reading}
 use Rattle.pads_int.specs.Spellings.{int_spelling, int_fw_spelling, signed_padded, is_field_width, widest}
 use Rattle.pads_int.specs.Texts.{SpellsInt, SpellsIntFw}
-use Rattle.pads_int.proofs.NumeralLemmas.{both_true}
+use Rattle.pads_code.proofs.NumeralLemmas.{both_true}
 use Rattle.pads_int.proofs.TextLemmas.{good_not_hard, read_is_text, text_is_read, field_is_read, read_is_field}
 use Rattle.pads_int.proofs.CanonicalLemmas.{plain_text, padded_text, length-padded, none_is_shorter}
 

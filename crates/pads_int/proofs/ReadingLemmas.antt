@@ -11,7 +11,8 @@ use Rattle.pads_code.specs.declared.Coding.{Coding}
 use Rattle.pads_code.specs.CodePage.{point, points_of}
 use Rattle.pads_code.proofs.TextLemmas.{length-points, points-drop}
 use Rattle.pads_int.specs.declared.kind.Kind.{Kind}
-use Rattle.pads_int.specs.Readings.{sign_size, is_negative, is_numeral, number, signed_number, ranged, run_reading, int_reading, int_fw_reading, field_reading, blank}
+use Rattle.pads_code.specs.Numerals.{is_numeral, number}
+use Rattle.pads_int.specs.Readings.{sign_size, is_negative, signed_number, ranged, run_reading, int_reading, int_fw_reading, field_reading, blank}
 use Rattle.pads_int.proofs.RangeLemmas.{ranged-min}
 
 pub numeral_some : (coding : Coding) (bytes : List ℕ) → nat_eq (length bytes) 0 ≡ false → list_all (λ b. is_ascii_digit (point coding b)) bytes ≡ is_numeral (points_of coding bytes)

@@ -1,5 +1,5 @@
 use Rattle.std.proofs.Common.{◌≡◌, ◌^◌, min, take}
-use Rattle.pads_int.specs.Readings.{number}
+use Rattle.pads_code.specs.Numerals.{number}
 use Rattle.pads_code.specs.CodePage.{points_of}
 use Rattle.pads_int.proofs.digits.magnitude.Given as goal
 
