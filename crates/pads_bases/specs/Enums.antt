@@ -1,28 +1,34 @@
 -- Enums: the label whose spelling is the longest that begins the text; of equal spellings the first label.
-use Rattle.std.specs.Prelude.{◌≡◌, ℕ, suc, ◌<◌, Bool, nat_lt, nat_eq, if◌then◌else◌, List, [], ◌∷◌, length, Option, Some, None, slice_get, option_map}
-use Rattle.std.specs.List.{starts_with}
+use Rattle.std.specs.Prelude.{◌≡◌, ℕ, suc, ◌<◌, Bool, true, false, ◌==◌, ◌&&◌, nat_lt, if◌then◌else◌, List, [], ◌∷◌, length, Option, Some, None, slice_get, option_map}
 use Rattle.pads_value.specs.declared.reading.Read.{Read}
 use Rattle.pads_value.specs.declared.reading.Read.TheVariants.{Good, Soft, Hard}
 use Rattle.pads_value.specs.declared.cause.Cause.TheVariants as cause
 use Rattle.pads_code.specs.declared.Coding.{Coding}
 use Rattle.pads_code.specs.CodePage.{points_of, bytes_of}
 use Rattle.pads_bases.specs.declared.enums.Label.{Label}
+use Rattle.pads_bases.specs.declared.enums.Choice.{Choice}
 
--- a label by its number, and the size of its spelling
-pub record Choice : Type 0 where
-  pub number : ℕ
-  pub size : ℕ
+-- the text begins with the spelling
+abbrev pub begins : List ℕ → List ℕ → Bool
+begins [] points = true
+begins (s ∷ spelling) [] = false
+begins (s ∷ spelling) (p ∷ points) = p == s && begins spelling points
 
 -- the longer of two spellings, and of two equally long ones the earlier
 abbrev pub longer : Choice → Option Choice → Option Choice
 longer this None = Some this
 longer this (Some later) = if nat_lt this.size later.size then Some later else Some this
 
+-- an earlier choice, if there is one, with a later
+abbrev pub merged : Option Choice → Option Choice → Option Choice
+merged None later = later
+merged (Some this) later = longer this later
+
 -- the choice among labels whose first has this number
 abbrev pub choice : ℕ → List Label → List ℕ → Option Choice
 choice number [] points = None
 choice number (label ∷ labels) points =
-    if starts_with nat_eq points label.spelling
+    if begins label.spelling points
     then longer (record { number = number; size = length label.spelling }) (choice (suc number) labels points)
     else choice (suc number) labels points
 

@@ -3,3 +3,4 @@ pub mod Classes
 pub mod Addresses
 pub mod Enums
 pub mod Binaries
+pub mod Seen
