@@ -3,3 +3,4 @@ pub mod ClassLemmas
 pub mod AddressLemmas
 pub mod ChoiceLemmas
 pub mod BinaryLemmas
+pub mod DottedLemmas
