@@ -4,3 +4,5 @@ pub mod AddressLemmas
 pub mod ChoiceLemmas
 pub mod BinaryLemmas
 pub mod DottedLemmas
+pub mod StringLaws
+pub mod FieldLaws
