@@ -1,5 +1,5 @@
 -- How far a write of several calls has come.
-use Rattle.std.proofs.Common.{◌≡◌, ℕ, ◌+◌, ◌-◌, ◌≤◌, List, [], ◌++◌, Option, length, take, drop, refl, sym, ap, subst, ◌∙◌, append-nil, length-drop, arith}
+use Rattle.std.proofs.Common.{◌≡◌, ℕ, ◌+◌, ◌-◌, ◌≤◌, List, Option, length, take, drop, refl, ap, subst, ◌∙◌, length-drop, arith}
 use Rattle.std.proofs.Math.Seq.{take-add}
 use Rattle.std.proofs.lemmas.List.{drop-drop, take_all, take_rest}
 use Rattle.std.specs.Io.KnownBytes.{Appends, Keeps}
@@ -23,7 +23,7 @@ Partly-more old mid new all rest k p q =
     record {
       count = p.count + k;
       taken = rw take-add (Appends-trans old mid new _ _ p.taken step);
-      left = take_rest rest k ∙ ap (drop k) p.left ∙ drop-drop k p.count all
+      left = take_rest rest k ∙ ap (drop k) p.left ∙ drop-drop k p.count all;
     }
 
 pub Partly-kept : (old mid new : Option (List ℕ)) (all rest : List ℕ) → Partly old mid all rest → Keeps mid new → Partly old new all rest
