@@ -1,5 +1,6 @@
 ghost use Rattle.std.specs.Prelude.{◌≡◌, None};
 ghost use Rattle.std.specs.Io.{ReadsAtMost, WritesAtMost};
+ghost use Rattle.std.specs.Io.KnownBytes.{ReadConsumes, WriteAppends};
 ghost use Rattle.pads_io.specs.Faults.{HasCause};
 ghost use Rattle.pads_io.specs.Transfer.{TakesSome};
 
@@ -10,7 +11,8 @@ use std::fs;
 use std::io::{self, ErrorKind, Read, Seek, SeekFrom, Write};
 use std::rt::Files as FileSystem;
 
-/// A reader of the outside world, as standard input, as a source. Nothing is known of its bytes.
+/// A reader, as standard input, as a source. What is left to read is known where the reader tells
+/// it, which those of the outside world never do.
 #[derive(Drop)]
 pub struct RealSource<R> {
     reader: R,
@@ -26,7 +28,7 @@ impl<R: Read + Drop> RealSource<R> {
 }
 
 impl<R: Read + Drop> Source for RealSource<R> {
-    ghost left = { λ _. None };
+    ghost left = { λ s. R.remaining s.reader };
 
     ghost faults = { λ s. s.faults };
 
@@ -39,7 +41,8 @@ impl<R: Read + Drop> Source for RealSource<R> {
     }
 }
 
-/// A writer of the outside world, as standard output, as a sink. Nothing is known of its bytes.
+/// A writer, as standard output, as a sink. What was written is known where the writer tells it,
+/// which those of the outside world never do.
 #[derive(Drop)]
 pub struct RealSink<W> {
     writer: W,
@@ -55,7 +58,7 @@ impl<W: Write + Drop> RealSink<W> {
 }
 
 impl<W: Write + Drop> Sink for RealSink<W> {
-    ghost written = { λ _. None };
+    ghost written = { λ s. W.contents s.writer };
 
     ghost faults = { λ s. s.faults };
 
@@ -68,7 +71,8 @@ impl<W: Write + Drop> Sink for RealSink<W> {
     }
 }
 
-/// The files of a file system. Nothing is known of their bytes.
+/// The files of a file system. Nothing is known of their bytes, and a name that isn't there is a
+/// failure.
 ///
 /// The file that was read last stays open, so that a file is opened once where it is read from its
 /// start on, and a pipe can be read by its name.
@@ -164,6 +168,7 @@ fn open_file<R: FileSystem>(system: &R, name: &str, at: u64) -> io::Result<R::Fi
 /// Reads once, and again after a signal.
 fn read_some<R: Read>(reader: &mut R, into: &mut [u8]) -> io::Result<usize>
     ensures within { ReadsAtMost result into.new }
+    ensures bytes { ReadConsumes (R.remaining reader.old) (R.remaining reader.new) result into.new }
 {
     for _ in 0..u64::MAX {
         match reader.read(into) {
@@ -178,6 +183,7 @@ fn read_some<R: Read>(reader: &mut R, into: &mut [u8]) -> io::Result<usize>
 fn write_some<W: Write>(writer: &mut W, piece: &[u8]) -> io::Result<usize>
     ensures within { WritesAtMost result piece.now }
     ensures takes { TakesSome result piece.now }
+    ensures bytes { WriteAppends (W.contents writer.old) (W.contents writer.new) result piece.now }
 {
     for _ in 0..u64::MAX {
         match writer.write(piece) {
