@@ -1,0 +1,6 @@
+pub mod CuttingLemmas
+pub mod Examples
+pub mod ExtentLemmas
+pub mod Owing
+pub mod Runs
+pub mod TextLemmas

@@ -1,0 +1,4 @@
+pub mod Placed
+pub mod Extents
+pub mod Cutting
+pub mod State

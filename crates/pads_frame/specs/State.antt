@@ -1,0 +1,66 @@
+-- What a framer still owes: the state in which it stands between two calls, the text that this state
+-- stands for, and the frames of that text.
+use Rattle.std.specs.Prelude.{◌≡◌, ℕ, ◌+◌, ◌<◌, ◌≤◌, Bool, true, false, ◌==◌, nat_lt, List, [], ◌∷◌, ◌++◌, length, take, drop, replicate, if◌then◌else◌}
+use Rattle.pads_frame.specs.declared.discipline.Discipline.{Discipline}
+use Rattle.pads_frame.specs.declared.discipline.Discipline.TheVariants.{Term, Fixed, Rdw, Whole}
+use Rattle.pads_value.specs.Cuts.{Cut}
+use Rattle.pads_frame.specs.Extents.{extent, has_word, word_length}
+use Rattle.pads_frame.specs.Cutting.{cuts}
+
+-- The frame in work begins at offset `first`. Of the bytes from there on so many were passed over, since
+-- their frame carries no bytes, and the others are held.
+pub record State : Type 0 where
+  pub discipline : Discipline
+  pub max : ℕ
+  pub first : ℕ
+  pub passed : ℕ
+  pub held : List ℕ
+  pub ended : Bool
+
+-- how many bytes a framer may hold
+abbrev pub room : State → ℕ
+room s = s.max + 4100
+
+-- the offset of the next byte that comes
+abbrev pub reach : State → ℕ
+reach s = s.first + s.passed + length s.held
+
+-- what stands for a byte that was passed over: 00, or 01 where that is the terminator
+abbrev pub filler : Discipline → ℕ
+filler (Term terminator) = if terminator == 0 then 1 else 0
+filler (Fixed block) = 0
+filler Rdw = 0
+filler Whole = 0
+
+-- The held bytes with a filler for each byte that was passed over: behind the descriptor word, which is
+-- kept, and otherwise before all held bytes.
+abbrev pub text : Discipline → ℕ → List ℕ → List ℕ
+text Rdw passed held = take 4 held ++ (replicate passed 0 ++ drop 4 held)
+text (Term terminator) passed held = replicate passed (filler (Term terminator)) ++ held
+text (Fixed block) passed held = replicate passed 0 ++ held
+text Whole passed held = replicate passed 0 ++ held
+
+abbrev pub text_of : State → List ℕ
+text_of s = text s.discipline s.passed s.held
+
+-- Bytes are passed over only where the frame in work is already long or broken: more than `max` bytes
+-- without a terminator; or, where the descriptor word is kept, a bad word, or one that announces more
+-- than `max` bytes, some of which haven't come. A block is never too long.
+abbrev pub MayPass : Discipline → ℕ → ℕ → List ℕ → Type 0
+MayPass (Term terminator) max passed held = 0 < passed → max < passed
+MayPass (Fixed block) max passed held = passed ≡ 0
+MayPass Rdw max passed held =
+    0 < passed → (4 ≤ length held) × (has_word held ≡ true → (max + 4 < word_length held) × (passed + 4 ≤ word_length held))
+MayPass Whole max passed held = 0 < passed → max < passed
+
+-- A frame closes: bytes close it, or the input has ended and left any.
+abbrev pub closes : State → Bool
+closes s = if s.ended then nat_lt 0 (length (text_of s)) else (extent s.discipline s.max (text_of s)).closed
+
+-- the frames that are still owed, where these bytes come and then the input ends, or goes on
+abbrev pub rest : Bool → State → List ℕ → List Cut
+rest ended s more = cuts s.discipline s.max ended s.first 0 (text_of s ++ more)
+
+-- Any bytes may come, and behind the end none.
+abbrev pub MayCome : State → Bool → List ℕ → Type 0
+MayCome s ended more = s.ended ≡ true → (ended ≡ true) × (more ≡ [])

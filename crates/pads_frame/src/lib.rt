@@ -1,0 +1,7 @@
+//! Framing: where the records of an input lie, by one of four disciplines, whatever pieces the
+//! input comes in.
+#![tactic(auto)]
+
+mod discipline;
+
+pub use discipline::Discipline;
