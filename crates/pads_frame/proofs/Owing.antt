@@ -12,6 +12,7 @@ use Rattle.pads_value.specs.Marks.{bytes_of}
 use Rattle.pads_frame.specs.Placed.{cut_at, size_of}
 use Rattle.pads_frame.specs.Extents.{run, mark_of, word_length, has_word, has_record, extent, HasBlock}
 use Rattle.pads_frame.specs.Cutting.{cuts}
+use Rattle.pads_frame.specs.Looks.{IsLost}
 use Rattle.pads_frame.specs.State.{State, text, text_of, closes, rest, MayCome, MayPass}
 use Rattle.pads_frame.proofs.CuttingLemmas.{cuts_step, cuts_open}
 use Rattle.pads_frame.proofs.ExtentLemmas.{extent_within, extent_takes, extent_grows, closed_nonempty, rdw_closed, rdw_record, rdw_broken, record_parts, word_parts, no_record, same_word}
@@ -106,13 +107,6 @@ owed_by s false ended more is b m c may =
 pub frame_owed : (s : State) → HasBlock s.discipline → MayPass s.discipline s.max s.passed s.held → closes s ≡ true → (ended : Bool) (more : List ℕ) → MayCome s ended more
     → rest ended s more ≡ cut_at s.first (text_of s) (extent s.discipline s.max (text_of s)) ∷ rest ended (after s (extent s.discipline s.max (text_of s))) more
 frame_owed s b m c ended more may = owed_by s s.ended ended more refl b m c may
-
--- A frame with these bytes at its front carries none.
-abbrev pub IsLost : Discipline → ℕ → List ℕ → Type 0
-IsLost (Term t) max xs = (run t xs ≡ length xs) × (max < length xs)
-IsLost (Fixed n) max xs = ⊥
-IsLost Rdw max xs = (4 ≤ length xs) × (has_word xs ≡ true → (max + 4 < word_length xs) × (length xs < word_length xs))
-IsLost Whole max xs = max < length xs
 
 long_mark : (max n : ℕ) → max < n → mark_of max n ≡ Long
 long_mark max n h = rw (lt-leb n max h) refl

@@ -18,10 +18,7 @@ filler_other t =
     ]
 
 pub length_text : (d : Discipline) (p : ℕ) (held : List ℕ) → length (text d p held) ≡ p + length held
-length_text (Term t) p held = rw (length-append, length-replicate) refl
-length_text (Fixed n) p held = rw (length-append, length-replicate) refl
-length_text Rdw p held = simp (length-append, length-replicate, length-take, length-drop) (omega arith)
-length_text Whole p held = rw (length-append, length-replicate) refl
+length_text d p held = simp (length-append, length-replicate, length-take, length-drop) (omega arith)
 
 pub text_none : (d : Discipline) (held : List ℕ) → text d 0 held ≡ held
 text_none (Term t) held = refl

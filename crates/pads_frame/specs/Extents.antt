@@ -29,6 +29,10 @@ has_word bytes = nat_le 4 (length bytes) && nat_le 4 (word_length bytes) && (sli
 abbrev pub has_record : List ℕ → Bool
 has_record bytes = has_word bytes && nat_le (word_length bytes) (length bytes)
 
+-- a frame that only the end of the input closes, and that is broken then
+abbrev pub broken_extent : ℕ → Extent
+broken_extent len = record { lead = 0; len = len; terminator = 0; mark = Broken; closed = false }
+
 abbrev pub extent : Discipline → ℕ → List ℕ → Extent
 -- The bytes before the terminator. Where there is none the end of the input closes the frame.
 extent (Term terminator) max bytes =
@@ -44,7 +48,7 @@ extent (Fixed block) max bytes =
 extent Rdw max bytes =
     if has_record bytes
     then record { lead = 4; len = word_length bytes - 4; terminator = 0; mark = mark_of max (word_length bytes - 4); closed = true }
-    else record { lead = 0; len = length bytes; terminator = 0; mark = Broken; closed = false }
+    else broken_extent (length bytes)
 -- All bytes. The end of the input closes the frame.
 extent Whole max bytes = record { lead = 0; len = length bytes; terminator = 0; mark = mark_of max (length bytes); closed = false }
 

@@ -32,13 +32,18 @@ filler (Fixed block) = 0
 filler Rdw = 0
 filler Whole = 0
 
--- The held bytes with a filler for each byte that was passed over: behind the descriptor word, which is
--- kept, and otherwise before all held bytes.
+-- how many of the held bytes a frame in work always keeps: its descriptor word
+abbrev pub word_size : Discipline → ℕ
+word_size (Term terminator) = 0
+word_size (Fixed block) = 0
+word_size Rdw = 4
+word_size Whole = 0
+
+-- The held bytes with a filler for each byte that was passed over: behind the descriptor word, where the
+-- discipline has one, and otherwise before all held bytes.
 abbrev pub text : Discipline → ℕ → List ℕ → List ℕ
-text Rdw passed held = take 4 held ++ (replicate passed 0 ++ drop 4 held)
-text (Term terminator) passed held = replicate passed (filler (Term terminator)) ++ held
-text (Fixed block) passed held = replicate passed 0 ++ held
-text Whole passed held = replicate passed 0 ++ held
+text discipline passed held =
+    take (word_size discipline) held ++ (replicate passed (filler discipline) ++ drop (word_size discipline) held)
 
 abbrev pub text_of : State → List ℕ
 text_of s = text s.discipline s.passed s.held
@@ -53,9 +58,12 @@ MayPass Rdw max passed held =
     0 < passed → (4 ≤ length held) × (has_word held ≡ true → (max + 4 < word_length held) × (passed + 4 ≤ word_length held))
 MayPass Whole max passed held = 0 < passed → max < passed
 
--- A frame closes: bytes close it, or the input has ended and left any.
+-- A frame closes in this text: bytes close it, or the input has ended and left any.
+abbrev pub closes_in : Discipline → ℕ → List ℕ → Bool → Bool
+closes_in discipline max bytes ended = if ended then nat_lt 0 (length bytes) else (extent discipline max bytes).closed
+
 abbrev pub closes : State → Bool
-closes s = if s.ended then nat_lt 0 (length (text_of s)) else (extent s.discipline s.max (text_of s)).closed
+closes s = closes_in s.discipline s.max (text_of s) s.ended
 
 -- the frames that are still owed, where these bytes come and then the input ends, or goes on
 abbrev pub rest : Bool → State → List ℕ → List Cut

@@ -3,5 +3,6 @@
 #![tactic(auto)]
 
 mod discipline;
+mod look;
 
 pub use discipline::Discipline;
