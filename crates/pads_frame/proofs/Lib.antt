@@ -3,5 +3,7 @@ pub mod Examples
 pub mod ExtentLemmas
 pub mod Looking
 pub mod Owing
+pub mod Passing
 pub mod Runs
+pub mod Taking
 pub mod TextLemmas

@@ -32,15 +32,16 @@ term_found t max p held ended k r l =
     let n = length_text (Term t) p held in
     let e : run t (text (Term t) p held) ≡ p + k = run_text t p held ∙ ap (λ (k : ℕ). p + k) r in
     let c : ltb (p + k) (length (text (Term t) p held)) ≡ true = lt-ltb (p + k) (length (text (Term t) p held)) (omega arith) in
-    (closes_closed (Term t) max (text (Term t) p held) ended (rw (e, c) refl) (omega arith), rw (e, c) refl)
+    record { closes = closes_closed (Term t) max (text (Term t) p held) ended (rw (e, c) refl) (omega arith); lies = rw (e, c) refl }
 
 -- nothing closes the frame
 pub open_look : (d : Discipline) (max p : ℕ) (held : List ℕ) (ended : Bool) (r : Look)
     → extent d max (text d p held) ≡ record { lead = 0; len = p + length held; terminator = 0; mark = mark_of max (p + length held); closed = false }
     → (max < p + length held → IsLost d max (text d p held)) → OpenGives max (p + length held) ended r → LookGives d max p held ended r
 open_look d max p held ended (Found found) e lost g =
-    let n = length_text d p held in (closes_ended d max (text d p held) ended g.0 (omega (arith, g.1)), g.2 ∙ sym e)
-open_look d max p held ended Pass e lost g = (g.0, lost g.1)
+    let n = length_text d p held in
+    record { closes = closes_ended d max (text d p held) ended g.0 (omega (arith, g.1)); lies = g.2 ∙ sym e }
+open_look d max p held ended Pass e lost g = record { goes_on = g.0; lost = lost g.1 }
 open_look d max p held ended Wait e lost g =
     let n = length_text d p held in
     (closes_open d max (text d p held) ended (rw e refl) (λ l. g.0 (omega arith)), omega (arith, g.1))
@@ -69,7 +70,10 @@ record_found max p held ended w l =
     let t = word_text p held q.0 in
     let n = length_text Rdw p held in
     let r : has_record (text Rdw p held) ≡ true = record_from (text Rdw p held) (t.1 ∙ w) (omega (arith, t.0)) in
-    (closes_closed Rdw max (text Rdw p held) ended (rdw_closed max (text Rdw p held) ∙ r) (omega (arith, q.0)), sym (rdw_record max (text Rdw p held) r ∙ rw t.0 refl))
+    record {
+      closes = closes_closed Rdw max (text Rdw p held) ended (rdw_closed max (text Rdw p held) ∙ r) (omega (arith, q.0));
+      lies = sym (rdw_record max (text Rdw p held) r ∙ rw t.0 refl);
+    }
 
 pub record_wanted : (p : ℕ) (held : List ℕ) → has_word held ≡ true → p + length held < word_length held → has_record (text Rdw p held) ≡ false
 record_wanted p held w l =
@@ -83,7 +87,7 @@ no_word max p held m w = rw (text_word max p held m ∙ w) refl
 pub broken_found : (max p : ℕ) (held : List ℕ) → has_record (text Rdw p held) ≡ false → 0 < p + length held → LookGives Rdw max p held true (Found (broken_extent (p + length held)))
 broken_found max p held r l =
     let n = length_text Rdw p held in
-    (closes_ended Rdw max (text Rdw p held) true refl (omega arith), sym (rdw_broken max (text Rdw p held) r ∙ rw n refl))
+    record { closes = closes_ended Rdw max (text Rdw p held) true refl (omega arith); lies = sym (rdw_broken max (text Rdw p held) r ∙ rw n refl) }
 
 pub rdw_wait : (max p : ℕ) (held : List ℕ) (ended : Bool) → has_record (text Rdw p held) ≡ false → (0 < p + length held → ended ≡ false) → length held ≤ max + 4 → LookGives Rdw max p held ended Wait
 rdw_wait max p held ended r e l =
@@ -95,10 +99,10 @@ record_lost max p held w l long =
     let q = word_parts held w in
     let t = word_text p held q.0 in
     let n = length_text Rdw p held in
-    (refl, (omega (arith, q.0), λ h. (omega (arith, t.0), omega (arith, t.0))))
+    record { goes_on = refl; lost = (omega (arith, q.0), λ h. (omega (arith, t.0), omega (arith, t.0))) }
 
 pub word_lost : (max p : ℕ) (held : List ℕ) → MayPass Rdw max p held → has_word held ≡ false → 4 ≤ length held → LookGives Rdw max p held false Pass
 word_lost max p held m w l =
     let n = length_text Rdw p held in
     let t = text_word max p held m in
-    (refl, (omega arith, λ h. absurd (let f : false ≡ true = sym w ∙ sym t ∙ h in cc)))
+    record { goes_on = refl; lost = (omega arith, λ h. absurd (let f : false ≡ true = sym w ∙ sym t ∙ h in cc)) }

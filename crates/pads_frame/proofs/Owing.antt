@@ -13,7 +13,7 @@ use Rattle.pads_frame.specs.Placed.{cut_at, size_of}
 use Rattle.pads_frame.specs.Extents.{run, mark_of, word_length, has_word, has_record, extent, HasBlock}
 use Rattle.pads_frame.specs.Cutting.{cuts}
 use Rattle.pads_frame.specs.Looks.{IsLost}
-use Rattle.pads_frame.specs.State.{State, text, text_of, closes, rest, MayCome, MayPass}
+use Rattle.pads_frame.specs.State.{State, word_size, text, text_of, closes, rest, MayCome, MayPass}
 use Rattle.pads_frame.proofs.CuttingLemmas.{cuts_step, cuts_open}
 use Rattle.pads_frame.proofs.ExtentLemmas.{extent_within, extent_takes, extent_grows, closed_nonempty, rdw_closed, rdw_record, rdw_broken, record_parts, word_parts, no_record, same_word}
 use Rattle.pads_frame.proofs.Runs.{run_le, run-append_open}
@@ -108,7 +108,7 @@ pub frame_owed : (s : State) → HasBlock s.discipline → MayPass s.discipline 
     → rest ended s more ≡ cut_at s.first (text_of s) (extent s.discipline s.max (text_of s)) ∷ rest ended (after s (extent s.discipline s.max (text_of s))) more
 frame_owed s b m c ended more may = owed_by s s.ended ended more refl b m c may
 
-long_mark : (max n : ℕ) → max < n → mark_of max n ≡ Long
+pub long_mark : (max n : ℕ) → max < n → mark_of max n ≡ Long
 long_mark max n h = rw (lt-leb n max h) refl
 
 -- Which bytes stand at the front of such a frame makes no difference, but for their number and a word.
@@ -147,7 +147,7 @@ lost_word max a b more la lb n t =
         }
     ]
 
-pub lost_alike : (d : Discipline) (max : ℕ) (a b more : List ℕ) → IsLost d max a → IsLost d max b → length a ≡ length b → take 4 a ≡ take 4 b → Alike d max (a ++ more) (b ++ more) (length a)
+pub lost_alike : (d : Discipline) (max : ℕ) (a b more : List ℕ) → IsLost d max a → IsLost d max b → length a ≡ length b → take (word_size d) a ≡ take (word_size d) b → Alike d max (a ++ more) (b ++ more) (length a)
 lost_alike (Term t) max a b more la lb n e =
     let ra = run-append_open t a more la.0 in
     let rb = run-append_open t b more lb.0 in
@@ -187,7 +187,7 @@ lost_cuts d max at ended a b more blocks l n alike =
 
 -- What is lost keeps its number of bytes and its word, and nothing else.
 pub passed_owed : (d : Discipline) (max at p q : ℕ) (held kept : List ℕ) (ended : Bool) (more : List ℕ) → HasBlock d → 0 < p + length held → p + length held ≡ q + length kept
-    → IsLost d max (text d p held) → IsLost d max (text d q kept) → take 4 (text d p held) ≡ take 4 (text d q kept)
+    → IsLost d max (text d p held) → IsLost d max (text d q kept) → take (word_size d) (text d p held) ≡ take (word_size d) (text d q kept)
     → cuts d max ended at 0 (text d q kept ++ more) ≡ cuts d max ended at 0 (text d p held ++ more)
 passed_owed d max at p q held kept ended more b pos n lp lq t =
     let np = length_text d p held in

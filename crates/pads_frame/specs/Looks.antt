@@ -15,12 +15,21 @@ IsLost (Fixed block) max bytes = ⊥
 IsLost Rdw max bytes = (4 ≤ length bytes) × (has_word bytes ≡ true → (max + 4 < word_length bytes) × (length bytes < word_length bytes))
 IsLost Whole max bytes = max < length bytes
 
+-- A frame is found, which lies so in the text.
+pub record Finds (discipline : Discipline) (max passed : ℕ) (held : List ℕ) (ended : Bool) (found : Extent) : Type 0 where
+  pub closes : closes_in discipline max (text discipline passed held) ended ≡ true
+  pub lies : found ≡ extent discipline max (text discipline passed held)
+
+-- The frame in work is long or broken, and goes on.
+pub record Loses (discipline : Discipline) (max passed : ℕ) (held : List ℕ) (ended : Bool) : Type 0 where
+  pub goes_on : ended ≡ false
+  pub lost : IsLost discipline max (text discipline passed held)
+
 -- A frame is found exactly where one closes. Bytes are passed over where the frame in work is lost. And
 -- where more bytes are wanted there is room for them.
 abbrev pub LookGives : Discipline → ℕ → ℕ → List ℕ → Bool → Look → Type 0
-LookGives discipline max passed held ended (Found found) =
-    (closes_in discipline max (text discipline passed held) ended ≡ true) × (found ≡ extent discipline max (text discipline passed held))
-LookGives discipline max passed held ended Pass = (ended ≡ false) × IsLost discipline max (text discipline passed held)
+LookGives discipline max passed held ended (Found found) = Finds discipline max passed held ended found
+LookGives discipline max passed held ended Pass = Loses discipline max passed held ended
 LookGives discipline max passed held ended Wait =
     (closes_in discipline max (text discipline passed held) ended ≡ false) × (length held ≤ max + 4)
 

@@ -4,7 +4,7 @@ use Rattle.std.specs.Prelude.{◌≡◌, ℕ, ◌+◌, ◌<◌, ◌≤◌, Bool,
 use Rattle.pads_frame.specs.declared.discipline.Discipline.{Discipline}
 use Rattle.pads_frame.specs.declared.discipline.Discipline.TheVariants.{Term, Fixed, Rdw, Whole}
 use Rattle.pads_value.specs.Cuts.{Cut}
-use Rattle.pads_frame.specs.Extents.{extent, has_word, word_length}
+use Rattle.pads_frame.specs.Extents.{extent, has_word, run, word_length}
 use Rattle.pads_frame.specs.Cutting.{cuts}
 
 -- The frame in work begins at offset `first`. Of the bytes from there on so many were passed over, since
@@ -16,6 +16,20 @@ pub record State : Type 0 where
   pub passed : ℕ
   pub held : List ℕ
   pub ended : Bool
+
+-- Blocks have a byte at least, and are no longer than a frame may be.
+abbrev pub FitsLimit : Discipline → ℕ → Type 0
+FitsLimit (Term terminator) max = Unit {0}
+FitsLimit (Fixed block) max = (0 < block) × (block ≤ max)
+FitsLimit Rdw max = Unit {0}
+FitsLimit Whole max = Unit {0}
+
+-- The first `searched` bytes have no terminator.
+abbrev pub HasSearched : Discipline → ℕ → List ℕ → Type 0
+HasSearched (Term terminator) searched held = run terminator (take searched held) ≡ searched
+HasSearched (Fixed block) searched held = Unit {0}
+HasSearched Rdw searched held = Unit {0}
+HasSearched Whole searched held = Unit {0}
 
 -- how many bytes a framer may hold
 abbrev pub room : State → ℕ

@@ -2,6 +2,7 @@
 //! input comes in.
 #![tactic(auto)]
 
+mod cutter;
 mod discipline;
 mod look;
 

@@ -1,7 +1,7 @@
 ghost use Rattle.std.specs.Prelude.{◌≡◌, ◌+◌, ◌*◌, ◌<◌, ◌≤◌, ◌^◌, length, take, MatchOption, slice_index, true, false};
 ghost use Rattle.pads_frame.specs.declared.discipline.Discipline.TheVariants.{Term, Fixed, Rdw, Whole};
 ghost use Rattle.pads_frame.specs.Extents.{broken_extent, mark_of, run, word_length, has_word};
-ghost use Rattle.pads_frame.specs.State.{MayPass};
+ghost use Rattle.pads_frame.specs.State.{FitsLimit, HasSearched, MayPass};
 ghost use Rattle.pads_frame.specs.Looks.{LookGives, OpenGives};
 
 use crate::discipline::{Discipline, Extent};
@@ -214,5 +214,30 @@ fn look_rdw(max: u64, passed: u64, held: &[u8], ended: bool) -> Look
     match read_word(held) {
         Some(size) => look_record(size, max, passed, held, ended),
         None => look_wordless(max, passed, held, ended),
+    }
+}
+
+/// What `held` says of the frame in work, of whose bytes `passed` were passed over.
+pub fn look_at(
+    discipline: Discipline,
+    max: u64,
+    passed: u64,
+    held: &[u8],
+    searched: usize,
+    ended: bool,
+) -> Look
+    requires within { searched ≤ length held.now }
+    requires has_searched { HasSearched discipline searched held.now }
+    requires fits_limit { FitsLimit discipline max }
+    requires may_pass { MayPass discipline max passed held.now }
+    requires fits { passed + length held.now ≤ 2 ^ 62 }
+    requires limit { max ≤ 2 ^ 62 }
+    ensures { LookGives discipline max passed held.now ended result }
+{
+    match discipline {
+        Discipline::Term(terminator) => look_term(terminator, max, passed, held, searched, ended),
+        Discipline::Fixed(block) => look_fixed(u64::from(block), max, held, ended),
+        Discipline::Rdw => look_rdw(max, passed, held, ended),
+        Discipline::Whole => look_whole(max, passed, held, ended),
     }
 }

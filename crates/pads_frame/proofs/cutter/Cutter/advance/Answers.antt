@@ -1,0 +1,23 @@
+use Rattle.std.proofs.Common.{◌≡◌, ◌-◌, length, arith}
+use Rattle.std.proofs.lemmas.List.{length-drop}
+use Rattle.pads_frame.specs.Cutters.{held_of}
+use Rattle.pads_frame.proofs.Passing.{searched_all}
+use Rattle.pads_frame.proofs.cutter.Cutter.advance.Goals as goal
+
+pub returns-in-Wait-clause-kept : goal.returns-in-Wait-clause-kept
+returns-in-Wait-clause-kept c =
+    let old = c.args.self.now in
+    let kept = c.requires.kept in
+    let all = searched_all old.discipline old.max old.passed (held_of old) old.ended c.in-Wait.ensures.0 in
+    let n = length-drop old.start old.buffer.items in
+    let len : c.len.result - old.start ≡ length (held_of old) = omega (arith, c.len.ensures, old.buffer.ok.0) in
+    record {
+      limit = kept.limit;
+      fits_limit = kept.fits_limit;
+      within = omega (arith, kept.within, c.len.ensures);
+      has_searched = rw len all;
+      may_pass = kept.may_pass;
+      room = kept.room;
+      capacity = kept.capacity;
+      reach = kept.reach;
+    }
