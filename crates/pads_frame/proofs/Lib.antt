@@ -1,6 +1,7 @@
 pub mod CuttingLemmas
 pub mod Examples
 pub mod ExtentLemmas
+pub mod Feeding
 pub mod Looking
 pub mod Owing
 pub mod Passing

@@ -1,6 +1,7 @@
 pub mod Next
 pub mod Placed
 pub mod Extents
+pub mod Feed
 pub mod Cutters
 pub mod Cutting
 pub mod Looks

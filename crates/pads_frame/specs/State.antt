@@ -17,6 +17,10 @@ pub record State : Type 0 where
   pub held : List ℕ
   pub ended : Bool
 
+-- the state of a new framer, whose first byte will have this offset
+abbrev pub new_state : Discipline → ℕ → ℕ → State
+new_state discipline max first = record { discipline = discipline; max = max; first = first; passed = 0; held = []; ended = false }
+
 -- Blocks have a byte at least, and are no longer than a frame may be.
 abbrev pub FitsLimit : Discipline → ℕ → Type 0
 FitsLimit (Term terminator) max = Unit {0}

@@ -1,7 +1,8 @@
-ghost use Rattle.std.specs.Prelude.{◌≡◌, ◌+◌, ◌-◌, ◌≤◌, ◌^◌, ◌<◌, ◌++◌, length, drop, take, vec_len, vec_capacity, true, false};
+ghost use Rattle.std.specs.Prelude.{◌≡◌, ◌+◌, ◌-◌, ◌≤◌, ◌^◌, ◌<◌, ◌++◌, length, drop, take, vec_len, vec_capacity, IfOk, true, false};
 ghost use Rattle.pads_frame.specs.Extents.{extent};
+ghost use Rattle.pads_frame.specs.Feed.{FeedGives, holding};
 ghost use Rattle.pads_frame.specs.Looks.{Finds, Loses, LookGives};
-ghost use Rattle.pads_frame.specs.State.{closes, text_of, word_size};
+ghost use Rattle.pads_frame.specs.State.{FitsLimit, closes, new_state, reach, text_of, word_size};
 ghost use Rattle.pads_frame.specs.Next.{HandsOut, Waits};
 ghost use Rattle.pads_frame.specs.Cutters.{AdvanceGives, IsCutter, IsPlace, Takes, cut_of_place, held_of, state_of};
 ghost use Rattle.pads_value.specs.Cuts.{cut_of_frame};
@@ -9,7 +10,8 @@ ghost use Rattle.pads_value.specs.Marks.{bytes_of};
 
 use crate::discipline::{Discipline, Extent};
 use crate::look::{Look, look_at};
-use pads_value::{Frame, Mark};
+use pads_value::{Frame, Mark, Memory};
+use std::alloc::Global;
 
 /// The state of a framer. The buffer holds the bytes that came: those before `start` were taken by
 /// frames, and the first `searched` of the others were searched for a terminator.
@@ -24,6 +26,25 @@ pub struct Cutter {
     pub searched: usize,
     pub ended: bool,
 }
+
+/// What was taken of a piece.
+#[derive(Clone, Copy, Debug, PartialEq, Eq)]
+pub struct Fed {
+    /// How many of its first bytes.
+    pub took: u64,
+    /// Whether no byte more can be held until a frame is taken.
+    pub full: bool,
+}
+
+/// The input goes on past its greatest length, 2^62 bytes.
+#[derive(Clone, Copy, Debug, PartialEq, Eq)]
+pub struct TooLong;
+
+/// The offset that no byte of an input has.
+const LAST: u64 = 1 << 62;
+
+/// How many bytes are held beside those of a longest frame: a read of 4,096 and a descriptor word.
+const SPARE: usize = 4100;
 
 /// A frame whose bytes stand at a place of the buffer.
 #[derive(Clone, Copy, Debug)]
@@ -103,6 +124,88 @@ impl Cutter {
                 self.searched = self.buffer.len() - self.start;
                 None
             }
+        }
+    }
+}
+
+impl Cutter {
+    pub fn new(alloc: Global, discipline: Discipline, max: u64, first: u64) -> Result<Cutter, Memory>
+        requires limit { max ≤ 16777216 }
+        requires fits_limit { FitsLimit discipline max }
+        requires first { first ≤ 2 ^ 62 }
+        ensures state { IfOk result (λ cutter. state_of cutter ≡ new_state discipline max first) }
+        ensures kept { IfOk result IsCutter }
+    {
+        let buffer = Vec::with_capacity(alloc, max as usize + SPARE)?;
+        Ok(Cutter {
+            discipline,
+            max,
+            first,
+            passed: 0,
+            buffer,
+            start: 0,
+            searched: 0,
+            ended: false,
+        })
+    }
+
+    /// Moves the held bytes to the front where so many more don't fit behind them.
+    fn make_room(&mut self, more: usize)
+        requires kept { IsCutter self.old }
+        requires fits { length (held_of self.old) + more ≤ self.old.max + 4100 }
+        ensures same { state_of self.new ≡ state_of self.old }
+        ensures kept { IsCutter self.new }
+        ensures room { vec_len self.new.buffer + more ≤ self.new.max + 4100 }
+    {
+        if self.buffer.len() + more <= self.max as usize + SPARE {
+            return;
+        }
+        compact(&mut self.buffer, self.start);
+        self.start = 0;
+    }
+
+    /// Holds these bytes too.
+    fn hold(&mut self, bytes: &[u8])
+        requires kept { IsCutter self.old }
+        requires fits { length (held_of self.old) + length bytes.now ≤ self.old.max + 4100 }
+        requires below { reach (state_of self.old) + length bytes.now ≤ 2 ^ 62 }
+        ensures holds { state_of self.new ≡ holding (state_of self.old) bytes.now }
+        ensures kept { IsCutter self.new }
+    {
+        self.make_room(bytes.len());
+        append(&mut self.buffer, bytes);
+    }
+
+    /// Takes what it can of a piece.
+    pub fn feed(&mut self, piece: &[u8]) -> Result<Fed, TooLong>
+        requires kept { IsCutter self.old }
+        ensures gives { FeedGives (state_of self.old) piece.now (state_of self.new) result }
+        ensures kept { IsCutter self.new }
+    {
+        let held = self.buffer.len() - self.start;
+        let reach = self.first + self.passed + held as u64;
+        if reach == LAST && !piece.is_empty() {
+            return Err(TooLong);
+        }
+        let free = self.max as usize + SPARE - held;
+        let took = piece.len().min(free).min((LAST - reach) as usize);
+        self.hold(&piece[..took]);
+        Ok(Fed {
+            took: took as u64,
+            full: took == free,
+        })
+    }
+
+    /// The frame at a place of the buffer.
+    pub fn frame(&self, place: Place) -> Frame<'_>
+        requires { IsPlace place self.now.buffer.items }
+        ensures { cut_of_frame result ≡ cut_of_place place self.now.buffer.items }
+    {
+        Frame {
+            first: place.first,
+            end: place.end,
+            bytes: &self.buffer[place.from..place.to],
+            mark: place.mark,
         }
     }
 }
