@@ -4,5 +4,6 @@ pub mod Extents
 pub mod Feed
 pub mod Cutters
 pub mod Cutting
+pub mod Lending
 pub mod Looks
 pub mod State

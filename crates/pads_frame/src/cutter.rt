@@ -196,6 +196,14 @@ impl Cutter {
         })
     }
 
+    pub fn finish(&mut self)
+        requires kept { IsCutter self.old }
+        ensures state { state_of self.new ≡ record (state_of self.old) { ended = true } }
+        ensures kept { IsCutter self.new }
+    {
+        self.ended = true;
+    }
+
     /// The frame at a place of the buffer.
     pub fn frame(&self, place: Place) -> Frame<'_>
         requires { IsPlace place self.now.buffer.items }

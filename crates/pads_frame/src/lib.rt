@@ -4,6 +4,9 @@
 
 mod cutter;
 mod discipline;
+mod framer;
 mod look;
 
+pub use cutter::{Fed, TooLong};
 pub use discipline::Discipline;
+pub use framer::Framer;
