@@ -8,3 +8,4 @@ pub mod Passing
 pub mod Runs
 pub mod Taking
 pub mod TextLemmas
+pub mod Tiling

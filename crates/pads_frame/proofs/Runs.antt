@@ -1,6 +1,6 @@
 -- How far the run before a terminator reaches.
-use Rattle.std.proofs.Common.{◌≡◌, ℕ, zero, suc, ◌+◌, ◌<◌, ◌≤◌, Bool, true, false, cond, eqb, List, [], ◌∷◌, ◌++◌, length, get_or, replicate, sym, refl, ap, ◌∙◌, inl, inr, arith}
-use Rattle.std.proofs.lemmas.Bool.{cases_Bool, true≢false, false≢true}
+use Rattle.std.proofs.Common.{◌≡◌, ℕ, zero, suc, ◌+◌, ◌<◌, ◌≤◌, Bool, true, false, cond, eqb, List, [], ◌∷◌, ◌++◌, length, get_or, replicate, sym, refl, ap, ◌∙◌, inl, inr, arith, add-one}
+use Rattle.std.proofs.lemmas.Bool.{cases_Bool, eqb-true, eq-eqb}
 use Rattle.pads_frame.specs.Extents.{run}
 
 pub run_le : (t : ℕ) (xs : List ℕ) → run t xs ≤ length xs
@@ -53,4 +53,33 @@ run_first t (x ∷ xs) (suc n) l h e =
     elim (cases_Bool (eqb x t)) [
       inl hit ↦ absurd (h 0 (omega arith) hit)
     | inr miss ↦ rw miss (omega (arith, run_first t xs n (omega arith) (λ k m. h (suc k) (omega arith)) e))
+    ]
+
+-- at the end of a run that stops early stands the terminator, and before it none
+pub run_hit : (t : ℕ) (xs : List ℕ) → run t xs < length xs → get_or xs (run t xs) 0 ≡ t
+run_hit t [] h = absurd (omega arith)
+run_hit t (x ∷ xs) h =
+    elim (cases_Bool (eqb x t)) [
+      inl e ↦ rw e (eqb-true x t e)
+    | inr e ↦
+        let g : cond (eqb x t) 0 (run t xs + 1) < suc (length xs) = h in
+        let k : run t xs + 1 < suc (length xs) = rw e at g in
+        rw (e, add-one) (run_hit t xs (omega arith))
+    ]
+
+pub run_miss : (t : ℕ) (xs : List ℕ) (k : ℕ) → k < run t xs → get_or xs k 0 ≡ t → ⊥
+run_miss t [] k h e = omega arith
+run_miss t (x ∷ xs) zero h e =
+    let hit : eqb x t ≡ true = eq-eqb x t e in
+    let g : 0 < cond (eqb x t) 0 (run t xs + 1) = h in
+    let l : 0 < 0 = rw hit at g in omega arith
+run_miss t (x ∷ xs) (suc k) h e =
+    elim (cases_Bool (eqb x t)) [
+      inl hit ↦
+        let g : suc k < cond (eqb x t) 0 (run t xs + 1) = h in
+        let l : suc k < 0 = rw hit at g in omega arith
+    | inr miss ↦
+        let g : suc k < cond (eqb x t) 0 (run t xs + 1) = h in
+        let l : suc k < run t xs + 1 = rw miss at g in
+        run_miss t xs k (omega arith) e
     ]

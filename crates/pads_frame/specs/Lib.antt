@@ -4,6 +4,7 @@ pub mod Extents
 pub mod Feed
 pub mod Cutters
 pub mod Cutting
+pub mod Laws
 pub mod Lending
 pub mod Looks
 pub mod State
