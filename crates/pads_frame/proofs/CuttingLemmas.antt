@@ -1,11 +1,7 @@
 -- One step of the cutting.
-use Rattle.std.proofs.Common.{◌≡◌, ℕ, zero, suc, ◌+◌, ◌-◌, ◌<◌, ◌≤◌, Bool, true, false, ◌||◌, cond, List, [], ◌∷◌, ◌++◌, length, take, drop, sym, refl, ap, subst, ◌∙◌, inl, inr, arith, add-zero, add-suc, add-one}
-use Rattle.std.proofs.lemmas.Bool.{cases_Bool}
-use Rattle.std.proofs.lemmas.List.{length-append, drop_at, drop-drop}
+use Rattle.std.proofs.Common.{◌≡◌, ℕ, zero, suc, ◌+◌, ◌-◌, ◌<◌, Bool, true, false, ◌||◌, List, [], ◌∷◌, length, drop, refl, ap, ◌∙◌, arith, add-zero}
 use Rattle.pads_frame.specs.declared.discipline.Discipline.{Discipline}
-use Rattle.pads_frame.specs.declared.discipline.Extent.{Extent}
 use Rattle.pads_value.specs.Cuts.{Cut}
-use Rattle.pads_value.specs.Marks.{bytes_of}
 use Rattle.pads_frame.specs.Placed.{cut_at, size_of}
 use Rattle.pads_frame.specs.Extents.{extent}
 use Rattle.pads_frame.specs.Cutting.{cuts}

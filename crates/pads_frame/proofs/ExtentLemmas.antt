@@ -1,16 +1,13 @@
 -- What is true of the first frame's extent, and that it stays when more bytes come.
-use Rattle.std.proofs.Common.{◌≡◌, ℕ, zero, suc, ◌+◌, ◌-◌, ◌*◌, ◌<◌, ◌≤◌, min, Bool, true, false, ◌||◌, ◌&&◌, cond, eqb, leb, ltb, List, [], ◌∷◌, ◌++◌, length, get_or, take, drop, replicate, sym, refl, ap, subst, ◌∙◌, inl, inr, arith}
-use Rattle.std.proofs.lemmas.Bool.{cases_Bool, and_parts, leb-true, leb-false, ltb-true, ltb-false, le-leb, lt-leb, lt-ltb, true≢false, false≢true}
+use Rattle.std.proofs.Common.{◌≡◌, ℕ, ◌+◌, ◌-◌, ◌<◌, ◌≤◌, min, true, false, ◌&&◌, eqb, leb, ltb, List, ◌++◌, length, get_or, take, sym, refl, ap, ◌∙◌, inl, inr, arith}
+use Rattle.std.proofs.lemmas.Bool.{cases_Bool, and_parts, leb-true, ltb-true, ltb-false, le-leb, lt-leb, lt-ltb, false≢true}
 use Rattle.std.proofs.lemmas.List.{length-append, get_or-take, take-append-le}
-use Rattle.pads_value.specs.declared.frame.Mark.{Mark}
-use Rattle.pads_value.specs.declared.frame.Mark.TheVariants.{Plain, Short, Long, Broken}
+use Rattle.pads_value.specs.declared.frame.Mark.TheVariants.{Broken}
 use Rattle.pads_frame.specs.declared.discipline.Discipline.{Discipline}
 use Rattle.pads_frame.specs.declared.discipline.Discipline.TheVariants.{Term, Fixed, Rdw, Whole}
-use Rattle.pads_frame.specs.declared.discipline.Extent.{Extent}
-use Rattle.pads_value.specs.Cuts.{Cut}
-use Rattle.pads_value.specs.Marks.{bytes_of}
-use Rattle.pads_frame.specs.Placed.{cut_at, size_of}
-use Rattle.pads_frame.specs.Extents.{run, mark_of, word_length, has_word, has_record, extent, HasBlock}
+use Rattle.pads_frame.specs.Placed.{size_of}
+use Rattle.pads_frame.specs.Fits.{HasBlock}
+use Rattle.pads_frame.specs.Extents.{run, mark_of, word_length, has_word, has_record, extent}
 use Rattle.pads_frame.proofs.Runs.{run_le, run-append_closed}
 
 -- two lists with the same first four bytes have the same descriptor word
@@ -61,14 +58,14 @@ pub extent_within : (d : Discipline) (max : ℕ) (xs : List ℕ) → ((extent d 
 extent_within (Term t) max xs =
     let l = run_le t xs in
     elim (cases_Bool (ltb (run t xs) (length xs))) [
-      inl h ↦ rw h (omega arith, omega (arith, ltb-true (run t xs) (length xs) h))
-    | inr h ↦ rw h (omega arith, omega arith)
+      | inl h ↦ rw h (omega arith, omega (arith, ltb-true (run t xs) (length xs) h))
+      | inr h ↦ rw h (omega arith, omega arith)
     ]
 extent_within (Fixed n) max xs = (omega arith, omega arith)
 extent_within Rdw max xs =
     elim (cases_Bool (has_record xs)) [
-      inl h ↦ let p = record_parts xs h in let q = word_parts xs p.0 in rw (rdw_record max xs h) (omega arith, omega arith)
-    | inr h ↦ rw (rdw_broken max xs h) (omega arith, omega arith)
+      | inl h ↦ let p = record_parts xs h in let q = word_parts xs p.0 in rw (rdw_record max xs h) (omega arith, omega arith)
+      | inr h ↦ rw (rdw_broken max xs h) (omega arith, omega arith)
     ]
 extent_within Whole max xs = (omega arith, omega arith)
 
@@ -76,14 +73,14 @@ extent_within Whole max xs = (omega arith, omega arith)
 pub extent_takes : (d : Discipline) (max : ℕ) (xs : List ℕ) → HasBlock d → 0 < length xs → 0 < size_of (extent d max xs)
 extent_takes (Term t) max xs b l =
     elim (cases_Bool (ltb (run t xs) (length xs))) [
-      inl h ↦ rw h (omega arith)
-    | inr h ↦ rw h (omega (arith, run_le t xs, ltb-false (run t xs) (length xs) h))
+      | inl h ↦ rw h (omega arith)
+      | inr h ↦ rw h (omega (arith, run_le t xs, ltb-false (run t xs) (length xs) h))
     ]
 extent_takes (Fixed n) max xs b l = omega arith
 extent_takes Rdw max xs b l =
     elim (cases_Bool (has_record xs)) [
-      inl h ↦ let p = record_parts xs h in let q = word_parts xs p.0 in rw (rdw_record max xs h) (omega arith)
-    | inr h ↦ rw (rdw_broken max xs h) (omega arith)
+      | inl h ↦ let p = record_parts xs h in let q = word_parts xs p.0 in rw (rdw_record max xs h) (omega arith)
+      | inr h ↦ rw (rdw_broken max xs h) (omega arith)
     ]
 extent_takes Whole max xs b l = omega arith
 

@@ -1,16 +1,14 @@
 -- What a look finds, by discipline.
-use Rattle.std.proofs.Common.{◌≡◌, ℕ, zero, suc, ◌+◌, ◌-◌, ◌<◌, ◌≤◌, min, Bool, true, false, cond, leb, ltb, List, [], ◌∷◌, ◌++◌, length, take, drop, replicate, sym, refl, ap, ◌∙◌, ◌⊎◌, inl, inr, arith}
-use Rattle.std.proofs.lemmas.Bool.{true≢false, ltb-true, ltb-false, lt-ltb, le-ltb, le-leb, lt-leb}
-use Rattle.pads_value.specs.declared.frame.Mark.TheVariants.{Plain, Short, Long, Broken}
+use Rattle.std.proofs.Common.{◌≡◌, ℕ, zero, suc, ◌+◌, ◌-◌, ◌<◌, ◌≤◌, Bool, true, false, ltb, List, [], ◌∷◌, length, sym, refl, ap, ◌∙◌, arith}
+use Rattle.std.proofs.lemmas.Bool.{true≢false, lt-ltb, le-ltb}
 use Rattle.pads_frame.specs.declared.discipline.Discipline.{Discipline}
-use Rattle.pads_frame.specs.declared.discipline.Discipline.TheVariants.{Term, Fixed, Rdw, Whole}
-use Rattle.pads_frame.specs.declared.discipline.Extent.{Extent}
+use Rattle.pads_frame.specs.declared.discipline.Discipline.TheVariants.{Term, Rdw, Whole}
 use Rattle.pads_frame.specs.declared.look.Look.{Look}
 use Rattle.pads_frame.specs.declared.look.Look.TheVariants.{Found, Pass, Wait}
 use Rattle.pads_frame.specs.Extents.{run, mark_of, word_length, has_word, has_record, broken_extent, extent}
 use Rattle.pads_frame.specs.Looks.{IsLost, LookGives, OpenGives}
 use Rattle.pads_frame.specs.State.{text, closes_in, MayPass}
-use Rattle.pads_frame.proofs.ExtentLemmas.{rdw_record, rdw_broken, rdw_closed, record_parts, record_from, no_record, word_parts}
+use Rattle.pads_frame.proofs.ExtentLemmas.{rdw_record, rdw_broken, rdw_closed, record_from, no_record, word_parts}
 use Rattle.pads_frame.proofs.TextLemmas.{length_text, text_none, run_text, word_text}
 
 pub closes_closed : (d : Discipline) (max : ℕ) (xs : List ℕ) (ended : Bool) → (extent d max xs).closed ≡ true → 0 < length xs → closes_in d max xs ended ≡ true

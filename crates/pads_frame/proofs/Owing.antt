@@ -1,7 +1,7 @@
 -- What a framer owes before and after a frame, after bytes were passed over, and after bytes came.
-use Rattle.std.proofs.Common.{◌≡◌, ℕ, zero, suc, ◌+◌, ◌-◌, ◌<◌, ◌≤◌, Bool, true, false, ◌||◌, cond, eqb, leb, ltb, List, [], ◌∷◌, ◌++◌, length, take, drop, replicate, sym, refl, ap, ◌∙◌, inl, inr, length-drop, arith}
-use Rattle.std.proofs.lemmas.Bool.{cases_Bool, or_left, or_right, ltb-true, ltb-false, lt-leb, le-ltb, leb-false, le-leb, false≢true, true≢false}
-use Rattle.std.proofs.lemmas.List.{length-append, append-nil, append_assoc, take-append-le, drop-append-le, drop_all, take_at, length-take-le, length-replicate}
+use Rattle.std.proofs.Common.{◌≡◌, ℕ, ◌+◌, ◌-◌, ◌<◌, ◌≤◌, Bool, true, false, ◌||◌, ltb, List, ◌∷◌, ◌++◌, length, take, drop, sym, refl, ap, ◌∙◌, inl, inr, length-drop, arith}
+use Rattle.std.proofs.lemmas.Bool.{cases_Bool, or_left, or_right, ltb-true, lt-leb}
+use Rattle.std.proofs.lemmas.List.{length-append, append-nil, take-append-le, drop-append-le}
 use Rattle.pads_value.specs.declared.frame.Mark.{Mark}
 use Rattle.pads_value.specs.declared.frame.Mark.TheVariants.{Plain, Short, Long, Broken}
 use Rattle.pads_frame.specs.declared.discipline.Discipline.{Discipline}
@@ -10,14 +10,15 @@ use Rattle.pads_frame.specs.declared.discipline.Extent.{Extent}
 use Rattle.pads_value.specs.Cuts.{Cut}
 use Rattle.pads_value.specs.Marks.{bytes_of}
 use Rattle.pads_frame.specs.Placed.{cut_at, size_of}
-use Rattle.pads_frame.specs.Extents.{run, mark_of, word_length, has_word, has_record, extent, HasBlock}
+use Rattle.pads_frame.specs.Fits.{HasBlock}
+use Rattle.pads_frame.specs.Extents.{run, mark_of, word_length, has_record, extent}
 use Rattle.pads_frame.specs.Cutting.{cuts}
 use Rattle.pads_frame.specs.Looks.{IsLost}
 use Rattle.pads_frame.specs.State.{State, word_size, text, text_of, closes, rest, MayCome, MayPass}
 use Rattle.pads_frame.proofs.CuttingLemmas.{cuts_step, cuts_open}
-use Rattle.pads_frame.proofs.ExtentLemmas.{extent_within, extent_takes, extent_grows, closed_nonempty, rdw_closed, rdw_record, rdw_broken, record_parts, word_parts, no_record, same_word}
-use Rattle.pads_frame.proofs.Runs.{run_le, run-append_open}
-use Rattle.pads_frame.proofs.TextLemmas.{length_text, text_none, text_append, Covers, drop_past, drop_text, run_text, word_text}
+use Rattle.pads_frame.proofs.ExtentLemmas.{extent_within, extent_takes, extent_grows, closed_nonempty, rdw_record, rdw_broken, record_parts, word_parts, same_word}
+use Rattle.pads_frame.proofs.Runs.{run-append_open}
+use Rattle.pads_frame.proofs.TextLemmas.{length_text, text_none, Covers, drop_past, drop_text, run_text, word_text}
 
 pub bytes_of_le : (mark : Mark) (n : ℕ) → bytes_of mark n ≤ n
 bytes_of_le Plain n = omega arith
@@ -49,8 +50,8 @@ covers_rdw max p held m pos =
     let n = length_text Rdw p held in
     let l = (m pos).0 in
     elim (cases_Bool (has_record (text Rdw p held))) [
-      inl r ↦ covers_record max p held m r pos
-    | inr r ↦ rw (rdw_broken max (text Rdw p held) r) (omega arith)
+      | inl r ↦ covers_record max p held m r pos
+      | inr r ↦ rw (rdw_broken max (text Rdw p held) r) (omega arith)
     ]
 
 pub covers_all : (d : Discipline) (max p : ℕ) (held : List ℕ) → MayPass d max p held → Covers d p (size_of (extent d max (text d p held)))
@@ -83,7 +84,7 @@ frame_first d max at xs left more ended e same l s within fits behind c =
 frame_owed_text : (d : Discipline) (max at p : ℕ) (held more : List ℕ) (ended : Bool) → HasBlock d → MayPass d max p held → 0 < length (text d p held)
     → extent d max (text d p held ++ more) ≡ extent d max (text d p held) → ((extent d max (text d p held)).closed || ended) ≡ true
     → cuts d max ended at 0 (text d p held ++ more) ≡ cut_at at (text d p held) (extent d max (text d p held))
-      ∷ cuts d max ended (at + size_of (extent d max (text d p held))) 0 (text d 0 (drop (size_of (extent d max (text d p held)) - p) held) ++ more)
+    ∷ cuts d max ended (at + size_of (extent d max (text d p held))) 0 (text d 0 (drop (size_of (extent d max (text d p held)) - p) held) ++ more)
 frame_owed_text d max at p held more ended b m l same c =
     let w = extent_within d max (text d p held) in
     let t = extent_takes d max (text d p held) b l in
@@ -128,23 +129,23 @@ lost_word max a b more la lb n t =
     let wa = same_word (a ++ more) a (omega arith) la.0 ta in
     let same : has_record (a ++ more) ≡ has_record (b ++ more) = rw (w.1, w.0, l) refl in
     elim (cases_Bool (has_record (a ++ more))) [
-      inl r ↦
-        let parts = record_parts (a ++ more) r in
-        let long = la.1 (sym wa.1 ∙ parts.0) in
-        let q = word_parts (a ++ more) parts.0 in
-        let rb : has_record (b ++ more) ≡ true = sym same ∙ r in
-        record {
-          same = rw (rdw_record max (a ++ more) r, rdw_record max (b ++ more) rb, w.0) refl;
-          none = rw (rdw_record max (a ++ more) r, long_mark max (word_length (a ++ more) - 4) (omega (arith, wa.0))) refl;
-          beyond = rw (rdw_record max (a ++ more) r) (omega (arith, wa.0, long.1, q.1));
-        }
-    | inr r ↦
-        let rb : has_record (b ++ more) ≡ false = sym same ∙ r in
-        record {
-          same = rw (rdw_broken max (a ++ more) r, rdw_broken max (b ++ more) rb, l) refl;
-          none = rw (rdw_broken max (a ++ more) r) refl;
-          beyond = rw (rdw_broken max (a ++ more) r) (omega arith);
-        }
+      | inl r ↦
+          let parts = record_parts (a ++ more) r in
+          let long = la.1 (sym wa.1 ∙ parts.0) in
+          let q = word_parts (a ++ more) parts.0 in
+          let rb : has_record (b ++ more) ≡ true = sym same ∙ r in
+          record {
+            same = rw (rdw_record max (a ++ more) r, rdw_record max (b ++ more) rb, w.0) refl;
+            none = rw (rdw_record max (a ++ more) r, long_mark max (word_length (a ++ more) - 4) (omega (arith, wa.0))) refl;
+            beyond = rw (rdw_record max (a ++ more) r) (omega (arith, wa.0, long.1, q.1));
+          }
+      | inr r ↦
+          let rb : has_record (b ++ more) ≡ false = sym same ∙ r in
+          record {
+            same = rw (rdw_broken max (a ++ more) r, rdw_broken max (b ++ more) rb, l) refl;
+            none = rw (rdw_broken max (a ++ more) r) refl;
+            beyond = rw (rdw_broken max (a ++ more) r) (omega arith);
+          }
     ]
 
 pub lost_alike : (d : Discipline) (max : ℕ) (a b more : List ℕ) → IsLost d max a → IsLost d max b → length a ≡ length b → take (word_size d) a ≡ take (word_size d) b → Alike d max (a ++ more) (b ++ more) (length a)
@@ -168,10 +169,10 @@ empty_cuts : (d : Discipline) (max at : ℕ) (ended : Bool) (xs ys : List ℕ) (
     → 0 < length xs → 0 < length ys → 0 < size_of e → drop (size_of e) xs ≡ drop (size_of e) ys → cuts d max ended at 0 xs ≡ cuts d max ended at 0 ys
 empty_cuts d max at ended xs ys e ex ey none lx ly s behind =
     elim (cases_Bool (e.closed || ended)) [
-      inl c ↦
-        let g : cut_at at xs e ≡ cut_at at ys e = rw none refl in
-        cuts_step_as d max at ended xs e ex lx s c ∙ rw (g, behind) (sym (cuts_step_as d max at ended ys e ey ly s c))
-    | inr c ↦ cuts_open d max ended at xs (rw ex c) ∙ sym (cuts_open d max ended at ys (rw ey c))
+      | inl c ↦
+          let g : cut_at at xs e ≡ cut_at at ys e = rw none refl in
+          cuts_step_as d max at ended xs e ex lx s c ∙ rw (g, behind) (sym (cuts_step_as d max at ended ys e ey ly s c))
+      | inr c ↦ cuts_open d max ended at xs (rw ex c) ∙ sym (cuts_open d max ended at ys (rw ey c))
     ]
 
 lost_cuts : (d : Discipline) (max at : ℕ) (ended : Bool) (a b more : List ℕ) → HasBlock d → 0 < length a → length a ≡ length b → Alike d max (a ++ more) (b ++ more) (length a)
@@ -183,7 +184,7 @@ lost_cuts d max at ended a b more blocks l n alike =
     let da = drop_past a more (size_of (extent d max (a ++ more))) alike.beyond in
     let db = drop_past b more (size_of (extent d max (a ++ more))) (omega (arith, alike.beyond)) in
     empty_cuts d max at ended (a ++ more) (b ++ more) (extent d max (a ++ more)) refl (sym alike.same) alike.none (omega arith) (omega arith) s
-      (da ∙ rw n (sym db))
+    (da ∙ rw n (sym db))
 
 -- What is lost keeps its number of bytes and its word, and nothing else.
 pub passed_owed : (d : Discipline) (max at p q : ℕ) (held kept : List ℕ) (ended : Bool) (more : List ℕ) → HasBlock d → 0 < p + length held → p + length held ≡ q + length kept

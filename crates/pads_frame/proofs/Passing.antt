@@ -1,20 +1,21 @@
 -- What is true once bytes of a lost frame were passed over, and while more bytes are wanted.
-use Rattle.std.proofs.Common.{◌≡◌, ℕ, zero, suc, ◌+◌, ◌-◌, ◌<◌, ◌≤◌, Bool, true, false, leb, ltb, List, [], ◌∷◌, ◌++◌, length, take, drop, sym, refl, ap, subst, ◌∙◌, inl, inr, vec_len, arith}
-use Rattle.std.proofs.lemmas.Bool.{cases_Bool, ltb-false, le-ltb, true≢false, false_from_ne_true}
-use Rattle.std.proofs.lemmas.List.{length-drop, length-take-le, drop-drop, drop-take, take_at, take_all, take-take, nil_from_length}
+use Rattle.std.proofs.Common.{◌≡◌, ℕ, zero, suc, ◌+◌, ◌-◌, ◌<◌, ◌≤◌, Bool, true, false, List, [], length, take, sym, refl, ap, subst, ◌∙◌, arith}
+use Rattle.std.proofs.lemmas.Bool.{ltb-false, le-ltb, false_from_ne_true}
+use Rattle.std.proofs.lemmas.List.{length-take-le, take_at, take_all, take-take, nil_from_length}
 use Rattle.pads_frame.specs.declared.cutter.Cutter.{Cutter}
 use Rattle.pads_frame.specs.declared.discipline.Discipline.{Discipline}
 use Rattle.pads_frame.specs.declared.discipline.Discipline.TheVariants.{Term, Fixed, Rdw, Whole}
 use Rattle.pads_frame.specs.Cutters.{IsCutter, held_of, state_of}
-use Rattle.pads_frame.specs.Extents.{run, word_length, has_word, has_record, extent, HasBlock}
+use Rattle.pads_frame.specs.Extents.{run, has_record, extent}
 use Rattle.pads_frame.specs.Looks.{IsLost, Loses}
-use Rattle.pads_frame.specs.Next.{Waits, SameInput}
-use Rattle.pads_frame.specs.State.{State, FitsLimit, HasSearched, MayPass, closes, closes_in, text, text_of, word_size}
-use Rattle.pads_frame.proofs.ExtentLemmas.{no_record, rdw_closed, record_parts, same_word}
+use Rattle.pads_frame.specs.Next.{Waits}
+use Rattle.pads_frame.specs.Fits.{FitsLimit}
+use Rattle.pads_frame.specs.State.{State, HasSearched, MayPass, closes_in, text, text_of, word_size}
+use Rattle.pads_frame.proofs.ExtentLemmas.{rdw_closed, record_parts, same_word}
 use Rattle.pads_frame.proofs.Owing.{passed_owed}
 use Rattle.pads_frame.proofs.Runs.{run_le}
-use Rattle.pads_frame.proofs.Taking.{has_block, searched_none}
-use Rattle.pads_frame.proofs.TextLemmas.{length_text, text_none, run_text, word_text}
+use Rattle.pads_frame.proofs.Taking.{has_block}
+use Rattle.pads_frame.proofs.TextLemmas.{length_text, run_text, word_text}
 
 -- the first four bytes of the text are the held ones
 front_text : (p : ℕ) (held : List ℕ) → 4 ≤ length held → take 4 (text Rdw p held) ≡ take 4 held
@@ -49,7 +50,7 @@ lost_rdw max p q held l e h =
 -- What is passed over stays lost, and the word stays in front.
 pub lost_kept : (d : Discipline) (max p : ℕ) (held : List ℕ) → MayPass d max p held → IsLost d max (text d p held)
     → let q = p + (length held - word_size d) in let kept = take (word_size d) held in
-      IsLost d max (text d q kept) × (take (word_size d) (text d p held) ≡ take (word_size d) (text d q kept)) × MayPass d max q kept
+    IsLost d max (text d q kept) × (take (word_size d) (text d p held) ≡ take (word_size d) (text d q kept)) × MayPass d max q kept
 lost_kept (Term t) max p held m h =
     let n = length_text (Term t) p held in
     let r = run_text t (p + (length held - 0)) [] in
@@ -95,7 +96,7 @@ waits_over s fits m loses =
     record {
       none = rw loses.goes_on (lost_open s.discipline s.max (text_of s) h);
       owed = λ ended more. passed_owed s.discipline s.max s.first s.passed (s.passed + (length s.held - word_size s.discipline)) s.held (take (word_size s.discipline) s.held) ended more
-        (has_block s.discipline s.max fits) (omega (arith, lost_some s.discipline s.max (text_of s) h)) (omega arith) h kept.0 kept.1;
+          (has_block s.discipline s.max fits) (omega (arith, lost_some s.discipline s.max (text_of s) h)) (omega arith) h kept.0 kept.1;
       first = refl;
       free = omega (arith, word_size_le s.discipline);
       reach = omega arith;

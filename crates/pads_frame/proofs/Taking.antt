@@ -1,6 +1,6 @@
 -- What is true of a frame that was found, and of the state behind it.
-use Rattle.std.proofs.Common.{◌≡◌, ℕ, zero, suc, ◌+◌, ◌-◌, ◌<◌, ◌≤◌, ◌^◌, Bool, true, false, leb, ltb, List, [], ◌∷◌, ◌++◌, length, take, drop, sym, refl, ap, subst, ◌∙◌, ◌⊎◌, inl, inr, vec_len, arith}
-use Rattle.std.proofs.lemmas.Bool.{cases_Bool, ltb-true, lt-leb}
+use Rattle.std.proofs.Common.{◌≡◌, ℕ, zero, suc, ◌+◌, ◌-◌, ◌<◌, ◌≤◌, Bool, true, false, List, length, take, drop, sym, refl, ap, subst, ◌∙◌, inl, inr, arith}
+use Rattle.std.proofs.lemmas.Bool.{cases_Bool, ltb-true}
 use Rattle.std.proofs.lemmas.List.{length-drop, drop-drop}
 use Rattle.pads_value.specs.Cuts.{Cut}
 use Rattle.pads_value.specs.Marks.{bytes_of}
@@ -9,13 +9,15 @@ use Rattle.pads_frame.specs.declared.cutter.Place.{Place}
 use Rattle.pads_frame.specs.declared.discipline.Discipline.{Discipline}
 use Rattle.pads_frame.specs.declared.discipline.Discipline.TheVariants.{Term, Fixed, Rdw, Whole}
 use Rattle.pads_frame.specs.declared.discipline.Extent.{Extent}
-use Rattle.pads_frame.specs.Cutters.{IsCutter, IsPlace, Takes, cut_of_place, held_of, state_of}
-use Rattle.pads_frame.specs.Extents.{run, mark_of, word_length, has_word, has_record, extent, HasBlock}
+use Rattle.pads_frame.specs.Cutters.{IsCutter, Takes, cut_of_place, held_of, state_of}
+use Rattle.pads_frame.specs.Fits.{HasBlock}
+use Rattle.pads_frame.specs.Extents.{run, word_length, has_record, extent}
 use Rattle.pads_frame.specs.Looks.{Finds}
-use Rattle.pads_frame.specs.Next.{HandsOut, SameInput}
+use Rattle.pads_frame.specs.Next.{HandsOut}
 use Rattle.pads_frame.specs.Placed.{cut_at, size_of}
-use Rattle.pads_frame.specs.State.{State, FitsLimit, HasSearched, MayPass, closes, closes_in, text, text_of}
-use Rattle.pads_frame.proofs.ExtentLemmas.{extent_within, extent_takes, closed_nonempty, rdw_record, rdw_broken, record_parts, word_parts}
+use Rattle.pads_frame.specs.Fits.{FitsLimit}
+use Rattle.pads_frame.specs.State.{State, HasSearched, MayPass, closes_in, text, text_of}
+use Rattle.pads_frame.proofs.ExtentLemmas.{extent_within, extent_takes, closed_nonempty, rdw_record, rdw_broken, record_parts}
 use Rattle.pads_frame.proofs.Owing.{after, bytes_of_le, covers_all, frame_owed, long_mark}
 use Rattle.pads_frame.proofs.TextLemmas.{length_text, text_none, run_text, word_text}
 
@@ -49,11 +51,11 @@ carries_none Rdw max p held n m pos =
     let l = (m pos).0 in
     let w = word_text p held l in
     elim (cases_Bool (has_record (text Rdw p held))) [
-      inl r ↦
-        let parts = record_parts (text Rdw p held) r in
-        let k = (m pos).1 (sym w.1 ∙ parts.0) in
-        rw (rdw_record max (text Rdw p held) r) (rw (long_mark max (word_length (text Rdw p held) - 4) (omega (arith, k.0, w.0))) refl, l)
-    | inr r ↦ rw (rdw_broken max (text Rdw p held) r) (refl, omega arith)
+      | inl r ↦
+          let parts = record_parts (text Rdw p held) r in
+          let k = (m pos).1 (sym w.1 ∙ parts.0) in
+          rw (rdw_record max (text Rdw p held) r) (rw (long_mark max (word_length (text Rdw p held) - 4) (omega (arith, k.0, w.0))) refl, l)
+      | inr r ↦ rw (rdw_broken max (text Rdw p held) r) (refl, omega arith)
     ]
 carries_none Whole max p held n m pos =
     let k = m pos in
@@ -82,7 +84,7 @@ pub record FoundFacts (d : Discipline) (p : ℕ) (held : List ℕ) (e : Extent) 
 
 carried_facts : (d : Discipline) (max p : ℕ) (held : List ℕ) → MayPass d max p held
     → let e = extent d max (text d p held) in
-      (e.lead + bytes_of e.mark e.len ≤ length held) × (take (bytes_of e.mark e.len) (drop e.lead (text d p held)) ≡ take (bytes_of e.mark e.len) (drop e.lead held))
+    (e.lead + bytes_of e.mark e.len ≤ length held) × (take (bytes_of e.mark e.len) (drop e.lead (text d p held)) ≡ take (bytes_of e.mark e.len) (drop e.lead held))
 carried_facts d max zero held m =
     let w = extent_within d max (text d zero held) in
     let n = length_text d zero held in

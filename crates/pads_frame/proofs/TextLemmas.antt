@@ -1,7 +1,7 @@
 -- The text that a state stands for: its length, what more bytes add, and what a frame leaves of it.
-use Rattle.std.proofs.Common.{◌≡◌, ℕ, zero, suc, ◌+◌, ◌-◌, ◌<◌, ◌≤◌, Bool, true, false, cond, eqb, List, [], ◌∷◌, ◌++◌, length, take, drop, replicate, sym, refl, ap, ◌∙◌, inl, inr, arith}
+use Rattle.std.proofs.Common.{◌≡◌, ℕ, zero, suc, ◌+◌, ◌-◌, ◌<◌, ◌≤◌, true, false, eqb, List, ◌++◌, length, take, drop, replicate, sym, refl, ap, ◌∙◌, inl, inr, arith}
 use Rattle.std.proofs.lemmas.Bool.{cases_Bool, eqb-true, ne_eqb}
-use Rattle.std.proofs.lemmas.List.{length-append, length-replicate, length-take, length-take-le, length-drop, take-append-drop, take-append-le, drop-append-le, append_assoc, append-nil, take_at, drop_at, drop-drop, drop_all}
+use Rattle.std.proofs.lemmas.List.{length-append, length-replicate, length-take, length-take-le, length-drop, take-append-drop, take-append-le, drop-append-le, append_assoc, take_at, drop_at, drop-drop}
 use Rattle.pads_frame.specs.declared.discipline.Discipline.{Discipline}
 use Rattle.pads_frame.specs.declared.discipline.Discipline.TheVariants.{Term, Fixed, Rdw, Whole}
 use Rattle.pads_frame.specs.Extents.{run, word_length, has_word}
@@ -13,8 +13,8 @@ use Rattle.pads_frame.proofs.Runs.{run-replicate, run-append_open}
 pub filler_other : (t : ℕ) → eqb (filler (Term t)) t ≡ false
 filler_other t =
     elim (cases_Bool (eqb t 0)) [
-      inl h ↦ let e : t ≡ 0 = eqb-true t 0 h in rw (h, e) refl
-    | inr h ↦ rw h (ne_eqb 0 t (λ (e : 0 ≡ t). elim (cases_Bool (eqb 0 0)) [ inl g ↦ let k : eqb t 0 ≡ true = (rw (sym e) refl) in cc | inr g ↦ cc ]))
+      | inl h ↦ let e : t ≡ 0 = eqb-true t 0 h in rw (h, e) refl
+      | inr h ↦ rw h (ne_eqb 0 t (λ (e : 0 ≡ t). elim (cases_Bool (eqb 0 0)) [ inl g ↦ let k : eqb t 0 ≡ true = (rw (sym e) refl) in cc | inr g ↦ cc ]))
     ]
 
 pub length_text : (d : Discipline) (p : ℕ) (held : List ℕ) → length (text d p held) ≡ p + length held
@@ -34,8 +34,8 @@ text_append Rdw max zero held more m = text_none Rdw (held ++ more) ∙ ap (λ (
 text_append Rdw max (suc p) held more m =
     let l : 4 ≤ length held = (m (omega arith)).0 in
     rw (take-append-le 4 held more l, drop-append-le 4 held more l) (
-      ap (λ (l : List ℕ). take 4 held ++ l) (sym (append_assoc (replicate (suc p) 0) (drop 4 held) more))
-      ∙ sym (append_assoc (take 4 held) (replicate (suc p) 0 ++ drop 4 held) more))
+    ap (λ (l : List ℕ). take 4 held ++ l) (sym (append_assoc (replicate (suc p) 0) (drop 4 held) more))
+    ∙ sym (append_assoc (take 4 held) (replicate (suc p) 0 ++ drop 4 held) more))
 text_append Whole max p held more m = sym (append_assoc (replicate p 0) held more)
 
 -- a frame that takes up so many bytes takes up those that were passed over, and the word before them

@@ -1,16 +1,16 @@
 -- The frames of an input take up all of it, in order.
-use Rattle.std.proofs.Common.{◌≡◌, ◌≢◌, ℕ, zero, suc, ◌+◌, ◌-◌, ◌<◌, ◌≤◌, Bool, true, false, ◌||◌, ltb, List, [], ◌∷◌, ◌++◌, length, take, drop, get_or, map, sym, refl, ap, subst, ◌∙◌, ◌⊎◌, inl, inr, arith}
+use Rattle.std.proofs.Common.{◌≡◌, ℕ, zero, suc, ◌+◌, ◌-◌, ◌<◌, ◌≤◌, Bool, true, false, ◌||◌, ltb, List, [], ◌∷◌, ◌++◌, length, take, drop, get_or, map, sym, refl, ap, ◌∙◌, inl, inr, arith}
 use Rattle.std.proofs.lemmas.Bool.{cases_Bool, ltb-true, ltb-false, leb-false, or_left, or_right, cases_lt}
 use Rattle.std.proofs.lemmas.List.{length-drop, drop-drop, drop_all, get_or-drop, nil_from_length}
 use Rattle.pads_value.specs.Cuts.{Cut}
 use Rattle.pads_value.specs.Marks.{bytes_of}
 use Rattle.pads_frame.specs.declared.discipline.Discipline.{Discipline}
 use Rattle.pads_frame.specs.declared.discipline.Discipline.TheVariants.{Term, Fixed, Rdw, Whole}
-use Rattle.pads_frame.specs.declared.discipline.Extent.{Extent}
 use Rattle.pads_frame.specs.Cutting.{cuts, records, closed}
-use Rattle.pads_frame.specs.Extents.{run, has_word, has_record, extent, HasBlock}
-use Rattle.pads_frame.specs.Laws.{IsLead, IsTrail, HasNoTerminator, Lies, Tiles, moved}
-use Rattle.pads_frame.specs.Placed.{cut_at, size_of}
+use Rattle.pads_frame.specs.Fits.{HasBlock}
+use Rattle.pads_frame.specs.Extents.{run, has_record, extent}
+use Rattle.pads_frame.specs.Laws.{IsLead, IsTrail, HasNoTerminator, Lies, Tiles}
+use Rattle.pads_frame.specs.Placed.{cut_at, moved, size_of}
 use Rattle.pads_frame.proofs.CuttingLemmas.{cuts_step, cuts_open, cuts_nil}
 use Rattle.pads_frame.proofs.ExtentLemmas.{extent_within, extent_takes, rdw_record, rdw_broken, rdw_closed, record_parts}
 use Rattle.pads_frame.proofs.Runs.{run_le, run_hit, run_miss}
@@ -22,8 +22,8 @@ module _ (max : ℕ) (bytes : List ℕ) (at : ℕ) where
   lead_lies (Fixed n) = omega arith
   lead_lies Rdw =
       elim (cases_Bool (has_record (drop at bytes))) [
-        inl r ↦ rw (rdw_record max (drop at bytes) r) (inr (refl, (record_parts (drop at bytes) r).0))
-      | inr r ↦ rw (rdw_broken max (drop at bytes) r) (inl (omega arith))
+        | inl r ↦ rw (rdw_record max (drop at bytes) r) (inr (refl, (record_parts (drop at bytes) r).0))
+        | inr r ↦ rw (rdw_broken max (drop at bytes) r) (inl (omega arith))
       ]
   lead_lies Whole = omega arith
 
@@ -41,13 +41,13 @@ module _ (max : ℕ) (bytes : List ℕ) (at : ℕ) where
       let l = run_le t (drop at bytes) in
       let n = length-drop at bytes in
       elim (cases_Bool (ltb (run t (drop at bytes)) (length (drop at bytes)))) [
-        inl h ↦
-          let k = ltb-true (run t (drop at bytes)) (length (drop at bytes)) h in
-          let e : at + 0 + run t (drop at bytes) ≡ at + run t (drop at bytes) = omega arith in
-          rw (h, e) (inr (omega arith, omega arith, sym (get_or-drop at bytes (run t (drop at bytes)) 0) ∙ run_hit t (drop at bytes) k))
-      | inr h ↦
-          let k = ltb-false (run t (drop at bytes)) (length (drop at bytes)) h in
-          rw h (inl (omega arith, omega arith))
+        | inl h ↦
+            let k = ltb-true (run t (drop at bytes)) (length (drop at bytes)) h in
+            let e : at + 0 + run t (drop at bytes) ≡ at + run t (drop at bytes) = omega arith in
+            rw (h, e) (inr (omega arith, omega arith, sym (get_or-drop at bytes (run t (drop at bytes)) 0) ∙ run_hit t (drop at bytes) k))
+        | inr h ↦
+            let k = ltb-false (run t (drop at bytes)) (length (drop at bytes)) h in
+            rw h (inl (omega arith, omega arith))
       ]
 
   trail_lies : (d : Discipline) → at ≤ length bytes → IsTrail d bytes (at + (extent d max (drop at bytes)).lead + (extent d max (drop at bytes)).len) (at + size_of (extent d max (drop at bytes)))
@@ -55,8 +55,8 @@ module _ (max : ℕ) (bytes : List ℕ) (at : ℕ) where
   trail_lies (Fixed n) fits = omega arith
   trail_lies Rdw fits =
       elim (cases_Bool (has_record (drop at bytes))) [
-        inl r ↦ rw (rdw_record max (drop at bytes) r) (omega arith)
-      | inr r ↦ rw (rdw_broken max (drop at bytes) r) (omega arith)
+        | inl r ↦ rw (rdw_record max (drop at bytes) r) (omega arith)
+        | inr r ↦ rw (rdw_broken max (drop at bytes) r) (omega arith)
       ]
   trail_lies Whole fits = omega arith
 
@@ -82,15 +82,15 @@ tiles_from d max bytes zero at b fits left =
     rw (drop_all at bytes (omega arith), cuts_nil d max true at 0) (omega arith)
 tiles_from d max bytes (suc n) at b fits left =
     elim (cases_lt at (length bytes)) [
-      inl some ↦
-        let k = length-drop at bytes in
-        let e = extent d max (drop at bytes) in
-        let s = extent_takes d max (drop at bytes) b (omega arith) in
-        let w = extent_within d max (drop at bytes) in
-        let step = cuts_step d max true at (drop at bytes) (omega arith) s (or_right _ _ refl) in
-        let behind = drop-drop (size_of e) at bytes in
-        rw step (at + size_of e, first_lies max bytes at d b some, rw behind (tiles_from d max bytes n (at + size_of e) b (omega (arith, w.1)) (omega (arith, s))))
-    | inr none ↦ rw (drop_all at bytes none, cuts_nil d max true at 0) (omega arith)
+      | inl some ↦
+          let k = length-drop at bytes in
+          let e = extent d max (drop at bytes) in
+          let s = extent_takes d max (drop at bytes) b (omega arith) in
+          let w = extent_within d max (drop at bytes) in
+          let step = cuts_step d max true at (drop at bytes) (omega arith) s (or_right _ _ refl) in
+          let behind = drop-drop (size_of e) at bytes in
+          rw step (at + size_of e, first_lies max bytes at d b some, rw behind (tiles_from d max bytes n (at + size_of e) b (omega (arith, w.1)) (omega (arith, s))))
+      | inr none ↦ rw (drop_all at bytes none, cuts_nil d max true at 0) (omega arith)
     ]
 
 pub tiles : (d : Discipline) (max : ℕ) (bytes : List ℕ) → HasBlock d → Tiles d bytes 0 (records d max bytes)
@@ -142,12 +142,12 @@ closed_from : (d : Discipline) (max n at : ℕ) (xs : List ℕ) → HasBlock d �
 closed_from d max zero at xs b l = closed_none d max at xs l
 closed_from d max (suc n) at xs b l =
     elim (cases_lt 0 (length xs)) [
-      inl some ↦ elim (cases_Bool (extent d max xs).closed) [
-        inl c ↦ closed_step d max at xs b some c (closed_from d max n (at + size_of (extent d max xs)) (drop (size_of (extent d max xs)) xs) b
-          (omega (arith, length-drop (size_of (extent d max xs)) xs, extent_takes d max xs b some)))
-      | inr c ↦ closed_open d max at xs b some c
+      | inl some ↦ elim (cases_Bool (extent d max xs).closed) [
+        | inl c ↦ closed_step d max at xs b some c (closed_from d max n (at + size_of (extent d max xs)) (drop (size_of (extent d max xs)) xs) b
+            (omega (arith, length-drop (size_of (extent d max xs)) xs, extent_takes d max xs b some)))
+        | inr c ↦ closed_open d max at xs b some c
       ]
-    | inr none ↦ closed_none d max at xs none
+      | inr none ↦ closed_none d max at xs none
     ]
 
 pub closed_first : (d : Discipline) (max : ℕ) (bytes : List ℕ) → HasBlock d → (last : List Cut) × (records d max bytes ≡ closed d max bytes ++ last) × (length last ≤ 1)
@@ -168,6 +168,6 @@ cuts_moved d max ended by at zero (b ∷ bytes) =
     let first : by + at + x.lead ≡ by + (at + x.lead) = omega arith in
     let end : by + (at + x.lead) + x.len ≡ by + (at + x.lead + x.len) = omega arith in
     elim (cases_Bool (x.closed || ended)) [
-      inl c ↦ rw (c, e, first, end, later) refl
-    | inr c ↦ rw c refl
+      | inl c ↦ rw (c, e, first, end, later) refl
+      | inr c ↦ rw c refl
     ]

@@ -1,11 +1,12 @@
 -- The buffer of a framer, and what is kept of it.
-use Rattle.std.specs.Prelude.{◌≡◌, ℕ, ◌+◌, ◌-◌, ◌^◌, ◌<◌, ◌≤◌, Option, None, Some, List, length, take, drop, vec_len, vec_capacity}
+use Rattle.std.specs.Prelude.{◌≡◌, ℕ, ◌+◌, ◌-◌, ◌^◌, ◌≤◌, Option, None, Some, List, length, take, drop, vec_len, vec_capacity}
 use Rattle.pads_value.specs.Cuts.{Cut}
 use Rattle.pads_value.specs.Marks.{bytes_of}
 use Rattle.pads_frame.specs.declared.cutter.Cutter.{Cutter}
 use Rattle.pads_frame.specs.declared.cutter.Place.{Place}
 use Rattle.pads_frame.specs.Next.{HandsOut, Waits}
-use Rattle.pads_frame.specs.State.{State, MayPass, FitsLimit, HasSearched}
+use Rattle.pads_frame.specs.Fits.{FitsLimit}
+use Rattle.pads_frame.specs.State.{State, MayPass, HasSearched}
 
 -- what stands in the buffer behind the bytes that frames took
 abbrev pub held_of : Cutter → List ℕ

@@ -1,7 +1,6 @@
 -- The cutting of an input into frames, on its whole list of bytes.
 use Rattle.std.specs.Prelude.{ℕ, zero, suc, ◌+◌, ◌-◌, Bool, true, false, ◌||◌, List, [], ◌∷◌, if◌then◌else◌}
 use Rattle.pads_frame.specs.declared.discipline.Discipline.{Discipline}
-use Rattle.pads_frame.specs.declared.discipline.Extent.{Extent}
 use Rattle.pads_value.specs.Cuts.{Cut}
 use Rattle.pads_frame.specs.Placed.{cut_at, size_of}
 use Rattle.pads_frame.specs.Extents.{extent}

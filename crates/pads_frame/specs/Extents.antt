@@ -1,7 +1,7 @@
 -- How the first frame of a run of bytes lies in it, for each discipline. The rules are those of PADS's
 -- record disciplines: a terminator byte (newline records), blocks of a fixed length, IBM's variable
 -- records behind a record descriptor word (RDW), and no records at all.
-use Rattle.std.specs.Prelude.{ℕ, ◌+◌, ◌-◌, ◌*◌, ◌<◌, Bool, true, false, ◌&&◌, ◌==◌, nat_le, nat_lt, List, [], ◌∷◌, length, min, slice_index, if◌then◌else◌}
+use Rattle.std.specs.Prelude.{ℕ, ◌+◌, ◌-◌, ◌*◌, Bool, true, false, ◌&&◌, ◌==◌, nat_le, nat_lt, List, [], ◌∷◌, length, min, slice_index, if◌then◌else◌}
 use Rattle.pads_value.specs.declared.frame.Mark.{Mark}
 use Rattle.pads_value.specs.declared.frame.Mark.TheVariants.{Plain, Short, Long, Broken}
 use Rattle.pads_frame.specs.declared.discipline.Discipline.{Discipline}
@@ -51,10 +51,3 @@ extent Rdw max bytes =
     else broken_extent (length bytes)
 -- All bytes. The end of the input closes the frame.
 extent Whole max bytes = record { lead = 0; len = length bytes; terminator = 0; mark = mark_of max (length bytes); closed = false }
-
--- blocks have a byte at least
-abbrev pub HasBlock : Discipline → Type 0
-HasBlock (Term terminator) = Unit {0}
-HasBlock (Fixed block) = 0 < block
-HasBlock Rdw = Unit {0}
-HasBlock Whole = Unit {0}

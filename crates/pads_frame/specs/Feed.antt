@@ -17,14 +17,14 @@ pub record Feeds (old : State) (piece : List ℕ) (new : State) (fed : Fed) : Ty
   pub took : fed.took ≡ taken old piece
   pub full : IsTrue fed.full ↔ (length new.held ≡ room new)
   pub state : new ≡ holding old (take fed.took piece)
+  pub reach : reach new ≡ reach old + fed.took
   pub owed : (ended : Bool) (more : List ℕ) → rest ended new more ≡ rest ended old (take fed.took piece ++ more)
 
--- The next byte has offset 2^62. Nothing is taken.
-pub record IsTooLong (old : State) (piece : List ℕ) (new : State) : Type 0 where
-  pub some : 0 < length piece
-  pub reach : reach old ≡ 2 ^ 62
-  pub state : new ≡ old
+-- A byte comes whose offset would be 2^62.
+abbrev pub IsPastEnd : State → List ℕ → Type 0
+IsPastEnd s piece = (0 < length piece) × (reach s ≡ 2 ^ 62)
 
+-- Then nothing is taken.
 abbrev pub FeedGives : State → List ℕ → State → Result Fed TooLong → Type 0
 FeedGives old piece new (Ok fed) = Feeds old piece new fed
-FeedGives old piece new (Err e) = IsTooLong old piece new
+FeedGives old piece new (Err e) = new ≡ old

@@ -1,7 +1,7 @@
 -- How the frames of an input lie in it: in order and without overlap, with their bytes at their offsets.
 -- Each byte of the input is in one of them, is a terminator behind one, or belongs to a descriptor word
 -- before one.
-use Rattle.std.specs.Prelude.{◌≡◌, ◌≢◌, ℕ, ◌+◌, ◌-◌, ◌<◌, ◌≤◌, ◌⊎◌, Bool, true, List, [], ◌∷◌, length, take, drop, slice_index}
+use Rattle.std.specs.Prelude.{◌≡◌, ◌≢◌, ℕ, ◌+◌, ◌-◌, ◌<◌, ◌≤◌, ◌⊎◌, true, List, [], ◌∷◌, length, take, drop, slice_index}
 use Rattle.pads_value.specs.Cuts.{Cut}
 use Rattle.pads_value.specs.Marks.{bytes_of}
 use Rattle.pads_frame.specs.declared.discipline.Discipline.{Discipline}
@@ -44,7 +44,3 @@ pub record Lies (discipline : Discipline) (bytes : List ℕ) (from : ℕ) (frame
 abbrev pub Tiles : Discipline → List ℕ → ℕ → List Cut → Type 0
 Tiles discipline bytes from [] = from ≡ length bytes
 Tiles discipline bytes from (frame ∷ frames) = (to : ℕ) × Lies discipline bytes from frame to × Tiles discipline bytes to frames
-
--- the frame that lies so many bytes later in the input
-abbrev pub moved : ℕ → Cut → Cut
-moved by frame = record frame { first = by + frame.first; end = by + frame.end }

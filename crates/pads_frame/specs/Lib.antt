@@ -2,6 +2,7 @@ pub mod Next
 pub mod Placed
 pub mod Extents
 pub mod Feed
+pub mod Fits
 pub mod Cutters
 pub mod Cutting
 pub mod Laws

@@ -1,7 +1,6 @@
 -- What a framer that is asked for the next frame answers, and what it owes then.
 use Rattle.std.specs.Prelude.{◌≡◌, ℕ, ◌+◌, ◌<◌, ◌≤◌, Bool, true, false, List, ◌∷◌, length}
 use Rattle.pads_value.specs.Cuts.{Cut}
-use Rattle.pads_frame.specs.declared.discipline.Discipline.{Discipline}
 use Rattle.pads_frame.specs.Extents.{extent}
 use Rattle.pads_frame.specs.State.{State, MayCome, closes, reach, rest, room, text_of}
 

@@ -16,3 +16,7 @@ cut_at at bytes extent = record {
 -- how many bytes of the input it takes up, with its descriptor word and its terminator
 abbrev pub size_of : Extent → ℕ
 size_of extent = extent.lead + extent.len + extent.terminator
+
+-- the frame that lies so many bytes later in the input
+abbrev pub moved : ℕ → Cut → Cut
+moved by frame = record frame { first = by + frame.first; end = by + frame.end }

@@ -1,11 +1,12 @@
 -- What a framer still owes: the state in which it stands between two calls, the text that this state
 -- stands for, and the frames of that text.
-use Rattle.std.specs.Prelude.{◌≡◌, ℕ, ◌+◌, ◌<◌, ◌≤◌, Bool, true, false, ◌==◌, nat_lt, List, [], ◌∷◌, ◌++◌, length, take, drop, replicate, if◌then◌else◌}
+use Rattle.std.specs.Prelude.{◌≡◌, ℕ, ◌+◌, ◌<◌, ◌≤◌, Bool, true, false, ◌==◌, nat_lt, List, [], ◌++◌, length, take, drop, replicate, map, if◌then◌else◌}
 use Rattle.pads_frame.specs.declared.discipline.Discipline.{Discipline}
 use Rattle.pads_frame.specs.declared.discipline.Discipline.TheVariants.{Term, Fixed, Rdw, Whole}
 use Rattle.pads_value.specs.Cuts.{Cut}
 use Rattle.pads_frame.specs.Extents.{extent, has_word, run, word_length}
 use Rattle.pads_frame.specs.Cutting.{cuts}
+use Rattle.pads_frame.specs.Placed.{moved}
 
 -- The frame in work begins at offset `first`. Of the bytes from there on so many were passed over, since
 -- their frame carries no bytes, and the others are held.
@@ -20,13 +21,6 @@ pub record State : Type 0 where
 -- the state of a new framer, whose first byte will have this offset
 abbrev pub new_state : Discipline → ℕ → ℕ → State
 new_state discipline max first = record { discipline = discipline; max = max; first = first; passed = 0; held = []; ended = false }
-
--- Blocks have a byte at least, and are no longer than a frame may be.
-abbrev pub FitsLimit : Discipline → ℕ → Type 0
-FitsLimit (Term terminator) max = Unit {0}
-FitsLimit (Fixed block) max = (0 < block) × (block ≤ max)
-FitsLimit Rdw max = Unit {0}
-FitsLimit Whole max = Unit {0}
 
 -- The first `searched` bytes have no terminator.
 abbrev pub HasSearched : Discipline → ℕ → List ℕ → Type 0
@@ -90,3 +84,8 @@ rest ended s more = cuts s.discipline s.max ended s.first 0 (text_of s ++ more)
 -- Any bytes may come, and behind the end none.
 abbrev pub MayCome : State → Bool → List ℕ → Type 0
 MayCome s ended more = s.ended ≡ true → (ended ≡ true) × (more ≡ [])
+
+-- A new framer owes the frames of what comes, from the offset of its first byte on.
+abbrev pub Owes : Discipline → ℕ → ℕ → State → Type 0
+Owes discipline max start s =
+    (ended : Bool) (more : List ℕ) → rest ended s more ≡ map (moved start) (cuts discipline max ended 0 0 more)

@@ -1,8 +1,9 @@
-ghost use Rattle.std.specs.Prelude.{◌≡◌, ◌+◌, ◌-◌, ◌≤◌, ◌^◌, ◌<◌, ◌++◌, length, drop, take, vec_len, vec_capacity, IfOk, true, false};
+ghost use Rattle.std.specs.Prelude.{◌≡◌, ◌+◌, ◌-◌, ◌≤◌, ◌^◌, ◌<◌, ◌++◌, length, drop, take, vec_len, vec_capacity, IfOk, IsErr, IsTrue, ◌↔◌, true, false};
 ghost use Rattle.pads_frame.specs.Extents.{extent};
-ghost use Rattle.pads_frame.specs.Feed.{FeedGives, holding};
+ghost use Rattle.pads_frame.specs.Feed.{FeedGives, IsPastEnd, holding};
 ghost use Rattle.pads_frame.specs.Looks.{Finds, Loses, LookGives};
-ghost use Rattle.pads_frame.specs.State.{FitsLimit, closes, new_state, reach, text_of, word_size};
+ghost use Rattle.pads_frame.specs.Fits.{FitsLimit};
+ghost use Rattle.pads_frame.specs.State.{closes, new_state, reach, text_of, word_size};
 ghost use Rattle.pads_frame.specs.Next.{HandsOut, Waits};
 ghost use Rattle.pads_frame.specs.Cutters.{AdvanceGives, IsCutter, IsPlace, Takes, cut_of_place, held_of, state_of};
 ghost use Rattle.pads_value.specs.Cuts.{cut_of_frame};
@@ -129,7 +130,12 @@ impl Cutter {
 }
 
 impl Cutter {
-    pub fn new(alloc: Global, discipline: Discipline, max: u64, first: u64) -> Result<Cutter, Memory>
+    pub fn new(
+        alloc: Global,
+        discipline: Discipline,
+        max: u64,
+        first: u64,
+    ) -> Result<Cutter, Memory>
         requires limit { max ≤ 16777216 }
         requires fits_limit { FitsLimit discipline max }
         requires first { first ≤ 2 ^ 62 }
@@ -176,17 +182,26 @@ impl Cutter {
         append(&mut self.buffer, bytes);
     }
 
+    fn is_past_end(&self, piece: &[u8]) -> bool
+        requires kept { IsCutter self.now }
+        ensures { IsTrue result ↔ IsPastEnd (state_of self.now) piece.now }
+    {
+        let held = self.buffer.len() - self.start;
+        !piece.is_empty() && self.first + self.passed + held as u64 == LAST
+    }
+
     /// Takes what it can of a piece.
     pub fn feed(&mut self, piece: &[u8]) -> Result<Fed, TooLong>
         requires kept { IsCutter self.old }
+        ensures too_long { IsErr result ↔ IsPastEnd (state_of self.old) piece.now }
         ensures gives { FeedGives (state_of self.old) piece.now (state_of self.new) result }
         ensures kept { IsCutter self.new }
     {
-        let held = self.buffer.len() - self.start;
-        let reach = self.first + self.passed + held as u64;
-        if reach == LAST && !piece.is_empty() {
+        if self.is_past_end(piece) {
             return Err(TooLong);
         }
+        let held = self.buffer.len() - self.start;
+        let reach = self.first + self.passed + held as u64;
         let free = self.max as usize + SPARE - held;
         let took = piece.len().min(free).min((LAST - reach) as usize);
         self.hold(&piece[..took]);

@@ -1,3 +1,6 @@
+ghost use Rattle.std.specs.Prelude.{◌↔◌, IsTrue};
+ghost use Rattle.pads_frame.specs.Fits.{FitsLimit};
+
 use pads_value::Mark;
 
 /// How an input is cut into records.
@@ -12,6 +15,19 @@ pub enum Discipline {
     Rdw,
     /// The whole input is one record.
     Whole,
+}
+
+impl Discipline {
+    /// Whether a framer may have this discipline, where a frame has at most `max` bytes: blocks have
+    /// a byte at least and `max` at most.
+    pub fn fits(self, max: u64) -> bool
+        ensures fits { IsTrue result ↔ FitsLimit self max }
+    {
+        match self {
+            Discipline::Fixed(block) => block > 0 && u64::from(block) <= max,
+            Discipline::Term(_) | Discipline::Rdw | Discipline::Whole => true,
+        }
+    }
 }
 
 /// How the first frame of a run of bytes lies in it.

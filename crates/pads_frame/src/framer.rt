@@ -1,6 +1,8 @@
-ghost use Rattle.std.specs.Prelude.{◌≡◌, ◌≤◌, ◌<◌, ◌^◌, IfOk, false, true};
-ghost use Rattle.pads_frame.specs.Feed.{FeedGives};
-ghost use Rattle.pads_frame.specs.State.{FitsLimit, new_state};
+ghost use Rattle.std.specs.Prelude.{◌≡◌, ◌≤◌, ◌<◌, ◌^◌, ◌↔◌, length, IfOk, IsErr, IsSome, false, true};
+ghost use Rattle.pads_frame.specs.Feed.{FeedGives, IsPastEnd};
+ghost use Rattle.pads_frame.specs.Fits.{FitsLimit};
+ghost use Rattle.pads_frame.specs.Next.{SameInput};
+ghost use Rattle.pads_frame.specs.State.{Owes, closes, room, new_state};
 
 use crate::cutter::{Cutter, Fed, TooLong};
 use crate::discipline::Discipline;
@@ -22,7 +24,8 @@ pub struct Framer {
 }
 
 impl Model for Framer {
-    ghost use Rattle.pads_frame.specs.State.{State};
+    ghost use Rattle.pads_frame.specs.Next.{SameInput};
+    ghost use Rattle.pads_frame.specs.State.{Owes, closes, room, State};
 
     ghost Value = { State };
 
@@ -50,6 +53,7 @@ impl Framer {
         requires fits_limit { FitsLimit discipline max }
         requires start { start ≤ 2 ^ 62 }
         ensures state { IfOk result (λ framer. framer ≡ new_state discipline max start) }
+        ensures owes { IfOk result (Owes discipline max start) }
     {
         let cutter = Cutter::new(alloc, discipline, max, start)?;
         Ok(Framer { cutter })
@@ -59,13 +63,17 @@ impl Framer {
     /// 2^62. `TooLong` comes where the next byte has that offset.
     pub fn feed(&mut self, piece: &[u8]) -> Result<Fed, TooLong>
         requires { self.old.ended ≡ false }
+        ensures too_long { IsErr result ↔ IsPastEnd self.old piece.now }
         ensures gives { FeedGives self.old piece.now self.new result }
+        ensures input { SameInput self.old self.new }
+        ensures fits { length self.new.held ≤ room self.new }
     {
         self.cutter.feed(piece)
     }
 
     /// The next frame, where one closes, with its bytes lent from the buffer.
     pub fn next(&mut self) -> Option<Frame<'_>>
+        ensures closes { IsSome result ↔ (closes self.old ≡ true) }
         ensures* after_borrow { sem 𝓛 (Lent self.entry result) }
     {
         let place = self.cutter.advance()?;

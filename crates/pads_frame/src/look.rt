@@ -1,7 +1,8 @@
 ghost use Rattle.std.specs.Prelude.{◌≡◌, ◌+◌, ◌*◌, ◌<◌, ◌≤◌, ◌^◌, length, take, MatchOption, slice_index, true, false};
 ghost use Rattle.pads_frame.specs.declared.discipline.Discipline.TheVariants.{Term, Fixed, Rdw, Whole};
 ghost use Rattle.pads_frame.specs.Extents.{broken_extent, mark_of, run, word_length, has_word};
-ghost use Rattle.pads_frame.specs.State.{FitsLimit, HasSearched, MayPass};
+ghost use Rattle.pads_frame.specs.Fits.{FitsLimit};
+ghost use Rattle.pads_frame.specs.State.{HasSearched, MayPass};
 ghost use Rattle.pads_frame.specs.Looks.{LookGives, OpenGives};
 
 use crate::discipline::{Discipline, Extent};

@@ -1,9 +1,9 @@
-use Rattle.std.proofs.Common.{◌≡◌, ℕ, Bool, true, eqb, ◌+◌, ◌-◌, ◌<◌, ◌≤◌, List, ◌++◌, length, take, refl, sym, ap, subst, ◌∙◌, ◌^◌, arith}
+use Rattle.std.proofs.Common.{◌≡◌, ◌+◌, ◌-◌, ◌≤◌, ◌++◌, length, take, sym, ap, subst, ◌∙◌, arith}
 use Rattle.std.proofs.lemmas.Bool.{eqb-true, eq-eqb}
 use Rattle.std.proofs.lemmas.List.{length-append, length-drop, length-take-le}
 use Rattle.pads_frame.specs.Cutters.{held_of, state_of}
 use Rattle.pads_frame.specs.Feed.{holding}
-use Rattle.pads_frame.specs.State.{State, rest}
+use Rattle.pads_frame.specs.State.{State, reach, rest}
 use Rattle.pads_frame.proofs.Feeding.{owed_held}
 use Rattle.pads_frame.proofs.cutter.Cutter.feed.Goals as goal
 
@@ -21,7 +21,6 @@ returns-clause-gives c =
     let held : length (held_of c.hold.new.self) ≡ length (held_of old) + took = ap (λ (t : State). length t.held) is ∙ l ∙ omega (arith, k) in
     let max : c.hold.new.self.max ≡ old.max = ap (λ (t : State). t.max) is in
     let fits : length (held_of old) ≤ old.max + 4100 = omega (arith, c.requires.kept.room, old.buffer.ok.0) in
-
     record {
       took = omega (arith, c.min-took.ensures, c.min.ensures, c.len.ensures, old.buffer.ok.0);
       full = (
@@ -29,5 +28,6 @@ returns-clause-gives c =
         λ e. eq-eqb took (old.max + 4100 - (c.len.result - old.start)) (omega arith),
       );
       state = is;
+      reach = ap (λ (t : State). reach t) is ∙ omega (arith, l, k);
       owed = λ ended more. subst (λ (t : State). rest ended t more ≡ rest ended (state_of old) (take took piece ++ more)) (sym is) (owed_held (state_of old) (take took piece) c.requires.kept.may_pass ended more);
     }

@@ -1,7 +1,7 @@
-use Rattle.std.proofs.Common.{◌≡◌, ◌+◌, ◌-◌, ◌<◌, ◌≤◌, length, vec_len, arith}
+use Rattle.std.proofs.Common.{◌+◌, ◌-◌, ◌≤◌, vec_len, arith}
 use Rattle.std.proofs.lemmas.List.{length-drop}
 use Rattle.pads_frame.specs.Cutters.{held_of}
-use Rattle.pads_frame.proofs.Taking.{FoundFacts, found_facts, has_block, takes, keeps}
+use Rattle.pads_frame.proofs.Taking.{found_facts, has_block, takes, keeps}
 use Rattle.pads_frame.proofs.cutter.Cutter.take.Goals as goal
 use Rattle.pads_frame.specs.declared.cutter.Cutter.{Cutter}
 use Rattle.pads_frame.specs.declared.discipline.Extent.{Extent}
