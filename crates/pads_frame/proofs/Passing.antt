@@ -1,7 +1,7 @@
 -- What is true once bytes of a lost frame were passed over, and while more bytes are wanted.
-use Rattle.std.proofs.Common.{◌≡◌, ℕ, zero, suc, ◌+◌, ◌-◌, ◌<◌, ◌≤◌, Bool, true, false, List, [], length, take, sym, refl, ap, subst, ◌∙◌, arith}
+use Rattle.std.proofs.Common.{◌≡◌, ℕ, zero, suc, ◌+◌, ◌-◌, ◌<◌, ◌≤◌, Bool, true, false, List, [], ◌++◌, length, take, sym, refl, ap, subst, ◌∙◌, arith}
 use Rattle.std.proofs.lemmas.Bool.{ltb-false, le-ltb, false_from_ne_true}
-use Rattle.std.proofs.lemmas.List.{length-take-le, take_at, take_all, take-take, nil_from_length}
+use Rattle.std.proofs.lemmas.List.{append-nil, length-take-le, take_at, take_all, take-take, nil_from_length}
 use Rattle.pads_frame.specs.declared.cutter.Cutter.{Cutter}
 use Rattle.pads_frame.specs.declared.discipline.Discipline.{Discipline}
 use Rattle.pads_frame.specs.declared.discipline.Discipline.TheVariants.{Term, Fixed, Rdw, Whole}
@@ -10,7 +10,8 @@ use Rattle.pads_frame.specs.Extents.{run, has_record, extent}
 use Rattle.pads_frame.specs.Looks.{IsLost, Loses}
 use Rattle.pads_frame.specs.Next.{Waits}
 use Rattle.pads_frame.specs.Fits.{FitsLimit}
-use Rattle.pads_frame.specs.State.{State, HasSearched, MayPass, closes_in, text, text_of, word_size}
+use Rattle.pads_frame.specs.State.{State, HasSearched, MayPass, closes, closes_in, rest, text, text_of, word_size}
+use Rattle.pads_frame.proofs.CuttingLemmas.{cuts_nil, cuts_open}
 use Rattle.pads_frame.proofs.ExtentLemmas.{rdw_closed, record_parts, same_word}
 use Rattle.pads_frame.proofs.Owing.{passed_owed}
 use Rattle.pads_frame.proofs.Runs.{run_le}
@@ -82,6 +83,19 @@ word_size_le (Fixed n) = omega arith
 word_size_le Rdw = omega arith
 word_size_le Whole = omega arith
 
+-- Where no frame closes, none is owed for what came.
+done_by : (s : State) (ended : Bool) → closes_in s.discipline s.max (text_of s) ended ≡ false → rest ended s [] ≡ []
+done_by s true c =
+    let l = ltb-false 0 (length (text_of s)) c in
+    let e : text_of s ≡ [] = nil_from_length (text_of s) (omega arith) in
+    rw (e, cuts_nil s.discipline s.max true s.first 0) refl
+done_by s false c =
+    let e : text_of s ++ [] ≡ text_of s = append-nil (text_of s) in
+    rw e (cuts_open s.discipline s.max false s.first (text_of s) (rw c refl))
+
+pub none_owed : (s : State) → closes s ≡ false → rest s.ended s [] ≡ []
+none_owed s c = done_by s s.ended c
+
 -- the state once the held bytes were passed over
 abbrev pub passed_over : State → State
 passed_over s = record s { passed = s.passed + (length s.held - word_size s.discipline); held = take (word_size s.discipline) s.held }
@@ -93,10 +107,14 @@ waits_over s fits m loses =
     let kept = lost_kept s.discipline s.max s.passed s.held m h in
     let k : length (take (word_size s.discipline) s.held) ≡ word_size s.discipline = length-take-le (word_size s.discipline) s.held l in
     let n = length_text s.discipline s.passed s.held in
+    let none : closes s ≡ false = rw loses.goes_on (lost_open s.discipline s.max (text_of s) h) in
+    let owed = λ (ended : Bool) (more : List ℕ).
+    passed_owed s.discipline s.max s.first s.passed (s.passed + (length s.held - word_size s.discipline)) s.held (take (word_size s.discipline) s.held) ended more
+    (has_block s.discipline s.max fits) (omega (arith, lost_some s.discipline s.max (text_of s) h)) (omega arith) h kept.0 kept.1 in
     record {
-      none = rw loses.goes_on (lost_open s.discipline s.max (text_of s) h);
-      owed = λ ended more. passed_owed s.discipline s.max s.first s.passed (s.passed + (length s.held - word_size s.discipline)) s.held (take (word_size s.discipline) s.held) ended more
-          (has_block s.discipline s.max fits) (omega (arith, lost_some s.discipline s.max (text_of s) h)) (omega arith) h kept.0 kept.1;
+      none = none;
+      owed = owed;
+      done = owed s.ended [] ∙ none_owed s none;
       first = refl;
       free = omega (arith, word_size_le s.discipline);
       reach = omega arith;

@@ -1,5 +1,5 @@
 -- What a framer that is asked for the next frame answers, and what it owes then.
-use Rattle.std.specs.Prelude.{◌≡◌, ℕ, ◌+◌, ◌<◌, ◌≤◌, Bool, true, false, List, ◌∷◌, length}
+use Rattle.std.specs.Prelude.{◌≡◌, ℕ, ◌+◌, ◌<◌, ◌≤◌, Bool, true, false, List, [], ◌∷◌, length}
 use Rattle.pads_value.specs.Cuts.{Cut}
 use Rattle.pads_frame.specs.Extents.{extent}
 use Rattle.pads_frame.specs.State.{State, MayCome, closes, reach, rest, room, text_of}
@@ -23,10 +23,12 @@ pub record HandsOut (old : State) (cut : Cut) (new : State) : Type 0 where
   pub reach : reach new ≡ reach old
   pub input : SameInput old new
 
--- No frame closes yet, all are still owed, and there is room for more bytes.
+-- No frame closes yet, and none is owed for the bytes that came: all that are owed wait for what comes,
+-- and there is room for more bytes.
 pub record Waits (old new : State) : Type 0 where
   pub none : closes old ≡ false
   pub owed : (ended : Bool) (more : List ℕ) → rest ended new more ≡ rest ended old more
+  pub done : rest new.ended new [] ≡ []
   pub first : new.first ≡ old.first
   pub free : length new.held + 4096 ≤ room new
   pub reach : reach new ≡ reach old

@@ -1,7 +1,7 @@
-use Rattle.std.proofs.Common.{◌≡◌, ◌-◌, length, arith}
+use Rattle.std.proofs.Common.{◌≡◌, ◌-◌, length, refl, arith}
 use Rattle.std.proofs.lemmas.List.{length-drop}
-use Rattle.pads_frame.specs.Cutters.{held_of}
-use Rattle.pads_frame.proofs.Passing.{searched_all}
+use Rattle.pads_frame.specs.Cutters.{held_of, state_of}
+use Rattle.pads_frame.proofs.Passing.{none_owed, searched_all}
 use Rattle.pads_frame.proofs.cutter.Cutter.advance.Goals as goal
 
 pub returns-in-Wait-clause-kept : goal.returns-in-Wait-clause-kept
@@ -20,4 +20,17 @@ returns-in-Wait-clause-kept c =
       room = kept.room;
       capacity = kept.capacity;
       reach = kept.reach;
+    }
+
+pub returns-in-Wait-clause-gives : goal.returns-in-Wait-clause-gives
+returns-in-Wait-clause-gives c =
+    let old = c.args.self.now in
+    record {
+      none = c.in-Wait.ensures.0;
+      owed = λ ended more. refl;
+      done = none_owed (state_of old) c.in-Wait.ensures.0;
+      first = refl;
+      free = omega (arith, c.in-Wait.ensures.1);
+      reach = refl;
+      input = record { discipline = refl; max = refl; ended = refl };
     }
