@@ -7,10 +7,10 @@ use Rattle.pads_frame.specs.declared.discipline.Discipline.{Discipline}
 use Rattle.pads_frame.specs.declared.discipline.Discipline.TheVariants.{Term, Fixed, Rdw, Whole}
 use Rattle.pads_frame.specs.Cutters.{IsCutter, held_of, state_of}
 use Rattle.pads_frame.specs.Extents.{run, has_record, extent}
-use Rattle.pads_frame.specs.Looks.{IsLost, Loses}
+use Rattle.pads_frame.specs.Looks.{HasSearched, IsLost, Loses}
 use Rattle.pads_frame.specs.Next.{Waits}
 use Rattle.pads_frame.specs.Fits.{FitsLimit}
-use Rattle.pads_frame.specs.State.{State, HasSearched, MayPass, closes, closes_in, rest, text, text_of, word_size}
+use Rattle.pads_frame.specs.State.{State, MayPass, closes, closes_in, rest, text, text_of, word_size}
 use Rattle.pads_frame.proofs.CuttingLemmas.{cuts_nil, cuts_open}
 use Rattle.pads_frame.proofs.ExtentLemmas.{rdw_closed, record_parts, same_word}
 use Rattle.pads_frame.proofs.Owing.{passed_owed}

@@ -12,11 +12,11 @@ use Rattle.pads_frame.specs.declared.discipline.Extent.{Extent}
 use Rattle.pads_frame.specs.Cutters.{IsCutter, Takes, cut_of_place, held_of, state_of}
 use Rattle.pads_frame.specs.Fits.{HasBlock}
 use Rattle.pads_frame.specs.Extents.{run, word_length, has_record, extent}
-use Rattle.pads_frame.specs.Looks.{Finds}
+use Rattle.pads_frame.specs.Looks.{Finds, HasSearched}
 use Rattle.pads_frame.specs.Next.{HandsOut}
 use Rattle.pads_frame.specs.Placed.{cut_at, size_of}
 use Rattle.pads_frame.specs.Fits.{FitsLimit}
-use Rattle.pads_frame.specs.State.{State, HasSearched, MayPass, closes_in, text, text_of}
+use Rattle.pads_frame.specs.State.{State, MayPass, closes_in, text, text_of}
 use Rattle.pads_frame.proofs.ExtentLemmas.{extent_within, extent_takes, closed_nonempty, rdw_record, rdw_broken, record_parts}
 use Rattle.pads_frame.proofs.Owing.{after, bytes_of_le, covers_all, frame_owed, long_mark}
 use Rattle.pads_frame.proofs.TextLemmas.{length_text, text_none, run_text, word_text}

@@ -1,6 +1,6 @@
 -- The frames of an input take up all of it, in order.
-use Rattle.std.proofs.Common.{◌≡◌, ℕ, zero, suc, ◌+◌, ◌-◌, ◌<◌, ◌≤◌, Bool, true, false, ◌||◌, ltb, List, [], ◌∷◌, ◌++◌, length, take, drop, get_or, map, sym, refl, ap, ◌∙◌, inl, inr, arith}
-use Rattle.std.proofs.lemmas.Bool.{cases_Bool, ltb-true, ltb-false, leb-false, or_left, or_right, cases_lt}
+use Rattle.std.proofs.Common.{◌≡◌, ℕ, zero, suc, ◌+◌, ◌-◌, ◌<◌, ◌≤◌, Bool, true, false, leb, ◌||◌, ltb, List, [], ◌∷◌, ◌++◌, length, take, drop, get_or, map, sym, refl, ap, ◌∙◌, inl, inr, arith}
+use Rattle.std.proofs.lemmas.Bool.{cases_Bool, ltb-true, ltb-false, leb-true, leb-false, or_left, or_right, cases_lt}
 use Rattle.std.proofs.lemmas.List.{length-drop, drop-drop, drop_all, get_or-drop, nil_from_length}
 use Rattle.pads_value.specs.Cuts.{Cut}
 use Rattle.pads_value.specs.Marks.{bytes_of}
@@ -8,12 +8,31 @@ use Rattle.pads_frame.specs.declared.discipline.Discipline.{Discipline}
 use Rattle.pads_frame.specs.declared.discipline.Discipline.TheVariants.{Term, Fixed, Rdw, Whole}
 use Rattle.pads_frame.specs.Cutting.{cuts, records, closed}
 use Rattle.pads_frame.specs.Fits.{HasBlock}
-use Rattle.pads_frame.specs.Extents.{run, has_record, extent}
-use Rattle.pads_frame.specs.Laws.{IsLead, IsTrail, HasNoTerminator, Lies, Tiles}
+use Rattle.pads_frame.specs.Extents.{run, has_record, extent, word_length}
+use Rattle.pads_frame.specs.Laws.{IsMarked, IsLead, IsTrail, HasNoTerminator, Lies, Tiles}
 use Rattle.pads_frame.specs.Placed.{cut_at, moved, size_of}
 use Rattle.pads_frame.proofs.CuttingLemmas.{cuts_step, cuts_open, cuts_nil}
 use Rattle.pads_frame.proofs.ExtentLemmas.{extent_within, extent_takes, rdw_record, rdw_broken, rdw_closed, record_parts}
 use Rattle.pads_frame.proofs.Runs.{run_le, run_hit, run_miss}
+
+extent_marked : (d : Discipline) (max : ℕ) (xs : List ℕ) → IsMarked d max (extent d max xs).mark (extent d max xs).len
+extent_marked (Term t) max xs =
+    elim (cases_Bool (leb (run t xs) max)) [ inl e ↦ rw e (leb-true (run t xs) max e) | inr e ↦ rw e (leb-false (run t xs) max e) ]
+extent_marked (Fixed n) max xs =
+    elim (cases_Bool (leb n (length xs))) [
+      | inl e ↦ let k = leb-true n (length xs) e in rw e (omega arith)
+      | inr e ↦ let k = leb-false n (length xs) e in rw e (omega arith)
+    ]
+extent_marked Rdw max xs =
+    elim (cases_Bool (has_record xs)) [
+      | inl r ↦ rw (rdw_record max xs r) (elim (cases_Bool (leb (word_length xs - 4) max)) [
+        | inl e ↦ rw e (leb-true (word_length xs - 4) max e)
+        | inr e ↦ rw e (leb-false (word_length xs - 4) max e)
+      ])
+      | inr r ↦ rw (rdw_broken max xs r) tt
+    ]
+extent_marked Whole max xs =
+    elim (cases_Bool (leb (length xs) max)) [ inl e ↦ rw e (leb-true (length xs) max e) | inr e ↦ rw e (leb-false (length xs) max e) ]
 
 -- the first frame of the bytes from an offset on
 module _ (max : ℕ) (bytes : List ℕ) (at : ℕ) where
@@ -60,7 +79,7 @@ module _ (max : ℕ) (bytes : List ℕ) (at : ℕ) where
       ]
   trail_lies Whole fits = omega arith
 
-  first_lies : (d : Discipline) → HasBlock d → at < length bytes → Lies d bytes at (cut_at at (drop at bytes) (extent d max (drop at bytes))) (at + size_of (extent d max (drop at bytes)))
+  first_lies : (d : Discipline) → HasBlock d → at < length bytes → Lies d max bytes at (cut_at at (drop at bytes) (extent d max (drop at bytes))) (at + size_of (extent d max (drop at bytes)))
   first_lies d b fits =
       let e = extent d max (drop at bytes) in
       let n = length-drop at bytes in
@@ -70,6 +89,7 @@ module _ (max : ℕ) (bytes : List ℕ) (at : ℕ) where
       record {
         lead = lead_lies d;
         ordered = omega arith;
+        marked = rw span (extent_marked d max (drop at bytes));
         carries = rw span (ap (λ (l : List ℕ). take (bytes_of e.mark e.len) l) (drop-drop e.lead at bytes));
         run = run_lies d;
         trail = trail_lies d (omega arith);
@@ -77,7 +97,7 @@ module _ (max : ℕ) (bytes : List ℕ) (at : ℕ) where
         within = omega (arith, w.1);
       }
 
-tiles_from : (d : Discipline) (max : ℕ) (bytes : List ℕ) (n at : ℕ) → HasBlock d → at ≤ length bytes → length bytes ≤ at + n → Tiles d bytes at (cuts d max true at 0 (drop at bytes))
+tiles_from : (d : Discipline) (max : ℕ) (bytes : List ℕ) (n at : ℕ) → HasBlock d → at ≤ length bytes → length bytes ≤ at + n → Tiles d max bytes at (cuts d max true at 0 (drop at bytes))
 tiles_from d max bytes zero at b fits left =
     rw (drop_all at bytes (omega arith), cuts_nil d max true at 0) (omega arith)
 tiles_from d max bytes (suc n) at b fits left =
@@ -93,7 +113,7 @@ tiles_from d max bytes (suc n) at b fits left =
       | inr none ↦ rw (drop_all at bytes none, cuts_nil d max true at 0) (omega arith)
     ]
 
-pub tiles : (d : Discipline) (max : ℕ) (bytes : List ℕ) → HasBlock d → Tiles d bytes 0 (records d max bytes)
+pub tiles : (d : Discipline) (max : ℕ) (bytes : List ℕ) → HasBlock d → Tiles d max bytes 0 (records d max bytes)
 tiles d max bytes b = tiles_from d max bytes (length bytes) 0 b (omega arith) (omega arith)
 
 -- what only the end closes takes up all bytes

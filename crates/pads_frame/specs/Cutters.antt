@@ -6,7 +6,8 @@ use Rattle.pads_frame.specs.declared.cutter.Cutter.{Cutter}
 use Rattle.pads_frame.specs.declared.cutter.Place.{Place}
 use Rattle.pads_frame.specs.Next.{HandsOut, Waits}
 use Rattle.pads_frame.specs.Fits.{FitsLimit}
-use Rattle.pads_frame.specs.State.{State, MayPass, HasSearched}
+use Rattle.pads_frame.specs.State.{State, MayPass}
+use Rattle.pads_frame.specs.Looks.{HasSearched}
 
 -- what stands in the buffer behind the bytes that frames took
 abbrev pub held_of : Cutter → List ℕ

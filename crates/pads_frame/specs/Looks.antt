@@ -1,5 +1,5 @@
 -- What a look at the held bytes answers.
-use Rattle.std.specs.Prelude.{◌≡◌, ℕ, ◌+◌, ◌<◌, ◌≤◌, Bool, true, false, List, length}
+use Rattle.std.specs.Prelude.{◌≡◌, ℕ, ◌+◌, ◌<◌, ◌≤◌, Bool, true, false, List, length, take}
 use Rattle.pads_frame.specs.declared.discipline.Discipline.{Discipline}
 use Rattle.pads_frame.specs.declared.discipline.Discipline.TheVariants.{Term, Fixed, Rdw, Whole}
 use Rattle.pads_frame.specs.declared.discipline.Extent.{Extent}
@@ -7,6 +7,13 @@ use Rattle.pads_frame.specs.declared.look.Look.{Look}
 use Rattle.pads_frame.specs.declared.look.Look.TheVariants.{Found, Pass, Wait}
 use Rattle.pads_frame.specs.Extents.{run, mark_of, word_length, has_word, extent}
 use Rattle.pads_frame.specs.State.{text, closes_in}
+
+-- The first `searched` bytes have no terminator.
+abbrev pub HasSearched : Discipline → ℕ → List ℕ → Type 0
+HasSearched (Term terminator) searched held = run terminator (take searched held) ≡ searched
+HasSearched (Fixed block) searched held = Unit {0}
+HasSearched Rdw searched held = Unit {0}
+HasSearched Whole searched held = Unit {0}
 
 -- A frame that begins with these bytes is long or broken, and none of them closes it.
 abbrev pub IsLost : Discipline → ℕ → List ℕ → Type 0

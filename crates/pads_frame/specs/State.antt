@@ -4,7 +4,7 @@ use Rattle.std.specs.Prelude.{◌≡◌, ℕ, ◌+◌, ◌<◌, ◌≤◌, Bool,
 use Rattle.pads_frame.specs.declared.discipline.Discipline.{Discipline}
 use Rattle.pads_frame.specs.declared.discipline.Discipline.TheVariants.{Term, Fixed, Rdw, Whole}
 use Rattle.pads_value.specs.Cuts.{Cut}
-use Rattle.pads_frame.specs.Extents.{extent, has_word, run, word_length}
+use Rattle.pads_frame.specs.Extents.{extent, has_word, word_length}
 use Rattle.pads_frame.specs.Cutting.{cuts}
 use Rattle.pads_frame.specs.Placed.{moved}
 
@@ -21,13 +21,6 @@ pub record State : Type 0 where
 -- the state of a new framer, whose first byte will have this offset
 abbrev pub new_state : Discipline → ℕ → ℕ → State
 new_state discipline max first = record { discipline = discipline; max = max; first = first; passed = 0; held = []; ended = false }
-
--- The first `searched` bytes have no terminator.
-abbrev pub HasSearched : Discipline → ℕ → List ℕ → Type 0
-HasSearched (Term terminator) searched held = run terminator (take searched held) ≡ searched
-HasSearched (Fixed block) searched held = Unit {0}
-HasSearched Rdw searched held = Unit {0}
-HasSearched Whole searched held = Unit {0}
 
 -- how many bytes a framer may hold
 abbrev pub room : State → ℕ
@@ -51,7 +44,7 @@ word_size (Fixed block) = 0
 word_size Rdw = 4
 word_size Whole = 0
 
--- The held bytes with a filler for each byte that was passed over: behind the descriptor word, where the
+-- The held bytes with a filler for each byte that was passed over: after the descriptor word, where the
 -- discipline has one, and otherwise before all held bytes.
 abbrev pub text : Discipline → ℕ → List ℕ → List ℕ
 text discipline passed held =
@@ -81,7 +74,7 @@ closes s = closes_in s.discipline s.max (text_of s) s.ended
 abbrev pub rest : Bool → State → List ℕ → List Cut
 rest ended s more = cuts s.discipline s.max ended s.first 0 (text_of s ++ more)
 
--- Any bytes may come, and behind the end none.
+-- Any bytes may come, and after the end none.
 abbrev pub MayCome : State → Bool → List ℕ → Type 0
 MayCome s ended more = s.ended ≡ true → (ended ≡ true) × (more ≡ [])
 

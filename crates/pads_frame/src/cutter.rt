@@ -33,16 +33,16 @@ pub struct Cutter {
 pub struct Fed {
     /// How many of its first bytes.
     pub took: u64,
-    /// Whether no byte more can be held until a frame is taken.
+    /// Whether all room is taken, so that nothing more can come before a frame is handed out.
     pub full: bool,
 }
 
-/// The input goes on past its greatest length, 2^62 bytes.
+/// The input goes on, past the 2^62 bytes that it may have.
 #[derive(Clone, Copy, Debug, PartialEq, Eq)]
 pub struct TooLong;
 
-/// The offset that no byte of an input has.
-const LAST: u64 = 1 << 62;
+/// How many bytes an input may have.
+const INPUT_LIMIT: u64 = 1 << 62;
 
 /// How many bytes are held beside those of a longest frame: a read of 4,096 and a descriptor word.
 const SPARE: usize = 4100;
@@ -58,6 +58,90 @@ pub struct Place {
 }
 
 impl Cutter {
+    /// A cutter before its first byte, which has offset `first`.
+    pub fn new(
+        alloc: Global,
+        discipline: Discipline,
+        max: u64,
+        first: u64,
+    ) -> Result<Cutter, Memory>
+        requires limit { max ≤ 16777216 }
+        requires fits_limit { FitsLimit discipline max }
+        requires first { first ≤ 2 ^ 62 }
+        ensures state { IfOk result (λ cutter. state_of cutter ≡ new_state discipline max first) }
+        ensures kept { IfOk result IsCutter }
+    {
+        let buffer = Vec::with_capacity(alloc, max as usize + SPARE)?;
+        Ok(Cutter {
+            discipline,
+            max,
+            first,
+            passed: 0,
+            buffer,
+            start: 0,
+            searched: 0,
+            ended: false,
+        })
+    }
+
+    /// Moves the held bytes to the front where so many more don't fit behind them.
+    fn make_room(&mut self, more: usize)
+        requires kept { IsCutter self.old }
+        requires fits { length (held_of self.old) + more ≤ self.old.max + 4100 }
+        ensures same { state_of self.new ≡ state_of self.old }
+        ensures kept { IsCutter self.new }
+        ensures room { vec_len self.new.buffer + more ≤ self.new.max + 4100 }
+    {
+        if self.buffer.len() + more <= self.max as usize + SPARE {
+            return;
+        }
+        compact(&mut self.buffer, self.start);
+        self.start = 0;
+    }
+
+    /// Holds these bytes too.
+    fn hold(&mut self, bytes: &[u8])
+        requires kept { IsCutter self.old }
+        requires fits { length (held_of self.old) + length bytes.now ≤ self.old.max + 4100 }
+        requires below { reach (state_of self.old) + length bytes.now ≤ 2 ^ 62 }
+        ensures holds { state_of self.new ≡ holding (state_of self.old) bytes.now }
+        ensures kept { IsCutter self.new }
+    {
+        self.make_room(bytes.len());
+        append(&mut self.buffer, bytes);
+    }
+
+    /// Whether a byte comes whose offset would be 2^62.
+    fn is_past_end(&self, piece: &[u8]) -> bool
+        requires kept { IsCutter self.now }
+        ensures { IsTrue result ↔ IsPastEnd (state_of self.now) piece.now }
+    {
+        let held = self.buffer.len() - self.start;
+        !piece.is_empty() && self.first + self.passed + held as u64 == INPUT_LIMIT
+    }
+
+    /// Takes what it can of a piece.
+    pub fn feed(&mut self, piece: &[u8]) -> Result<Fed, TooLong>
+        requires kept { IsCutter self.old }
+        ensures too_long { IsErr result ↔ IsPastEnd (state_of self.old) piece.now }
+        ensures gives { FeedGives (state_of self.old) piece.now (state_of self.new) result }
+        ensures kept { IsCutter self.new }
+    {
+        if self.is_past_end(piece) {
+            return Err(TooLong);
+        }
+        let held = self.buffer.len() - self.start;
+        let reach = self.first + self.passed + held as u64;
+        let free = self.max as usize + SPARE - held;
+        let took = piece.len().min(free).min((INPUT_LIMIT - reach) as usize);
+        self.hold(&piece[..took]);
+        Ok(Fed {
+            took: took as u64,
+            full: took == free,
+        })
+    }
+
+    /// What the held bytes say of the frame in work.
     fn look(&self) -> Look
         requires kept { IsCutter self.now }
         ensures { LookGives self.now.discipline self.now.max self.now.passed (held_of self.now) self.now.ended result }
@@ -72,7 +156,7 @@ impl Cutter {
         )
     }
 
-    /// Hands over the place of a frame that was found, and moves on behind it.
+    /// Hands over the place of a frame that was found, and moves on after it.
     fn take(&mut self, found: Extent) -> Place
         requires kept { IsCutter self.old }
         requires found { Finds self.old.discipline self.old.max self.old.passed (held_of self.old) self.old.ended found }
@@ -127,90 +211,8 @@ impl Cutter {
             }
         }
     }
-}
 
-impl Cutter {
-    pub fn new(
-        alloc: Global,
-        discipline: Discipline,
-        max: u64,
-        first: u64,
-    ) -> Result<Cutter, Memory>
-        requires limit { max ≤ 16777216 }
-        requires fits_limit { FitsLimit discipline max }
-        requires first { first ≤ 2 ^ 62 }
-        ensures state { IfOk result (λ cutter. state_of cutter ≡ new_state discipline max first) }
-        ensures kept { IfOk result IsCutter }
-    {
-        let buffer = Vec::with_capacity(alloc, max as usize + SPARE)?;
-        Ok(Cutter {
-            discipline,
-            max,
-            first,
-            passed: 0,
-            buffer,
-            start: 0,
-            searched: 0,
-            ended: false,
-        })
-    }
-
-    /// Moves the held bytes to the front where so many more don't fit behind them.
-    fn make_room(&mut self, more: usize)
-        requires kept { IsCutter self.old }
-        requires fits { length (held_of self.old) + more ≤ self.old.max + 4100 }
-        ensures same { state_of self.new ≡ state_of self.old }
-        ensures kept { IsCutter self.new }
-        ensures room { vec_len self.new.buffer + more ≤ self.new.max + 4100 }
-    {
-        if self.buffer.len() + more <= self.max as usize + SPARE {
-            return;
-        }
-        compact(&mut self.buffer, self.start);
-        self.start = 0;
-    }
-
-    /// Holds these bytes too.
-    fn hold(&mut self, bytes: &[u8])
-        requires kept { IsCutter self.old }
-        requires fits { length (held_of self.old) + length bytes.now ≤ self.old.max + 4100 }
-        requires below { reach (state_of self.old) + length bytes.now ≤ 2 ^ 62 }
-        ensures holds { state_of self.new ≡ holding (state_of self.old) bytes.now }
-        ensures kept { IsCutter self.new }
-    {
-        self.make_room(bytes.len());
-        append(&mut self.buffer, bytes);
-    }
-
-    fn is_past_end(&self, piece: &[u8]) -> bool
-        requires kept { IsCutter self.now }
-        ensures { IsTrue result ↔ IsPastEnd (state_of self.now) piece.now }
-    {
-        let held = self.buffer.len() - self.start;
-        !piece.is_empty() && self.first + self.passed + held as u64 == LAST
-    }
-
-    /// Takes what it can of a piece.
-    pub fn feed(&mut self, piece: &[u8]) -> Result<Fed, TooLong>
-        requires kept { IsCutter self.old }
-        ensures too_long { IsErr result ↔ IsPastEnd (state_of self.old) piece.now }
-        ensures gives { FeedGives (state_of self.old) piece.now (state_of self.new) result }
-        ensures kept { IsCutter self.new }
-    {
-        if self.is_past_end(piece) {
-            return Err(TooLong);
-        }
-        let held = self.buffer.len() - self.start;
-        let reach = self.first + self.passed + held as u64;
-        let free = self.max as usize + SPARE - held;
-        let took = piece.len().min(free).min((LAST - reach) as usize);
-        self.hold(&piece[..took]);
-        Ok(Fed {
-            took: took as u64,
-            full: took == free,
-        })
-    }
-
+    /// The input has ended.
     pub fn finish(&mut self)
         requires kept { IsCutter self.old }
         ensures state { state_of self.new ≡ record (state_of self.old) { ended = true } }

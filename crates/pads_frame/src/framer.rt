@@ -24,8 +24,7 @@ pub struct Framer {
 }
 
 impl Model for Framer {
-    ghost use Rattle.pads_frame.specs.Next.{SameInput};
-    ghost use Rattle.pads_frame.specs.State.{Owes, closes, room, State};
+    ghost use Rattle.pads_frame.specs.State.{State};
 
     ghost Value = { State };
 

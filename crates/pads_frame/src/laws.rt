@@ -12,7 +12,7 @@ ghost use Rattle.pads_frame.specs.Placed.{moved};
 /// descriptor word before one.
 pub fn frames_take_up_the_input()
     ensures tiles { (discipline : Discipline) (max : ℕ) (bytes : List ℕ) → HasBlock discipline
-        → Tiles discipline bytes 0 (records discipline max bytes) }
+        → Tiles discipline max bytes 0 (records discipline max bytes) }
 {}
 
 /// The frames that are closed in an input are all its frames, or all but the last.

@@ -2,8 +2,8 @@ ghost use Rattle.std.specs.Prelude.{◌≡◌, ◌+◌, ◌*◌, ◌<◌, ◌≤
 ghost use Rattle.pads_frame.specs.declared.discipline.Discipline.TheVariants.{Term, Fixed, Rdw, Whole};
 ghost use Rattle.pads_frame.specs.Extents.{broken_extent, mark_of, run, word_length, has_word};
 ghost use Rattle.pads_frame.specs.Fits.{FitsLimit};
-ghost use Rattle.pads_frame.specs.State.{HasSearched, MayPass};
-ghost use Rattle.pads_frame.specs.Looks.{LookGives, OpenGives};
+ghost use Rattle.pads_frame.specs.State.{MayPass};
+ghost use Rattle.pads_frame.specs.Looks.{HasSearched, LookGives, OpenGives};
 
 use crate::discipline::{Discipline, Extent};
 use byteorder::{BigEndian, ByteOrder};
