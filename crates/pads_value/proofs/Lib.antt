@@ -1,1 +1,2 @@
+pub mod HeaderRows
 pub mod NameLemmas

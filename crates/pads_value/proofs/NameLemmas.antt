@@ -1,6 +1,6 @@
 -- What a table of names keeps, from what the set of names below it says.
-use Rattle.std.proofs.Common.{◌≡◌, ℕ, ◌+◌, Bool, true, false, not, cond, if◌then◌else◌, List, [], ◌∷◌, ◌++◌, length, map, position, nat_eq, nat_lt, Option, Some, None, is_some, refl, sym, ap, ◌∙◌, subst, true≢false}
-use Rattle.std.specs.List.{prefix_len, position_or_len, list_any}
+use Rattle.std.proofs.Common.{◌≡◌, ℕ, ◌+◌, Bool, false, not, cond, if◌then◌else◌, List, [], ◌∷◌, ◌++◌, length, map, position, nat_eq, Some, None, refl, sym, ap, ◌∙◌}
+use Rattle.std.specs.List.{prefix_len, list_any}
 use Rattle.std.proofs.lemmas.List.{length-map, map-append}
 use Rattle.std.specs.declared.vec.Vec.{Vec}
 use Rattle.std.specs.declared.alloc.Global.{Global}

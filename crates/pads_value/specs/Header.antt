@@ -1,6 +1,6 @@
 -- The header rule: class, cause and count of a node, from its own cause and its kids.
 -- Source: the PADS manual's parse descriptors, whose error counts are here totals over all nodes.
-use Rattle.std.specs.Prelude.{◌≡◌, ℕ, ◌+◌, ◌-◌, ◌^◌, min, Bool, true, false, if◌then◌else◌, List, sum_by, Option, None, Some}
+use Rattle.std.specs.Prelude.{ℕ, ◌+◌, ◌-◌, ◌^◌, min, Bool, true, false, if◌then◌else◌, List, sum_by, Option, None, Some}
 use Rattle.std.specs.List.{list_all}
 use Rattle.pads_value.specs.declared.cause.Cause.{Cause}
 use Rattle.pads_value.specs.declared.descriptor.Class.{Class}

@@ -26,3 +26,6 @@ pub use name_table::NameTable;
 pub use reading::Read;
 pub use row::{Row, Rows};
 pub use value::{Val, Vals};
+
+#[cfg(test)]
+mod tests;

@@ -1,7 +1,3 @@
-use Rattle.std.proofs.Common.{◌≡◌, ◌++◌, ◌∷◌, [], false, if◌then◌else◌, List, Bool, nat_eq, sym, ◌∙◌, ap, is_some}
-use Rattle.std.specs.List.{list_any}
-use lib.Pointwise.{pointwise}
-use Rattle.pads_value.specs.Names.{NumbersName}
 use Rattle.pads_value.proofs.NameLemmas.{numbered-there, numbered-last}
 use Rattle.pads_value.proofs.name_table.NameTable.add.Goals as goal
 
