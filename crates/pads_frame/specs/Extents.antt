@@ -1,6 +1,7 @@
--- How the first frame of a run of bytes lies in it, for each discipline. The rules are those of PADS's
--- record disciplines: a terminator byte (newline records), blocks of a fixed length, IBM's variable
--- records behind a record descriptor word (RDW), and no records at all.
+-- How the first frame of a run of bytes lies in it, for each discipline. The rules are those of the
+-- record disciplines of PADS/C: records closed by a terminator character, of a fixed width, of variable
+-- length behind IBM's record descriptor word (RDW), and none at all. What a limit, a last record without
+-- a terminator, a last block that is short and a bad word make of a frame are this project's rules.
 use Rattle.std.specs.Prelude.{ℕ, ◌+◌, ◌-◌, ◌*◌, Bool, true, false, ◌&&◌, ◌==◌, nat_le, nat_lt, List, [], ◌∷◌, length, min, slice_index, if◌then◌else◌}
 use Rattle.pads_value.specs.declared.frame.Mark.{Mark}
 use Rattle.pads_value.specs.declared.frame.Mark.TheVariants.{Plain, Short, Long, Broken}
