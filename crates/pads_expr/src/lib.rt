@@ -4,6 +4,7 @@
 mod expr;
 mod numbers;
 mod operators;
+mod parts;
 mod worth;
 
 pub use expr::{BinOp, Expr};
