@@ -1,6 +1,7 @@
 //! Expressions of a description: what they are, and what they are worth where names stand for values.
 #![tactic(auto)]
 
+mod eval;
 mod expr;
 mod numbers;
 mod operators;
