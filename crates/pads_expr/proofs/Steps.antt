@@ -1,14 +1,13 @@
 -- The equations of the value, form by form, and what is told of them.
 use Rattle.std.proofs.Common.{◌≡◌, ◌∙◌, sym, ap, refl, ℕ, ℤ, List, ◌∷◌, Bool, true, false, Option, Some, None, if◌then◌else◌}
 use Rattle.std.specs.Prelude.{option_and_then}
-use Rattle.pads_value.specs.declared.value.Val.TheVariants as val
 use Rattle.pads_expr.specs.declared.expr.BinOp.{BinOp}
 use Rattle.pads_expr.specs.declared.expr.Expr.{Expr, Expr-F, fold-roll-Expr, roll-Expr, map-Expr}
 use Rattle.pads_expr.specs.declared.expr.Expr.TheVariants as expr
 use Rattle.pads_expr.specs.Operators.{between, decides, operate}
 use Rattle.pads_expr.specs.Parts.{worth_or, part_of, arm_of, is_arm_of, element_of, length_of, minus, negation}
 use Rattle.pads_expr.specs.Ranges.{for_all}
-use Rattle.pads_expr.specs.Value.{Pairs, value, step, variable_of}
+use Rattle.pads_expr.specs.Value.{Pairs, value, step, variable_of, at_number}
 use Rattle.pads_expr.specs.Worth.{Worth, Num, Text, Truth, Part, Answer, Is, Absent, Ill, on, told}
 
 -- one layer at a time
@@ -54,7 +53,7 @@ value-Bin op left right env = ap (λ e. value e env) (sym (expr.rolls-Bin op lef
 
 pub value-Forall : (name : ℕ) (first last body : Expr) (env : Pairs) →
     value (expr.Forall name first last body) env ≡
-    on (value first env) (λ a. on (value last env) (λ b. for_all (λ number. value body ((name, val.Num number) ∷ env)) a b))
+    on (value first env) (λ a. on (value last env) (λ b. for_all (at_number (value body) name env) a b))
 value-Forall name first last body env =
     ap (λ e. value e env) (sym (expr.rolls-Forall name first last body)) ∙ value-roll (Expr-F.Forall name first last body) env
 
@@ -69,4 +68,18 @@ told-on-some (Is found) operator worth some = let e : worth ≡ found = cc in ap
 told-on-some Absent operator worth some = cc
 told-on-some Ill operator worth some = cc
 
-pub ruleset values = (value-Num, value-Text, value-Truth, value-Var, value-Part, value-Arm, value-Elem, value-IsArm, value-Len, value-Neg, value-Not, value-Bin, value-Forall, told-on-none, told-on-some)
+-- The right operand counts where the left one doesn't decide.
+pub told-between : (op : BinOp) (left right : Answer) (a b : Worth) → Some a ≡ told left → decides op a ≡ false → Some b ≡ told right →
+    told (between op left right) ≡ told (operate op a b)
+told-between op left right a b some_left undecided some_right =
+    told-on-some left _ a some_left ∙ rw undecided (told-on-some right (operate op a) b some_right)
+
+-- the same of an operator between two expressions
+pub operated : (e left right : Expr) (op : BinOp) (env : Pairs) (l r : Expr) (a b : Worth) (outcome : Option Worth) → e ≡ expr.Bin op left right →
+    l ≡ left → Some a ≡ told (value l env) → decides op a ≡ false → r ≡ right → Some b ≡ told (value r env) → outcome ≡ told (operate op a b) →
+    outcome ≡ told (value e env)
+operated e left right op env l r a b outcome is_bin is_l some_a undecided is_r some_b is_outcome =
+    rw (is_bin, value-Bin op left right env, ← is_l, ← is_r)
+      (is_outcome ∙ sym (told-between op (value l env) (value r env) a b some_a undecided some_b))
+
+pub ruleset values = (value-Num, value-Text, value-Truth, value-Var, value-Part, value-Arm, value-Elem, value-IsArm, value-Len, value-Neg, value-Not, value-Bin, value-Forall, told-on-none, told-on-some, told-between)

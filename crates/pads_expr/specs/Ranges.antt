@@ -1,5 +1,5 @@
 -- `Pforall`: whether something holds for each number of a range.
-use Rattle.std.specs.Prelude.{ℕ, zero, suc, ◌+◌, nat_lt, ℤ, pos, ◌+ℤ◌, ◌-ℤ◌, unsigned_abs, int_lt, Bool, true, if◌then◌else◌}
+use Rattle.std.specs.Prelude.{ℕ, zero, suc, ◌+◌, nat_lt, ℤ, pos, ◌+ℤ◌, ◌-ℤ◌, unsigned_abs, int_lt, Bool, true, if◌then◌else◌, Option, Some, None}
 use Rattle.pads_expr.specs.declared.expr.BinOp.TheVariants.{And}
 use Rattle.pads_expr.specs.Operators.{between}
 use Rattle.pads_expr.specs.Worth.{Worth, Num, Text, Truth, Part, Answer, Is, Absent, Ill}
@@ -8,23 +8,28 @@ use Rattle.pads_expr.specs.Worth.{Worth, Num, Text, Truth, Part, Answer, Is, Abs
 abbrev pub longest_range : ℕ
 longest_range = 1048576
 
--- How many numbers there are from `first` to `last`, where `last` isn't below `first`.
+-- How many numbers there are from `first` to `last`: none where `last` is below `first`.
 abbrev pub count_between : ℤ → ℤ → ℕ
-count_between first last = unsigned_abs (last -ℤ first) + 1
+count_between first last = if int_lt last first then 0 else unsigned_abs (last -ℤ first) + 1
+
+-- The same where they aren't too many.
+abbrev pub range_size : ℤ → ℤ → Option ℕ
+range_size first last = if nat_lt longest_range (count_between first last) then None else Some (count_between first last)
 
 -- `&&` of what `holds` gives for `count` numbers from `first` on, from the left; of no number it is true.
 abbrev pub conjunction : (holds : ℤ → Answer) → ℤ → ℕ → Answer
 conjunction holds first zero = Is (Truth true)
 conjunction holds first (suc count) = between And (conjunction holds first count) (holds (first +ℤ pos count))
 
--- The same from `first` to `last`: true where the range is empty, no value where it is too long.
+-- The same for the numbers of a range, without a value where they are too many.
 abbrev pub over_range : (holds : ℤ → Answer) → ℤ → ℤ → Answer
-over_range holds first last =
-    if int_lt last first then Is (Truth true)
-    else (if nat_lt longest_range (count_between first last) then Absent
-    else conjunction holds first (count_between first last))
+over_range holds first last = over (range_size first last)
+  where
+  over : Option ℕ → Answer
+  over None = Absent
+  over (Some count) = conjunction holds first count
 
--- Both bounds are numbers.
+-- The same from one bound to the other. Both are numbers.
 abbrev pub for_all : (holds : ℤ → Answer) → Worth → Worth → Answer
 for_all holds (Num first) (Num last) = over_range holds first last
 for_all holds (Num first) (Text _) = Ill

@@ -1,5 +1,5 @@
 -- The value of an expression where names stand for values.
-use Rattle.std.specs.Prelude.{ℕ, ◌==◌, List, ◌∷◌, Option, option_map, find}
+use Rattle.std.specs.Prelude.{ℕ, ℤ, ◌==◌, List, ◌∷◌, Option, option_map, find}
 use Rattle.pads_value.specs.declared.value.Val.{Val}
 use Rattle.pads_value.specs.declared.value.Val.TheVariants as val
 use Rattle.pads_expr.specs.declared.expr.Expr.{Expr, Expr-F, fold-Expr}
@@ -20,6 +20,10 @@ found pairs name = option_map (λ pair. pair.1) (find (λ pair. pair.0 == name) 
 abbrev pub variable_of : Pairs → ℕ → Answer
 variable_of pairs name = worth_or Absent (found pairs name)
 
+-- What a body gives where its variable stands for a number.
+abbrev pub at_number : (Pairs → Answer) → ℕ → Pairs → ℤ → Answer
+at_number body name env number = body ((name, val.Num number) ∷ env)
+
 -- One form of expression, from the values of its operands.
 abbrev pub step : Expr-F (Pairs → Answer) → Pairs → Answer
 step (Expr-F.Num number) env = Is (Num number)
@@ -35,7 +39,7 @@ step (Expr-F.Neg operand) env = on (operand env) minus
 step (Expr-F.Not operand) env = on (operand env) negation
 step (Expr-F.Bin op left right) env = between op (left env) (right env)
 step (Expr-F.Forall name first last body) env =
-    on (first env) (λ a. on (last env) (λ b. for_all (λ number. body ((name, val.Num number) ∷ env)) a b))
+    on (first env) (λ a. on (last env) (λ b. for_all (at_number body name env) a b))
 
 -- The value of an expression in an environment.
 unfoldable pub value : Expr → Pairs → Answer

@@ -28,6 +28,22 @@ told (Is worth) = Some worth
 told Absent = None
 told Ill = None
 
+-- Whether it is told to be true: a condition without a value isn't met.
+abbrev pub is_true : Option Worth → Bool
+is_true None = false
+is_true (Some (Num number)) = false
+is_true (Some (Text text)) = false
+is_true (Some (Truth truth)) = truth
+is_true (Some (Part value)) = false
+
+-- The truth value alone: what is told of `true && a`, by what is told of `a`.
+abbrev pub truth_alone : Option Worth → Option Worth
+truth_alone None = None
+truth_alone (Some (Num number)) = None
+truth_alone (Some (Text text)) = None
+truth_alone (Some (Truth truth)) = Some (Truth truth)
+truth_alone (Some (Part value)) = None
+
 -- An operator on an operand: where the operand has no value, or is ill-sorted, so is the whole.
 abbrev pub on : Answer → (Worth → Answer) → Answer
 on (Is worth) operator = operator worth

@@ -1,12 +1,12 @@
-ghost use Rattle.std.specs.Prelude.{◌≡◌, ℤ, pos, ◌+ℤ◌, ◌<◌, FitsSigned, option_map, reverse, ◌∷◌};
+ghost use Rattle.std.specs.Prelude.{◌≡◌, ℤ, pos, ◌+ℤ◌, ◌<◌, FitsSigned, option_map, reverse};
 ghost use Rattle.std.specs.Int.{w128};
 ghost use Rattle.std.specs.Option.{option_copied};
-ghost use Rattle.pads_value.specs.declared.value.Val.TheVariants as val;
-ghost use Rattle.pads_expr.specs.Parts.{worth_or};
-ghost use Rattle.pads_expr.specs.Ranges.{conjunction, count_between};
+ghost use Rattle.pads_expr.specs.Ranges as ranges;
+ghost use Rattle.pads_expr.specs.Ranges.{range_size};
 ghost use Rattle.pads_expr.specs.Scopes.{pairs_of};
 ghost use Rattle.pads_expr.specs.Seen.{seen};
-ghost use Rattle.pads_expr.specs.Value.{value, found, variable_of};
+ghost use Rattle.pads_expr.specs.Value.{value, found, variable_of, at_number};
+ghost use Rattle.pads_expr.specs.Worth as answer;
 ghost use Rattle.pads_expr.specs.Worth.{told};
 
 use crate::operators::{apply, is_decided};
@@ -18,6 +18,7 @@ use pads_value::Val;
 pub type Binding = (u16, Val);
 
 /// An environment with the variables of the `Pforall`s that are open, which live on the stack.
+#[derive(Clone, Copy)]
 enum Scope<'s, 'a> {
     Base(&'a [Binding]),
     Bind(u16, i128, &'s Scope<'s, 'a>),
@@ -43,14 +44,40 @@ fn variable<'a>(scope: &Scope<'_, 'a>, name: u16) -> Option<Res<'a>>
     }
 }
 
-/// How many numbers there are from `first` to `last`, where `Pforall` goes over so many.
+/// How many numbers there are from `first` to `last`, where they aren't too many for a `Pforall`.
 fn range_length(first: i128, last: i128) -> Option<u32>
+    ensures length { result ≡ range_size first last }
 {
     if last < first {
         return Some(0);
     }
-    let distance = last.checked_sub(first)?;
+    let distance = last.abs_diff(first);
     if distance < 1_048_576 { Some(distance as u32 + 1) } else { None }
+}
+
+/// The number so many steps after the first.
+fn number_at(first: i128, step: u32) -> i128
+    requires fits { FitsSigned w128 (first +ℤ pos step) }
+    ensures number { result ≡ first +ℤ pos step }
+{
+    first + step as i128
+}
+
+/// Whether it is the truth value true.
+fn is_true(worth: Option<Res>) -> bool
+    ensures truth { result ≡ answer.is_true (option_map seen worth.entry) }
+{
+    matches!(worth, Some(Res::Truth(true)))
+}
+
+/// The truth value alone: any other worth is none.
+fn truth_alone<'a>(worth: Option<Res<'a>>) -> Option<Res<'a>>
+    ensures truth { option_map seen result ≡ answer.truth_alone (option_map seen worth.entry) }
+{
+    match worth {
+        Some(Res::Truth(truth)) => Some(Res::Truth(truth)),
+        _ => None,
+    }
 }
 
 /// The value of an expression in a scope.
@@ -79,6 +106,29 @@ fn evaluate<'a>(e: &'a Expr, scope: &Scope<'_, 'a>) -> Option<Res<'a>>
                 apply(*op, left, evaluate(right.get(), scope)?)
             }
         }
-        Expr::Forall(name, first, last, body) => None,
+        Expr::Forall(name, first, last, body) => {
+            let first = evaluate(first.get(), scope)?;
+            let last = evaluate(last.get(), scope)?;
+            for_all(*name, first, last, body.get(), scope)
+        }
     }
+}
+
+/// Whether a body is true for each number from `first` to `last`, with the variable bound to it.
+#[cycle(evaluate)]
+fn for_all<'a>(name: u16, first: Res<'a>, last: Res<'a>, body: &'a Expr, scope: &Scope<'_, 'a>) -> Option<Res<'a>>
+    ensures value { option_map seen result ≡ told (ranges.for_all (at_number (value body.now) name (pairs_of scope.now)) (seen first.entry) (seen last.entry)) }
+{
+    let (Res::Num(first), Res::Num(last)) = (first, last) else {
+        return None;
+    };
+    let length = range_length(first, last)?;
+    for step in 0..length {
+        let number = number_at(first, step);
+        let holds = evaluate(body, &Scope::Bind(name, number, &*scope));
+        if !is_true(holds) {
+            return truth_alone(holds);
+        }
+    }
+    Some(Res::Truth(true))
 }
