@@ -3,8 +3,8 @@ use Rattle.std.proofs.Common.{◌≡◌, ◌∙◌, sym, ap, ◌∷◌, ℕ, ℤ
 use Rattle.std.proofs.lemmas.Int.{to_z-of_z}
 use Rattle.std.specs.Int.{w128}
 use Rattle.pads_value.specs.declared.value.Val.TheVariants as val
-use Rattle.pads_expr.specs.declared.eval.Scope.{Scope, Scope-F, fold-roll-Scope}
-use Rattle.pads_expr.specs.declared.eval.Scope.TheVariants as scope
+use Rattle.pads_expr.specs.declared.evaluation.Scope.{Scope, Scope-F, fold-roll-Scope}
+use Rattle.pads_expr.specs.declared.evaluation.Scope.TheVariants as scope
 use Rattle.pads_expr.specs.Scopes.{pairs_of, scope_step}
 use Rattle.pads_expr.specs.Value.{Pairs}
 

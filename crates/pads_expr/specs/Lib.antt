@@ -1,3 +1,4 @@
+pub mod Environment
 pub mod Numbers
 pub mod Operators
 pub mod Parts

@@ -1,7 +1,7 @@
 -- The environment that a scope on the stack stands for.
 use Rattle.std.specs.Prelude.{List, ◌∷◌, reverse}
 use Rattle.pads_value.specs.declared.value.Val.TheVariants as val
-use Rattle.pads_expr.specs.declared.eval.Scope.{Scope, Scope-F, fold-Scope}
+use Rattle.pads_expr.specs.declared.evaluation.Scope.{Scope, Scope-F, fold-Scope}
 use Rattle.pads_expr.specs.Value.{Pairs}
 
 abbrev pub scope_step : Scope-F Pairs → Pairs

@@ -11,11 +11,8 @@ ghost use Rattle.pads_expr.specs.Worth.{told};
 
 use crate::operators::{apply, is_decided};
 use crate::parts::worth;
-use crate::{Expr, Res};
+use crate::{Binding, Env, Expr, Res};
 use pads_value::Val;
-
-/// A name with what it stands for.
-pub type Binding = (u16, Val);
 
 /// An environment with the variables of the `Pforall`s that are open, which live on the stack.
 #[derive(Clone, Copy)]
@@ -131,4 +128,20 @@ fn for_all<'a>(name: u16, first: Res<'a>, last: Res<'a>, body: &'a Expr, scope: 
         }
     }
     Some(Res::Truth(true))
+}
+
+/// The value of an expression where the last binding of a name counts. It takes no memory; texts and parts
+/// are lent. `None` exactly where the expression has no value or is ill-sorted.
+pub fn eval_in<'a>(e: &'a Expr, bindings: &'a [Binding]) -> Option<Res<'a>>
+    ensures value { option_map seen result ≡ told (value e.now (reverse bindings.now)) }
+{
+    evaluate(e, &Scope::Base(bindings))
+}
+
+/// The value of an expression in an environment. It takes no memory; texts and parts are lent. `None`
+/// exactly where the expression has no value or is ill-sorted.
+pub fn eval<'a>(e: &'a Expr, env: &'a Env) -> Option<Res<'a>>
+    ensures value { option_map seen result ≡ told (value e.now env.now.pairs) }
+{
+    eval_in(e, env.as_slice())
 }

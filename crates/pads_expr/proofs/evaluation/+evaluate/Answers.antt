@@ -5,7 +5,7 @@ use Rattle.std.proofs.lemmas.Int.{to_z-of_z}
 use Rattle.pads_expr.proofs.Bindings.{bound_in}
 use Rattle.pads_expr.proofs.Conjunctions.{cut_short}
 use Rattle.pads_expr.proofs.Steps.{operated}
-use Rattle.pads_expr.proofs.eval.+evaluate.Goals as goal
+use Rattle.pads_expr.proofs.evaluation.+evaluate.Goals as goal
 
 pub evaluate-returns-in_ok-evaluate-in-Bin : goal.evaluate-returns-in_ok-evaluate-in-Bin
 evaluate-returns-in_ok-evaluate-in-Bin t c = record { value =
