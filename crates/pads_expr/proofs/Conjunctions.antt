@@ -1,5 +1,5 @@
 -- A conjunction over numbers, as far as it has come.
-use Rattle.std.proofs.Common.{◌≡◌, ◌∙◌, ◌∷◌, sym, ap, refl, arith, add-one, zero-add, ℕ, zero, suc, ◌+◌, ◌-◌, ◌<◌, ◌≤◌, ◌^◌, ℤ, pos, ◌+ℤ◌, nat_lt, if◌then◌else◌, FitsSigned, Bool, true, false, Option, Some, None}
+use Rattle.std.proofs.Common.{◌≡◌, ◌∙◌, ◌∷◌, sym, ap, refl, arith, add-one, zero-add, ℕ, zero, suc, ◌+◌, ◌-◌, ◌<◌, ℤ, pos, ◌+ℤ◌, nat_lt, if◌then◌else◌, FitsSigned, Bool, true, false, Option, Some, None}
 use Rattle.std.proofs.lemmas.Int.{ints}
 use Rattle.std.specs.Int.{w128}
 use Rattle.pads_expr.specs.declared.expr.BinOp.TheVariants.{And}
@@ -20,9 +20,9 @@ in_range_size first last step size fits_first fits_last is_size inside =
     let e : size ≡ count_between first last = size_is (nat_lt longest_range (count_between first last)) is_size in
     in_range first last step fits_first fits_last (rw (← e) inside)
   where
-  size_is : {size count : ℕ} (b : Bool) → Some size ≡ (if b then None else Some count) → size ≡ count
-  size_is true e = cc
-  size_is false e = cc
+    size_is : {size count : ℕ} (b : Bool) → Some size ≡ (if b then None else Some count) → size ≡ count
+    size_is true e = cc
+    size_is false e = cc
 
 -- where all that came before is true, what holds next decides
 next : (a b : Answer) → told a ≡ Some (Truth true) → told (between And a b) ≡ truth_alone (told b)
@@ -99,7 +99,7 @@ module _ (holds : ℤ → Answer) (first : ℤ) where
       let one : told (conjunction holds first (suc count)) ≡ truth_alone here = next (conjunction holds first count) _ so_far ∙ ap truth_alone (sym e) in
       let n : size ≡ (size - suc count) + suc count = omega arith in
       let all : told (conjunction holds first size) ≡ truth_alone here =
-          rw n (settled_after (suc count) (size - suc count) (ap settles one ∙ not_true_settles here so) ∙ one) in
+      rw n (settled_after (suc count) (size - suc count) (ap settles one ∙ not_true_settles here so) ∙ one) in
       rw (← is_size) all
 
   -- none is left
@@ -117,4 +117,4 @@ cut_short body name env bound v w first last number count size here outcome so i
     so_far is_number is_bound is_here is_so not_so is_size below is_outcome =
     let e : here ≡ told (at_number (value body) name env (first +ℤ pos count)) = is_here ∙ rw (is_bound, is_number) refl in
     rw (is_first, is_last)
-      (is_outcome ∙ sym (settled (at_number (value body) name env) first last count size here so_far e (sym is_so ∙ not_so) is_size below))
+    (is_outcome ∙ sym (settled (at_number (value body) name env) first last count size here so_far e (sym is_so ∙ not_so) is_size below))

@@ -1,19 +1,23 @@
 -- The equations of the value, form by form, and what is told of them.
-use Rattle.std.proofs.Common.{◌≡◌, ◌∙◌, sym, ap, refl, ℕ, ℤ, List, ◌∷◌, Bool, true, false, Option, Some, None, if◌then◌else◌}
-use Rattle.std.specs.Prelude.{option_and_then}
+use Rattle.std.proofs.Common.{◌≡◌, ◌∙◌, sym, ap, refl, ℕ, ℤ, List, Bool, false, Option, Some, None}
 use Rattle.pads_expr.specs.declared.expr.BinOp.{BinOp}
-use Rattle.pads_expr.specs.declared.expr.Expr.{Expr, Expr-F, fold-roll-Expr, roll-Expr, map-Expr}
+use Rattle.pads_expr.specs.declared.expr.Expr.{Expr, Expr-F, fold-roll-Expr, fold_out-Expr, roll-Expr, out-Expr, map-Expr}
 use Rattle.pads_expr.specs.declared.expr.Expr.TheVariants as expr
 use Rattle.pads_expr.specs.Operators.{between, decides, operate}
-use Rattle.pads_expr.specs.Parts.{worth_or, part_of, arm_of, is_arm_of, element_of, length_of, minus, negation}
+use Rattle.pads_expr.specs.Parts.{part_of, arm_of, is_arm_of, element_of, length_of, minus, negation}
 use Rattle.pads_expr.specs.Ranges.{for_all}
 use Rattle.pads_expr.specs.Value.{Pairs, value, step, variable_of, at_number}
-use Rattle.pads_expr.specs.Worth.{Worth, Num, Text, Truth, Part, Answer, Is, Absent, Ill, on, told}
+use Rattle.pads_expr.specs.Worth.{Worth, Num, Text, Truth, Answer, Is, Absent, Ill, on, told}
 
 -- one layer at a time
 pub value-roll : (layer : Expr-F Expr) (env : Pairs) → value (roll-Expr layer) env ≡ step (map-Expr Expr (Pairs → Answer) value layer) env
 unfolding value
 value-roll layer env = ap (λ (f : Pairs → Answer). f env) (fold-roll-Expr (Pairs → Answer) step layer)
+
+-- the same of an expression that is opened
+pub value-out : (e : Expr) (env : Pairs) → value e env ≡ step (map-Expr Expr (Pairs → Answer) value (out-Expr e)) env
+unfolding value
+value-out e env = ap (λ (f : Pairs → Answer). f env) (fold_out-Expr (Pairs → Answer) step e)
 
 pub value-Num : (number : ℤ) (env : Pairs) → value (expr.Num number) env ≡ Is (Num number)
 value-Num number env = ap (λ e. value e env) (sym (expr.rolls-Num number)) ∙ value-roll (Expr-F.Num number) env
@@ -80,6 +84,6 @@ pub operated : (e left right : Expr) (op : BinOp) (env : Pairs) (l r : Expr) (a 
     outcome ≡ told (value e env)
 operated e left right op env l r a b outcome is_bin is_l some_a undecided is_r some_b is_outcome =
     rw (is_bin, value-Bin op left right env, ← is_l, ← is_r)
-      (is_outcome ∙ sym (told-between op (value l env) (value r env) a b some_a undecided some_b))
+    (is_outcome ∙ sym (told-between op (value l env) (value r env) a b some_a undecided some_b))
 
 pub ruleset values = (value-Num, value-Text, value-Truth, value-Var, value-Part, value-Arm, value-Elem, value-IsArm, value-Len, value-Neg, value-Not, value-Bin, value-Forall, told-on-none, told-on-some, told-between)

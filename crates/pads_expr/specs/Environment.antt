@@ -1,5 +1,5 @@
 -- An environment as its callers see it.
-use Rattle.std.specs.Prelude.{ℕ, List, refl}
+use Rattle.std.specs.Prelude.{ℕ, refl}
 use Rattle.std.specs.Coded.{Coded, code_by, coded×, coded_list, coded_ℕ}
 use Rattle.pads_value.specs.contracts.value.Val as val
 use Rattle.pads_expr.specs.Value.{Pairs}
@@ -14,4 +14,4 @@ pub record Environment : Type 0 where
 abbrev pub environment_code : Coded Environment
 environment_code =
     code_by (Pairs × ℕ) (coded× (coded_list (coded× coded_ℕ val.the_row.coded)) coded_ℕ) (λ env. (env.pairs, env.room))
-      (λ fields. record { pairs = fields.0; room = fields.1 }) (λ _. refl)
+    (λ fields. record { pairs = fields.0; room = fields.1 }) (λ _. refl)

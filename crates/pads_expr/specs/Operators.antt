@@ -1,11 +1,11 @@
 -- The operators between two operands, by the sorts that they take.
-use Rattle.std.specs.Prelude.{ℕ, ℤ, List, Bool, true, false, not, ◌&&◌, ◌||◌, Option, Some, None, if◌then◌else◌}
+use Rattle.std.specs.Prelude.{ℕ, ℤ, List, Bool, false, not, ◌&&◌, ◌||◌, Option, Some, None, if◌then◌else◌}
 use Rattle.std.specs.Ordering.{is_eq, is_lt, is_gt, int_cmp, nat_cmp, bool_cmp}
 use Rattle.std.specs.Cmp.Lexicographic.{slice_cmp}
 use Rattle.std.specs.declared.cmp.Ordering.{Ordering}
 use Rattle.pads_expr.specs.declared.expr.BinOp.{BinOp}
 use Rattle.pads_expr.specs.declared.expr.BinOp.TheVariants.{Or, And, Eq, Ne, Lt, Le, Gt, Ge, Add, Sub, Mul, Div, Rem}
-use Rattle.pads_expr.specs.Worth.{Worth, Num, Text, Truth, Part, Answer, Is, Absent, Ill, on, number_or_absent, truth_or_ill}
+use Rattle.pads_expr.specs.Worth.{Worth, Num, Text, Truth, Answer, Is, Ill, on, number_or_absent, truth_or_ill}
 use Rattle.pads_expr.specs.Numbers.{sum_of, difference_of, product_of, quotient_of, remainder_of}
 
 -- What a comparison says of two things of which the first is less than, equal to or greater than the

@@ -8,15 +8,15 @@ use Rattle.pads_expr.specs.Worth.{Worth, Num, Text, Truth, Part, Answer, Is, Abs
 abbrev pub worth_of : Val → Answer
 worth_of value = by_form (out-Val value)
   where
-  by_form : Val-F Val → Answer
-  by_form Val-F.Unit = Is (Part value)
-  by_form Val-F.Missing = Absent
-  by_form (Val-F.Num number) = Is (Num number)
-  by_form (Val-F.Text text) = Is (Text text)
-  by_form (Val-F.Enum label) = Is (Part value)
-  by_form (Val-F.Tuple parts) = Is (Part value)
-  by_form (Val-F.Branch number inner) = Is (Part value)
-  by_form (Val-F.Array elements) = Is (Part value)
+    by_form : Val-F Val → Answer
+    by_form Val-F.Unit = Is (Part value)
+    by_form Val-F.Missing = Absent
+    by_form (Val-F.Num number) = Is (Num number)
+    by_form (Val-F.Text text) = Is (Text text)
+    by_form (Val-F.Enum label) = Is (Part value)
+    by_form (Val-F.Tuple parts) = Is (Part value)
+    by_form (Val-F.Branch number inner) = Is (Part value)
+    by_form (Val-F.Array elements) = Is (Part value)
 
 -- What the value is worth where there is one, else the answer that is given.
 abbrev pub worth_or : Answer → Option Val → Answer
@@ -27,57 +27,57 @@ worth_or otherwise None = otherwise
 abbrev pub parts_in : Val → List Val
 parts_in value = by_form (out-Val value)
   where
-  by_form : Val-F Val → List Val
-  by_form Val-F.Unit = []
-  by_form Val-F.Missing = []
-  by_form (Val-F.Num number) = []
-  by_form (Val-F.Text text) = []
-  by_form (Val-F.Enum label) = []
-  by_form (Val-F.Tuple parts) = parts
-  by_form (Val-F.Branch number inner) = []
-  by_form (Val-F.Array elements) = []
+    by_form : Val-F Val → List Val
+    by_form Val-F.Unit = []
+    by_form Val-F.Missing = []
+    by_form (Val-F.Num number) = []
+    by_form (Val-F.Text text) = []
+    by_form (Val-F.Enum label) = []
+    by_form (Val-F.Tuple parts) = parts
+    by_form (Val-F.Branch number inner) = []
+    by_form (Val-F.Array elements) = []
 
 -- The elements, if the value is an array.
 abbrev pub elements_in : Val → Option (List Val)
 elements_in value = by_form (out-Val value)
   where
-  by_form : Val-F Val → Option (List Val)
-  by_form Val-F.Unit = None
-  by_form Val-F.Missing = None
-  by_form (Val-F.Num number) = None
-  by_form (Val-F.Text text) = None
-  by_form (Val-F.Enum label) = None
-  by_form (Val-F.Tuple parts) = None
-  by_form (Val-F.Branch number inner) = None
-  by_form (Val-F.Array elements) = Some elements
+    by_form : Val-F Val → Option (List Val)
+    by_form Val-F.Unit = None
+    by_form Val-F.Missing = None
+    by_form (Val-F.Num number) = None
+    by_form (Val-F.Text text) = None
+    by_form (Val-F.Enum label) = None
+    by_form (Val-F.Tuple parts) = None
+    by_form (Val-F.Branch number inner) = None
+    by_form (Val-F.Array elements) = Some elements
 
 -- The branch that a union or optional chose, with its value.
 abbrev pub branch_in : Val → Option (ℕ × Val)
 branch_in value = by_form (out-Val value)
   where
-  by_form : Val-F Val → Option (ℕ × Val)
-  by_form Val-F.Unit = None
-  by_form Val-F.Missing = None
-  by_form (Val-F.Num number) = None
-  by_form (Val-F.Text text) = None
-  by_form (Val-F.Enum label) = None
-  by_form (Val-F.Tuple parts) = None
-  by_form (Val-F.Branch number inner) = Some (number, inner)
-  by_form (Val-F.Array elements) = None
+    by_form : Val-F Val → Option (ℕ × Val)
+    by_form Val-F.Unit = None
+    by_form Val-F.Missing = None
+    by_form (Val-F.Num number) = None
+    by_form (Val-F.Text text) = None
+    by_form (Val-F.Enum label) = None
+    by_form (Val-F.Tuple parts) = None
+    by_form (Val-F.Branch number inner) = Some (number, inner)
+    by_form (Val-F.Array elements) = None
 
 -- What a union, optional or enum chose: the number of its branch or label.
 abbrev pub choice_in : Val → Option ℕ
 choice_in value = by_form (out-Val value)
   where
-  by_form : Val-F Val → Option ℕ
-  by_form Val-F.Unit = None
-  by_form Val-F.Missing = None
-  by_form (Val-F.Num number) = None
-  by_form (Val-F.Text text) = None
-  by_form (Val-F.Enum label) = Some label
-  by_form (Val-F.Tuple parts) = None
-  by_form (Val-F.Branch number inner) = Some number
-  by_form (Val-F.Array elements) = None
+    by_form : Val-F Val → Option ℕ
+    by_form Val-F.Unit = None
+    by_form Val-F.Missing = None
+    by_form (Val-F.Num number) = None
+    by_form (Val-F.Text text) = None
+    by_form (Val-F.Enum label) = Some label
+    by_form (Val-F.Tuple parts) = None
+    by_form (Val-F.Branch number inner) = Some number
+    by_form (Val-F.Array elements) = None
 
 -- Part `number` of a struct.
 abbrev pub part_of : ℕ → Worth → Answer
@@ -93,9 +93,9 @@ arm_of number (Text _) = Ill
 arm_of number (Truth _) = Ill
 arm_of number (Part value) = of_branch (branch_in value)
   where
-  of_branch : Option (ℕ × Val) → Answer
-  of_branch None = Ill
-  of_branch (Some branch) = if branch.0 == number then worth_of branch.1 else Absent
+    of_branch : Option (ℕ × Val) → Answer
+    of_branch None = Ill
+    of_branch (Some branch) = if branch.0 == number then worth_of branch.1 else Absent
 
 -- Whether a union, optional or enum chose the branch or label `number`.
 abbrev pub is_arm_of : ℕ → Worth → Answer
@@ -116,9 +116,9 @@ element_of (Text _) index = Ill
 element_of (Truth _) index = Ill
 element_of (Part value) (Num index) = of_elements (elements_in value)
   where
-  of_elements : Option (List Val) → Answer
-  of_elements None = Ill
-  of_elements (Some elements) = worth_or Absent (item_at elements index)
+    of_elements : Option (List Val) → Answer
+    of_elements None = Ill
+    of_elements (Some elements) = worth_or Absent (item_at elements index)
 element_of (Part value) (Text _) = Ill
 element_of (Part value) (Truth _) = Ill
 element_of (Part value) (Part _) = Ill
@@ -130,9 +130,9 @@ length_of (Text text) = Is (Num (pos (length text)))
 length_of (Truth _) = Ill
 length_of (Part value) = of_elements (elements_in value)
   where
-  of_elements : Option (List Val) → Answer
-  of_elements None = Ill
-  of_elements (Some elements) = Is (Num (pos (length elements)))
+    of_elements : Option (List Val) → Answer
+    of_elements None = Ill
+    of_elements (Some elements) = Is (Num (pos (length elements)))
 
 -- Unary minus.
 abbrev pub minus : Worth → Answer

@@ -1,5 +1,5 @@
 -- `Pforall`: whether something holds for each number of a range.
-use Rattle.std.specs.Prelude.{ℕ, zero, suc, ◌+◌, nat_lt, ℤ, pos, ◌+ℤ◌, ◌-ℤ◌, unsigned_abs, int_lt, Bool, true, if◌then◌else◌, Option, Some, None}
+use Rattle.std.specs.Prelude.{ℕ, zero, suc, ◌+◌, nat_lt, ℤ, pos, ◌+ℤ◌, ◌-ℤ◌, unsigned_abs, int_lt, true, if◌then◌else◌, Option, Some, None}
 use Rattle.pads_expr.specs.declared.expr.BinOp.TheVariants.{And}
 use Rattle.pads_expr.specs.Operators.{between}
 use Rattle.pads_expr.specs.Worth.{Worth, Num, Text, Truth, Part, Answer, Is, Absent, Ill}
@@ -25,9 +25,9 @@ conjunction holds first (suc count) = between And (conjunction holds first count
 abbrev pub over_range : (holds : ℤ → Answer) → ℤ → ℤ → Answer
 over_range holds first last = over (range_size first last)
   where
-  over : Option ℕ → Answer
-  over None = Absent
-  over (Some count) = conjunction holds first count
+    over : Option ℕ → Answer
+    over None = Absent
+    over (Some count) = conjunction holds first count
 
 -- The same from one bound to the other. Both are numbers.
 abbrev pub for_all : (holds : ℤ → Answer) → Worth → Worth → Answer

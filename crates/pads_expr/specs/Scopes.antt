@@ -1,5 +1,5 @@
 -- The environment that a scope on the stack stands for.
-use Rattle.std.specs.Prelude.{List, ◌∷◌, reverse}
+use Rattle.std.specs.Prelude.{◌∷◌, reverse}
 use Rattle.pads_value.specs.declared.value.Val.TheVariants as val
 use Rattle.pads_expr.specs.declared.evaluation.Scope.{Scope, Scope-F, fold-Scope}
 use Rattle.pads_expr.specs.Value.{Pairs}

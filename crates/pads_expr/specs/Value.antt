@@ -6,7 +6,7 @@ use Rattle.pads_expr.specs.declared.expr.Expr.{Expr, Expr-F, fold-Expr}
 use Rattle.pads_expr.specs.Operators.{between}
 use Rattle.pads_expr.specs.Parts.{worth_or, part_of, arm_of, is_arm_of, element_of, length_of, minus, negation}
 use Rattle.pads_expr.specs.Ranges.{for_all}
-use Rattle.pads_expr.specs.Worth.{Worth, Num, Text, Truth, Part, Answer, Is, Absent, Ill, on}
+use Rattle.pads_expr.specs.Worth.{Num, Text, Truth, Answer, Is, Absent, on}
 
 -- An environment: names with their values, the latest binding first.
 abbrev pub Pairs : Type 0

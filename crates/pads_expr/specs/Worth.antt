@@ -1,6 +1,6 @@
 -- What an expression of a description is worth, by the sorts of the PADS profile: whole numbers, texts,
 -- truth values and parts of a record's value.
-use Rattle.std.specs.Prelude.{ℕ, ℤ, Bool, true, false, List, Option, Some, None}
+use Rattle.std.specs.Prelude.{ℕ, ℤ, Bool, false, List, Option, Some, None}
 use Rattle.pads_value.specs.declared.value.Val.{Val}
 
 pub data Worth : Type 0 where

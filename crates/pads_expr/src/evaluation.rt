@@ -6,11 +6,11 @@ ghost use Rattle.pads_expr.specs.Ranges.{range_size};
 ghost use Rattle.pads_expr.specs.Scopes.{pairs_of};
 ghost use Rattle.pads_expr.specs.Seen.{seen};
 ghost use Rattle.pads_expr.specs.Value.{value, found, variable_of, at_number};
-ghost use Rattle.pads_expr.specs.Worth as answer;
 ghost use Rattle.pads_expr.specs.Worth.{told};
 
 use crate::operators::{apply, is_decided};
 use crate::parts::worth;
+use crate::worth::{is_true, truth_alone};
 use crate::{Binding, Env, Expr, Res};
 use pads_value::Val;
 
@@ -36,7 +36,11 @@ fn variable<'a>(scope: &Scope<'_, 'a>, name: u16) -> Option<Res<'a>>
     match scope {
         Scope::Base(bindings) => worth(binding(bindings, name)?),
         Scope::Bind(bound, number, outer) => {
-            if *bound == name { Some(Res::Num(*number)) } else { variable(*outer, name) }
+            if *bound == name {
+                Some(Res::Num(*number))
+            } else {
+                variable(*outer, name)
+            }
         }
     }
 }
@@ -49,7 +53,11 @@ fn range_length(first: i128, last: i128) -> Option<u32>
         return Some(0);
     }
     let distance = last.abs_diff(first);
-    if distance < 1_048_576 { Some(distance as u32 + 1) } else { None }
+    if distance < 1_048_576 {
+        Some(distance as u32 + 1)
+    } else {
+        None
+    }
 }
 
 /// The number so many steps after the first.
@@ -58,23 +66,6 @@ fn number_at(first: i128, step: u32) -> i128
     ensures number { result ≡ first +ℤ pos step }
 {
     first + step as i128
-}
-
-/// Whether it is the truth value true.
-fn is_true(worth: Option<Res>) -> bool
-    ensures truth { result ≡ answer.is_true (option_map seen worth.entry) }
-{
-    matches!(worth, Some(Res::Truth(true)))
-}
-
-/// The truth value alone: any other worth is none.
-fn truth_alone<'a>(worth: Option<Res<'a>>) -> Option<Res<'a>>
-    ensures truth { option_map seen result ≡ answer.truth_alone (option_map seen worth.entry) }
-{
-    match worth {
-        Some(Res::Truth(truth)) => Some(Res::Truth(truth)),
-        _ => None,
-    }
 }
 
 /// The value of an expression in a scope.
@@ -90,7 +81,10 @@ fn evaluate<'a>(e: &'a Expr, scope: &Scope<'_, 'a>) -> Option<Res<'a>>
         Expr::Var(name) => variable(scope, *name),
         Expr::Part(whole, number) => evaluate(whole.get(), scope)?.part(*number),
         Expr::Arm(whole, number) => evaluate(whole.get(), scope)?.arm(*number),
-        Expr::Elem(whole, index) => evaluate(whole.get(), scope)?.element(evaluate(index.get(), scope)?),
+        Expr::Elem(whole, index) => evaluate(whole.get(), scope)?.element(evaluate(
+            index.get(),
+            scope,
+        )?),
         Expr::IsArm(whole, number) => evaluate(whole.get(), scope)?.is_arm(*number),
         Expr::Len(whole) => evaluate(whole.get(), scope)?.length(),
         Expr::Neg(operand) => evaluate(operand.get(), scope)?.minus(),
@@ -113,7 +107,13 @@ fn evaluate<'a>(e: &'a Expr, scope: &Scope<'_, 'a>) -> Option<Res<'a>>
 
 /// Whether a body is true for each number from `first` to `last`, with the variable bound to it.
 #[cycle(evaluate)]
-fn for_all<'a>(name: u16, first: Res<'a>, last: Res<'a>, body: &'a Expr, scope: &Scope<'_, 'a>) -> Option<Res<'a>>
+fn for_all<'a>(
+    name: u16,
+    first: Res<'a>,
+    last: Res<'a>,
+    body: &'a Expr,
+    scope: &Scope<'_, 'a>,
+) -> Option<Res<'a>>
     ensures value { option_map seen result ≡ told (ranges.for_all (at_number (value body.now) name (pairs_of scope.now)) (seen first.entry) (seen last.entry)) }
 {
     let (Res::Num(first), Res::Num(last)) = (first, last) else {

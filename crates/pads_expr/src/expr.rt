@@ -52,12 +52,19 @@ impl Expr {
             Expr::Var(name) => Expr::Var(*name),
             Expr::Part(whole, number) => Expr::Part(copy_boxed(alloc, whole)?, *number),
             Expr::Arm(whole, number) => Expr::Arm(copy_boxed(alloc, whole)?, *number),
-            Expr::Elem(whole, index) => Expr::Elem(copy_boxed(alloc, whole)?, copy_boxed(alloc, index)?),
+            Expr::Elem(whole, index) => Expr::Elem(
+                copy_boxed(alloc, whole)?,
+                copy_boxed(alloc, index)?,
+            ),
             Expr::IsArm(whole, number) => Expr::IsArm(copy_boxed(alloc, whole)?, *number),
             Expr::Len(whole) => Expr::Len(copy_boxed(alloc, whole)?),
             Expr::Neg(operand) => Expr::Neg(copy_boxed(alloc, operand)?),
             Expr::Not(operand) => Expr::Not(copy_boxed(alloc, operand)?),
-            Expr::Bin(op, left, right) => Expr::Bin(*op, copy_boxed(alloc, left)?, copy_boxed(alloc, right)?),
+            Expr::Bin(op, left, right) => Expr::Bin(
+                *op,
+                copy_boxed(alloc, left)?,
+                copy_boxed(alloc, right)?,
+            ),
             Expr::Forall(name, first, last, body) => {
                 let first = copy_boxed(alloc, first)?;
                 let last = copy_boxed(alloc, last)?;

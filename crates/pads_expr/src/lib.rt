@@ -12,4 +12,4 @@ mod worth;
 pub use environment::{Binding, Env};
 pub use evaluation::{eval, eval_in};
 pub use expr::{BinOp, Expr};
-pub use worth::Res;
+pub use worth::{Res, is_true};

@@ -3,8 +3,7 @@ ghost use Rattle.pads_expr.specs.Operators.{holds, on_numbers, on_texts, on_trut
 ghost use Rattle.pads_expr.specs.Worth.{told, number_or_absent, truth_or_ill};
 ghost use Rattle.pads_expr.specs.Seen.{seen};
 
-use crate::numbers;
-use crate::{BinOp, Res};
+use crate::{BinOp, Res, numbers};
 use std::cmp::Ordering;
 
 /// What a comparison says of two things in that order; `None` for an operator that compares nothing.
@@ -72,7 +71,7 @@ fn between_truths<'a>(op: BinOp, a: bool, b: bool) -> Option<Res<'a>>
 }
 
 /// An operator between what its two operands are worth.
-pub fn apply<'a>(op: BinOp, a: Res<'a>, b: Res<'a>) -> Option<Res<'a>>
+pub(crate) fn apply<'a>(op: BinOp, a: Res<'a>, b: Res<'a>) -> Option<Res<'a>>
     ensures value { option_map seen result ≡ told (operate op (seen a.entry) (seen b.entry)) }
 {
     match (a, b) {
@@ -84,7 +83,7 @@ pub fn apply<'a>(op: BinOp, a: Res<'a>, b: Res<'a>) -> Option<Res<'a>>
 }
 
 /// Whether the left operand alone decides.
-pub fn is_decided(op: BinOp, left: Res) -> bool
+pub(crate) fn is_decided(op: BinOp, left: Res) -> bool
     ensures decided { result ≡ decides op (seen left.entry) }
 {
     match (op, left) {

@@ -4,12 +4,11 @@ ghost use Rattle.pads_expr.specs.Parts.{worth_of, worth_or, part_of, arm_of, is_
 ghost use Rattle.pads_expr.specs.Seen.{seen};
 ghost use Rattle.pads_expr.specs.Worth.{told};
 
-use crate::Res;
-use crate::numbers;
+use crate::{Res, numbers};
 use pads_value::{Items, Val};
 
 /// What a value is worth where a name, a part, a branch or an element stands for it.
-pub fn worth<'a>(value: &'a Val) -> Option<Res<'a>>
+pub(crate) fn worth<'a>(value: &'a Val) -> Option<Res<'a>>
     ensures worth { option_map seen result ≡ told (worth_of value.now) }
 {
     match value {
@@ -32,7 +31,7 @@ fn item<'a>(items: &'a Items<Val>, index: i128) -> Option<&'a Val>
 
 impl<'a> Res<'a> {
     /// Part `number` of a struct.
-    pub fn part(self, number: u16) -> Option<Res<'a>>
+    pub(crate) fn part(self, number: u16) -> Option<Res<'a>>
         ensures value { option_map seen result ≡ told (part_of number (seen self.entry)) }
     {
         match self {
@@ -42,19 +41,23 @@ impl<'a> Res<'a> {
     }
 
     /// Branch `number` of a union or optional, where that was chosen.
-    pub fn arm(self, number: u16) -> Option<Res<'a>>
+    pub(crate) fn arm(self, number: u16) -> Option<Res<'a>>
         ensures value { option_map seen result ≡ told (arm_of number (seen self.entry)) }
     {
         match self {
             Res::Part(Val::Branch(chosen, inner)) => {
-                if *chosen == number { worth(inner.get()) } else { None }
+                if *chosen == number {
+                    worth(inner.get())
+                } else {
+                    None
+                }
             }
             _ => None,
         }
     }
 
     /// Whether a union, optional or enum chose the branch or label `number`.
-    pub fn is_arm(self, number: u16) -> Option<Res<'a>>
+    pub(crate) fn is_arm(self, number: u16) -> Option<Res<'a>>
         ensures value { option_map seen result ≡ told (is_arm_of number (seen self.entry)) }
     {
         match self {
@@ -65,7 +68,7 @@ impl<'a> Res<'a> {
     }
 
     /// The element of an array at an index from 0, where the array has it.
-    pub fn element(self, index: Res) -> Option<Res<'a>>
+    pub(crate) fn element(self, index: Res) -> Option<Res<'a>>
         ensures value { option_map seen result ≡ told (element_of (seen self.entry) (seen index.entry)) }
     {
         match (self, index) {
@@ -75,7 +78,7 @@ impl<'a> Res<'a> {
     }
 
     /// The length of a text or an array.
-    pub fn length(self) -> Option<Res<'a>>
+    pub(crate) fn length(self) -> Option<Res<'a>>
         ensures value { option_map seen result ≡ told (length_of (seen self.entry)) }
     {
         match self {
@@ -86,7 +89,7 @@ impl<'a> Res<'a> {
     }
 
     /// Unary minus.
-    pub fn minus(self) -> Option<Res<'a>>
+    pub(crate) fn minus(self) -> Option<Res<'a>>
         ensures value { option_map seen result ≡ told (minus (seen self.entry)) }
     {
         match self {
@@ -96,7 +99,7 @@ impl<'a> Res<'a> {
     }
 
     /// The negation of a truth value.
-    pub fn negation(self) -> Option<Res<'a>>
+    pub(crate) fn negation(self) -> Option<Res<'a>>
         ensures value { option_map seen result ≡ told (negation (seen self.entry)) }
     {
         match self {

@@ -1,4 +1,3 @@
-use Rattle.std.proofs.Common.{◌≡◌, ◌∙◌, ap, reverse}
 use Rattle.std.proofs.lemmas.List.{length-reverse}
 use Rattle.pads_expr.proofs.Reversed.{reverse-take}
 use Rattle.pads_expr.proofs.environment.Env.cut.Goals as goal
