@@ -13,3 +13,6 @@ pub use environment::{Binding, Env};
 pub use evaluation::{eval, eval_in};
 pub use expr::{BinOp, Expr};
 pub use worth::{Res, is_true};
+
+#[cfg(test)]
+mod tests;
