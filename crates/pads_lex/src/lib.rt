@@ -6,6 +6,10 @@
 
 mod byte;
 mod fault;
+mod gap;
+mod number;
+mod run;
+mod step;
 mod token;
 mod words;
 
