@@ -1,2 +1,4 @@
 pub mod NumberLemmas
 pub mod GapLemmas
+pub mod ByteLemmas
+pub mod LiteralLemmas

@@ -7,7 +7,9 @@
 mod byte;
 mod fault;
 mod gap;
+mod literal;
 mod number;
+mod reading;
 mod run;
 mod step;
 mod token;

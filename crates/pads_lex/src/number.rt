@@ -1,10 +1,14 @@
 //! Numbers, in base 10 and in base 16 behind `0x`.
 
 ghost use Rattle.std.specs.Prelude.{◌≡◌, ◌<◌, ◌≤◌, ◌^◌, length, IfSome};
-ghost use Rattle.pads_lex.specs.Numbers.{value, in_range, number_limit, with_digit, hex_length, capped};
+ghost use Rattle.pads_lex.specs.Numbers.{value, in_range, number_limit, with_digit, hex_length, capped, number_size, word_value};
+ghost use Rattle.pads_lex.specs.Cut.{goes_on};
+ghost use Rattle.pads_lex.specs.Steps.{number_step};
 
-use crate::byte::digit_value;
+use crate::byte::{digit_value, is_word_byte};
 use crate::run::Class;
+use crate::step::Step;
+use crate::{LexKind, TokenKind};
 
 /// The largest number that a token carries, 2^127 - 1.
 const LIMIT: u128 = 0x7FFF_FFFF_FFFF_FFFF_FFFF_FFFF_FFFF_FFFF;
@@ -24,7 +28,7 @@ fn with_digit(base: u8, number: u128, digit: u8) -> Option<u128>
 }
 
 /// The number that digits write, where it is within the limit.
-pub(crate) fn value(base: u8, digits: &[u8]) -> Option<i128>
+fn value(base: u8, digits: &[u8]) -> Option<i128>
     requires positive { 0 < base }
     ensures value { result ≡ in_range (value base digits.now) }
 {
@@ -50,5 +54,53 @@ fn hex_length(after: &[u8]) -> usize
             if count == 0 { 0 } else { count + 1 }
         }
         _ => 0,
+    }
+}
+
+/// How many bytes the number at the front of a text has.
+#[tactic(auto, unfolding(crate::specs::Numbers::number_size))]
+fn number_size(text: &[u8]) -> usize
+    ensures size { result ≡ number_size text.now }
+    ensures within { result ≤ length text.now }
+{
+    match text {
+        [b'0', after @ ..] => hex_length(after) + 1,
+        _ => Class::Digit.run(text),
+    }
+}
+
+/// The number that a whole word writes, where it is within the limit.
+#[tactic(auto, unfolding(crate::specs::Numbers::word_value))]
+fn word_value(word: &[u8]) -> Option<i128>
+    ensures value { result ≡ in_range (word_value word.now) }
+{
+    match word {
+        [b'0', b'x', digits @ ..] => value(16, digits),
+        _ => value(10, word),
+    }
+}
+
+/// Whether a letter, a digit or `_` stands at the front of a text.
+fn goes_on(text: &[u8]) -> bool
+    ensures found { result ≡ goes_on text.now }
+{
+    match text {
+        [byte, ..] => is_word_byte(*byte),
+        [] => false,
+    }
+}
+
+/// The number at the front of a text that begins with a digit.
+#[tactic(auto, unfolding(crate::specs::Steps::number_step))]
+pub(crate) fn number_step(text: &[u8]) -> Step
+    ensures found { result ≡ number_step text.now }
+{
+    let size = number_size(text);
+    if goes_on(&text[size..]) {
+        return Step::Fault(LexKind::BadNumber, 0);
+    }
+    match word_value(&text[..size]) {
+        Some(number) => Step::Stands(size, TokenKind::Number(number)),
+        None => Step::Fault(LexKind::NumberTooWide, 0),
     }
 }
