@@ -6,3 +6,6 @@ pub mod RunLemmas
 pub mod CloseLemmas
 pub mod TableLemmas
 pub mod LiteralLaws
+pub mod SpelledLemmas
+pub mod LongestLaws
+pub mod SameLaws

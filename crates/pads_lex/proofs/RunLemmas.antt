@@ -44,7 +44,7 @@ run_longest test (b ∷ z) zero within all = omega arith
 run_longest test (b ∷ z) (suc m) within all =
     let parts = and_parts (test b) (list_all test (take m z)) all in
     let ih = run_longest test z m (omega arith) parts.1 in
-    more_run test b z (λ n. suc m ≤ n) (λ _. omega arith) (λ no. absurd (let h : true ≡ false = sym parts.0 ∙ no in cc))
+    more_run test b z (λ n. suc m ≤ n) (λ _. omega arith) (λ fails. absurd (let h : true ≡ false = sym parts.0 ∙ fails in cc))
 
 pub run_exact : (test : ℕ → Bool) (body rest : List ℕ) → list_all test body ≡ true → Stops test rest → run test (body ++ rest) ≡ length body
 run_exact test [] [] all stops = refl
