@@ -9,3 +9,4 @@ pub mod LiteralLaws
 pub mod SpelledLemmas
 pub mod LongestLaws
 pub mod SameLaws
+pub mod StepLaws

@@ -172,3 +172,70 @@ literal_parses zero quote at front z found within e =
     parses_by zero quote at front z found within (λ size point some in_z _. absurd (omega arith)) (character_at quote z) refl (sym (literal_reads quote at front z (character_at quote z) refl) ∙ e)
 literal_parses (suc fuel) quote at front z found within e =
     parses_by (suc fuel) quote at front z found within (λ size point some in_z rest. literal_parses fuel quote (at + size) (front ++ point ∷ []) (drop size z) found (omega (arith, length-drop size z)) rest) (character_at quote z) refl (sym (literal_reads quote at front z (character_at quote z) refl) ∙ e)
+
+-- what is no character at the front
+pub data IsFaulty (quote : ℕ) (z : List ℕ) (kind : LexKind) : Type 0 where
+  no_byte : (byte : ℕ) (rest : List ℕ) → kind ≡ fault.BadByte → z ≡ byte ∷ rest → byte ≢ quote → byte ≢ 0x0A → byte ≢ 0x5C → is_printed byte ≡ false → IsFaulty quote z kind
+  no_escape : (rest : List ℕ) → kind ≡ fault.BadEscape → z ≡ 0x5C ∷ rest → ((word after : List ℕ) (point : ℕ) → 0x5C ∷ rest ≡ word ++ after → IsCharacter quote word point → ⊥) → IsFaulty quote z kind
+
+escape_fails : (o : Option ℕ) (kind : LexKind) → by_escape o ≡ Fault kind → kind ≡ fault.BadEscape
+escape_fails None kind e = cc
+escape_fails (Some p) kind e = cc
+
+hex_fails : (high low : ℕ) (kind : LexKind) → hex_character high low ≡ Fault kind → kind ≡ fault.BadEscape
+unfolding hex_character
+hex_fails high low kind e = go (is_hex high && is_hex low) e
+  where
+    go : (t : Bool) → cond t (Point (hex_point high low) 4) (Fault fault.BadEscape) ≡ Fault kind → kind ≡ fault.BadEscape
+    go true e = cc
+    go false e = cc
+
+escaped_fails : (after : List ℕ) (kind : LexKind) → escaped after ≡ Fault kind → kind ≡ fault.BadEscape
+unfolding escaped
+escaped_fails [] kind e = cc
+escaped_fails (byte ∷ []) kind e = escape_fails (escape byte) kind e
+escaped_fails (byte ∷ high ∷ []) kind e = escape_fails (escape byte) kind e
+escaped_fails (byte ∷ high ∷ low ∷ z) kind e = go (byte == 0x78) e
+  where
+    go : (t : Bool) → cond t (hex_character high low) (by_escape (escape byte)) ≡ Fault kind → kind ≡ fault.BadEscape
+    go true e = hex_fails high low kind e
+    go false e = escape_fails (escape byte) kind e
+
+-- where an escape fails, none begins
+no_escape_begins : (quote : ℕ) (rest : List ℕ) (kind : LexKind) → quote ≢ 0x5C → escaped rest ≡ Fault kind → (word after : List ℕ) (point : ℕ) → 0x5C ∷ rest ≡ word ++ after → IsCharacter quote word point → ⊥
+no_escape_begins quote rest kind no_quote e word after point split is =
+    let reads : Point point (length word) ≡ Fault kind = sym (character_reads quote word point after no_quote is) ∙ ap (character_at quote) (sym split) ∙ reads_escape quote rest no_quote ∙ e in
+    cc
+
+pub fault_at_front : (quote : ℕ) (z : List ℕ) (kind : LexKind) → quote ≢ 0x5C → character_at quote z ≡ Fault kind → IsFaulty quote z kind
+unfolding character_at
+fault_at_front quote [] kind no_quote e = cc
+fault_at_front quote (byte ∷ after) kind no_quote e = go (byte == quote) refl (byte == 0x0A) refl (byte == 0x5C) refl (is_printed byte) refl e
+  where
+    go : (q : Bool) → (byte == quote) ≡ q → (l : Bool) → (byte == 0x0A) ≡ l → (s : Bool) → (byte == 0x5C) ≡ s → (p : Bool) → is_printed byte ≡ p → cond q Close (cond l Open (cond s (escaped after) (cond p (Point byte 1) (Fault fault.BadByte)))) ≡ Fault kind → IsFaulty quote (byte ∷ after) kind
+    go true q_is l l_is s s_is p p_is e = cc
+    go false q_is true l_is s s_is p p_is e = cc
+    go false q_is false l_is true s_is p p_is e =
+        no_escape after (escaped_fails after kind e) (ap (λ b. b ∷ after) (eqb-true byte 0x5C s_is)) (no_escape_begins quote after kind no_quote e)
+    go false q_is false l_is false s_is true p_is e = cc
+    go false q_is false l_is false s_is false p_is e =
+        no_byte byte after (cc) refl (eqb-false byte quote q_is) (eqb-false byte 0x0A l_is) (eqb-false byte 0x5C s_is) p_is
+
+-- and back
+pub faulty_reads : (quote : ℕ) (z : List ℕ) (kind : LexKind) → quote ≢ 0x5C → IsFaulty quote z kind → character_at quote z ≡ Fault kind
+unfolding character_at
+faulty_reads quote z kind no_quote (no_byte byte rest kind_is split a b c printed) =
+    let one = ne_eqb byte quote a in
+    let two = ne_eqb byte 0x0A b in
+    let three = ne_eqb byte 0x5C c in
+    rw (split, one, two, three, printed) (ap Fault (sym kind_is))
+faulty_reads quote z kind no_quote (no_escape rest kind_is split none) =
+    ap (character_at quote) split ∙ reads_escape quote rest no_quote ∙ by_outcome (escaped rest) refl
+  where
+    by_outcome : (c : Character) → escaped rest ≡ c → c ≡ Fault kind
+    by_outcome Close e = absurd ((escaped_is_none rest).0 e)
+    by_outcome Open e = absurd ((escaped_is_none rest).1 e)
+    by_outcome (Fault other) e = ap Fault (escaped_fails rest other e ∙ sym kind_is)
+    by_outcome (Point point size) e =
+        let front = character_front quote (0x5C ∷ rest) point size (reads_escape quote rest no_quote ∙ e) in
+        absurd (none front.word front.rest point front.split front.character)

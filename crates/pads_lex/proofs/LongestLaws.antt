@@ -19,7 +19,7 @@ use Rattle.pads_lex.proofs.SpelledLemmas.{Spelled, spelled, spells_some, letter_
 use Rattle.pads_lex.proofs.SpelledLemmas.IsNumberWord.{just_zero, base_ten, base_sixteen}
 
 -- The longest word, where a word of one byte or more is no longer than that.
-longest_by : (b : ℕ) (after : List ℕ) (n : ℕ) (k : TokenKind) → n ≤ length after → Spells (b ∷ take n after) k → ((m : ℕ) (other : TokenKind) → m ≤ length after → Spelled b (take m after) other → m ≤ n) → IsLongest (b ∷ after) (suc n) k
+pub longest_by : (b : ℕ) (after : List ℕ) (n : ℕ) (k : TokenKind) → n ≤ length after → Spells (b ∷ take n after) k → ((m : ℕ) (other : TokenKind) → m ≤ length after → Spelled b (take m after) other → m ≤ n) → IsLongest (b ∷ after) (suc n) k
 longest_by b after n k within spells no_longer = record { within = omega arith; spells = spells; no_longer = go }
   where
     go : (more : ℕ) (other : TokenKind) → more ≤ suc (length after) → Spells (take more (b ∷ after)) other → more ≤ suc n
@@ -145,7 +145,7 @@ one_is_no_double : (a : ℕ) (o : Option TokenKind) → find_word (a ∷ []) dou
 one_is_no_double a None e = refl
 one_is_no_double a (Some k) e = absurd (omega (arith, double_length (a ∷ []) k e))
 
-one_mark : (a : ℕ) → mark_of (a ∷ []) ≡ single_mark a
+pub one_mark : (a : ℕ) → mark_of (a ∷ []) ≡ single_mark a
 unfolding single_mark
 one_mark a = ap (λ o. or_else o (find_word (a ∷ []) single_marks)) (one_is_no_double a (find_word (a ∷ []) double_marks) refl)
 
@@ -156,7 +156,7 @@ short_mark a after zero k none fits found = refl
 short_mark a [] (suc m) k none fits found = absurd (omega arith)
 short_mark a (b ∷ z) (suc zero) k none fits found = go (or_else_some _ _ k found)
   where
-    go : ((find_word (a ∷ b ∷ []) double_marks ≡ Some k) ⊎ ((find_word (a ∷ b ∷ []) double_marks ≡ None) × (find_word (a ∷ b ∷ []) single_marks ≡ Some k))) → 1 ≡ 0
+    go : ((find_word (a ∷ b ∷ []) double_marks ≡ Some k) ⊎ ((find_word (a ∷ b ∷ []) double_marks ≡ None) × (find_word (a ∷ b ∷ []) single_marks ≡ Some k))) → suc zero ≡ zero
     go (inl h) = let no_mark : Some k ≡ None = sym h ∙ none in cc
     go (inr h) = absurd (omega (arith, single_length (a ∷ b ∷ []) k h.1))
 short_mark a (b ∷ z) (suc (suc m)) k none fits found =

@@ -2,10 +2,10 @@
 use Rattle.std.proofs.Common.{◌≡◌, ◌≢◌, ℕ, zero, suc, ◌+◌, ◌-◌, ◌*◌, ◌<◌, ◌≤◌, Bool, true, false, cond, List, [], ◌∷◌, ◌++◌, length, take, drop, Option, Some, None, ℤ, pos, ◌⊎◌, inl, inr, sym, refl, ap, ◌∙◌, subst, arith, add-one}
 use Rattle.std.specs.Prelude.{◌==◌, ◌&&◌, ◌||◌, not}
 use Rattle.std.specs.List.{list_all}
-use Rattle.std.proofs.lemmas.Bool.{cases_Bool, eq-eqb, not-true, or_parts}
+use Rattle.std.proofs.lemmas.Bool.{cases_Bool, and_parts, eq-eqb, not-true, or_parts}
 use Rattle.std.proofs.lemmas.List.{length-take-le, length-append, append_assoc, take-append-drop, take_at}
 use Rattle.pads_lex.specs.Bytes.{is_letter, is_digit}
-use Rattle.pads_lex.specs.Words.{find_word, or_else, keyword_of, declaration_words, part_words, expression_words, double_marks, single_marks}
+use Rattle.pads_lex.specs.Words.{double_mark, is_text, find_word, or_else, keyword_of, declaration_words, part_words, expression_words, double_marks, single_marks}
 use Rattle.pads_lex.specs.Literals.{character_at, literal_from}
 use Rattle.pads_lex.specs.Spelling.{AreCharacters, Spells, IsLongest, word_kind, mark_of}
 use Rattle.pads_lex.specs.Spelling.Spells.{char, text}
@@ -93,7 +93,7 @@ literal_longest b bytes points rest k quote are is =
     longest_by b (bytes ++ b ∷ rest) (length bytes + 1) k (omega (arith, length-append bytes (b ∷ rest)))
     (subst (λ w. Spells (b ∷ w) k) (sym front) (literal_spells b bytes points k are is))
     (λ m other fits word.
-    let (bytes', points', whole, are', _) = quote_spells b _ other quote (spelled b _ other word) in
+    let (bytes', points', whole, are', _) = quote_spells b _ other quote word in
     no_longer m bytes' points' whole are' fits)
   where
     parts : bytes ++ b ∷ rest ≡ (bytes ++ b ∷ []) ++ rest
@@ -124,4 +124,50 @@ is_number (kind.Number n) = true
 is_number _ = false
 
 kinds_pass : (table : List (List ℕ × TokenKind)) (word : List ℕ) (k : TokenKind) → list_all (λ e. not (is_number e.1)) table ≡ true → find_word word table ≡ Some k → is_number k ≡ false
-kinds_pass table word k all found = ?
+kinds_pass [] word k all found = cc
+kinds_pass ((spelling, token) ∷ table) word k all found =
+    let parts = and_parts (not (is_number token)) (list_all (λ e. not (is_number e.1)) table) all in
+    go (is_text word spelling) parts.0 (λ h. kinds_pass table word k parts.1 h) found
+  where
+    go : (t : Bool) → not (is_number token) ≡ true → (find_word word table ≡ Some k → is_number k ≡ false) → cond t (Some token) (find_word word table) ≡ Some k → is_number k ≡ false
+    go true here more found =
+        let same : token ≡ k = cc in
+        ap is_number (sym same) ∙ not-true _ here
+    go false here more found = more found
+
+keyword_no_number : (word : List ℕ) (k : TokenKind) → keyword_of word ≡ Some k → is_number k ≡ false
+unfolding keyword_of
+keyword_no_number word k found = one (or_else_some _ _ k found)
+  where
+    two : ((find_word word part_words ≡ Some k) ⊎ ((find_word word part_words ≡ None) × (find_word word expression_words ≡ Some k))) → is_number k ≡ false
+    two (inl h) = kinds_pass part_words word k refl h
+    two (inr h) = kinds_pass expression_words word k refl h.1
+
+    one : ((find_word word declaration_words ≡ Some k) ⊎ ((find_word word declaration_words ≡ None) × (or_else (find_word word part_words) (find_word word expression_words) ≡ Some k))) → is_number k ≡ false
+    one (inl h) = kinds_pass declaration_words word k refl h
+    one (inr h) = two (or_else_some _ _ k h.1)
+
+pub word_no_number : (word : List ℕ) → is_number (word_kind word) ≡ false
+word_no_number word = go (keyword_of word) refl
+  where
+    go : (o : Option TokenKind) → keyword_of word ≡ o → is_number (elim o [ None ↦ kind.Name word | Some keyword ↦ keyword ]) ≡ false
+    go None e = refl
+    go (Some k) e = keyword_no_number word k e
+
+pub mark_no_number : (word : List ℕ) (k : TokenKind) → mark_of word ≡ Some k → is_number k ≡ false
+mark_no_number word k found = go (or_else_some _ _ k found)
+  where
+    go : ((find_word word double_marks ≡ Some k) ⊎ ((find_word word double_marks ≡ None) × (find_word word single_marks ≡ Some k))) → is_number k ≡ false
+    go (inl h) = kinds_pass double_marks word k refl h
+    go (inr h) = kinds_pass single_marks word k refl h.1
+
+pub double_no_number : (a b : ℕ) (k : TokenKind) → double_mark a b ≡ Some k → is_number k ≡ false
+unfolding double_mark
+double_no_number a b k found = kinds_pass double_marks (a ∷ b ∷ []) k refl found
+
+pub literal_no_number : (b : ℕ) (points : List ℕ) (k : TokenKind) → IsLiteralKind b points k → is_number k ≡ false
+literal_no_number b points k (one_character point _ _ token) = ap is_number token
+literal_no_number b points k (characters _ token) = ap is_number token
+
+pub no_number : {P : Type 0} (k : TokenKind) (n : ℤ) → is_number k ≡ false → k ≡ kind.Number n → P
+no_number k n none is = let h : true ≡ false = sym (ap is_number is) ∙ none in cc
