@@ -10,3 +10,4 @@ pub mod SpelledLemmas
 pub mod LongestLaws
 pub mod SameLaws
 pub mod StepLaws
+pub mod ReadLaws

@@ -30,7 +30,7 @@ quote_no_escape b is e = go (quote_cases b is)
     go (inl h) = omega (arith, h, e)
     go (inr h) = omega (arith, h, e)
 
-quote_closes : (b : ℕ) (rest : List ℕ) → character_at b (b ∷ rest) ≡ Close
+pub quote_closes : (b : ℕ) (rest : List ℕ) → character_at b (b ∷ rest) ≡ Close
 unfolding character_at
 quote_closes b rest = rw (eq-eqb b b refl) refl
 
