@@ -11,3 +11,4 @@ pub mod LongestLaws
 pub mod SameLaws
 pub mod StepLaws
 pub mod ReadLaws
+pub mod FaultLaws

@@ -44,7 +44,7 @@ no_comment_read z none = go (comment_is z)
     go (inl found) = both (opens_comment z) found.3 none
     go (inr missing) = missing.0
 
-step_token : (z : List ℕ) → opens_comment z ≡ false → step_of z ≡ token_step z
+pub step_token : (z : List ℕ) → opens_comment z ≡ false → step_of z ≡ token_step z
 unfolding step_of
 step_token z none = ap (λ o. or_token o (token_step z)) (no_comment_read z none)
 
@@ -59,7 +59,7 @@ step_word b after is =
     let blank_no = (letter_only b is).0 in
     rw (blank_no, is) refl
 
-step_number : (b : ℕ) (after : List ℕ) → is_digit b ≡ true → token_step (b ∷ after) ≡ number_step (b ∷ after)
+pub step_number : (b : ℕ) (after : List ℕ) → is_digit b ≡ true → token_step (b ∷ after) ≡ number_step (b ∷ after)
 unfolding token_step
 step_number b after is =
     let blank_no = (digit_only b is).0 in
@@ -77,7 +77,7 @@ quote_class b is = (go_letter (is_letter b) refl, go_digit (is_digit b) refl)
     go_digit true digit = both (is_quote b) is (digit_only b digit).2
     go_digit false digit = refl
 
-step_quote : (b : ℕ) (after : List ℕ) → is_quote b ≡ true → token_step (b ∷ after) ≡ literal_step b after
+pub step_quote : (b : ℕ) (after : List ℕ) → is_quote b ≡ true → token_step (b ∷ after) ≡ literal_step b after
 unfolding token_step
 step_quote b after is =
     let blank_no = quote_no_blank b (quote_cases b is) in
@@ -85,7 +85,7 @@ step_quote b after is =
     let digit_no = (quote_class b is).1 in
     rw (blank_no, letter_no, digit_no, is) refl
 
-step_mark : (b : ℕ) (after : List ℕ) → is_blank b ≡ false → is_letter b ≡ false → is_digit b ≡ false → is_quote b ≡ false → token_step (b ∷ after) ≡ mark_step (b ∷ after)
+pub step_mark : (b : ℕ) (after : List ℕ) → is_blank b ≡ false → is_letter b ≡ false → is_digit b ≡ false → is_quote b ≡ false → token_step (b ∷ after) ≡ mark_step (b ∷ after)
 unfolding token_step
 step_mark b after blank_no letter_no digit_no quote_no = rw (blank_no, letter_no, digit_no, quote_no) refl
 
@@ -94,7 +94,7 @@ slash_no_blank : is_blank 0x2F ≡ false
 unfolding is_blank
 slash_no_blank = refl
 
-no_slash : (b : ℕ) (after : List ℕ) → (b == 0x2F) ≡ false → opens_comment (b ∷ after) ≡ false
+pub no_slash : (b : ℕ) (after : List ℕ) → (b == 0x2F) ≡ false → opens_comment (b ∷ after) ≡ false
 no_slash b [] is = refl
 no_slash b (c ∷ after) is = rw is refl
 
@@ -105,7 +105,7 @@ blank_no_slash b is = go (b == 0x2F) refl
     go true e = both (is_blank b) is (ap is_blank (eqb-true b 0x2F e) ∙ slash_no_blank)
     go false e = refl
 
-step_comment : (z : List ℕ) (s : Step) → comment z ≡ Some s → step_of z ≡ s
+pub step_comment : (z : List ℕ) (s : Step) → comment z ≡ Some s → step_of z ≡ s
 unfolding step_of
 step_comment z s e = ap (λ o. or_token o (token_step z)) e
 
@@ -117,7 +117,7 @@ line_read second body is = go (or_cases _ _ is)
     go (inl e) = ap (λ s. behind_slash s body) (eqb-true second 0x2F e)
     go (inr e) = ap (λ s. behind_slash s body) (eqb-true second 0x2D e)
 
-block_read : (body : List ℕ) → comment (0x2F ∷ 0x2A ∷ body) ≡ Some (to_close (close_length body))
+pub block_read : (body : List ℕ) → comment (0x2F ∷ 0x2A ∷ body) ≡ Some (to_close (close_length body))
 unfolding comment block_comment
 block_read body = refl
 
@@ -146,7 +146,7 @@ in_range_reads : (n : ℕ) → n ≤ number_limit → in_range n ≡ Some (pos n
 unfolding in_range
 in_range_reads n h = rw (le-leb n number_limit h) refl
 
-wide_reads : (n : ℕ) → number_limit < n → in_range n ≡ None
+pub wide_reads : (n : ℕ) → number_limit < n → in_range n ≡ None
 unfolding in_range
 wide_reads n h = rw (lt-leb n number_limit h) refl
 
@@ -154,7 +154,7 @@ from_pos : (m n : ℕ) → pos m ≤ℤ pos n → m ≤ n
 from_pos m n h = omega (arith, ints)
 
 -- the step of a number, by its longest word
-number_step_is : (b : ℕ) (after : List ℕ) → is_digit b ≡ true → number_step (b ∷ after) ≡ cond (goes_on (drop (suc (number_more b after)) (b ∷ after))) (Fault fault.BadNumber 0) (by_number (suc (number_more b after)) (in_range (word_value (b ∷ take (number_more b after) after))))
+pub number_step_is : (b : ℕ) (after : List ℕ) → is_digit b ≡ true → number_step (b ∷ after) ≡ cond (goes_on (drop (suc (number_more b after)) (b ∷ after))) (Fault fault.BadNumber 0) (by_number (suc (number_more b after)) (in_range (word_value (b ∷ take (number_more b after) after))))
 unfolding number_step
 number_step_is b after digit = ap (λ n. cond (goes_on (drop n (b ∷ after))) (Fault fault.BadNumber 0) (by_number n (in_range (word_value (take n (b ∷ after)))))) (number_size_is b after digit)
 
@@ -228,7 +228,7 @@ token_reads b after (suc m) k stands = by_letter (cases_Bool (is_letter b))
     by_letter (inl letter) = word_reads b after (suc m) k letter stands
     by_letter (inr letter) = by_digit letter (cases_Bool (is_digit b))
 
-taken_nothing : (n : ℕ) → take {A = ℕ} n [] ≡ []
+pub taken_nothing : (n : ℕ) → take {A = ℕ} n [] ≡ []
 taken_nothing zero = refl
 taken_nothing (suc n) = refl
 
