@@ -81,7 +81,7 @@ bad_char_step size (p ∷ []) several = absurd (several refl)
 bad_char_step size (p ∷ q ∷ points) several = refl
 
 -- a number's longest word begins with a digit
-number_first : (z : List ℕ) (size : ℕ) (number : ℤ) → IsLongest z size (kind.Number number) → (b : ℕ) × (after : List ℕ) × (z ≡ b ∷ after) × (is_digit b ≡ true)
+pub number_first : (z : List ℕ) (size : ℕ) (number : ℤ) → IsLongest z size (kind.Number number) → (b : ℕ) × (after : List ℕ) × (z ≡ b ∷ after) × (is_digit b ≡ true)
 number_first [] size number longest = absurd (spells_some _ (subst (λ w. Spells w (kind.Number number)) (taken_nothing size) longest.spells))
 number_first (b ∷ after) zero number longest = absurd (spells_some _ longest.spells)
 number_first (b ∷ after) (suc m) number longest = (b, after, refl, go (spelled b (take m after) (kind.Number number) longest.spells))

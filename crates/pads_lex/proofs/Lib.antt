@@ -12,3 +12,5 @@ pub mod SameLaws
 pub mod StepLaws
 pub mod ReadLaws
 pub mod FaultLaws
+pub mod TokensLemmas
+pub mod CutLaws

@@ -13,7 +13,9 @@ mod reading;
 mod run;
 mod step;
 mod token;
+mod tokens;
 mod words;
 
 pub use fault::{LexFault, LexKind};
 pub use token::{Token, TokenKind, Tokens};
+pub use tokens::lex;
