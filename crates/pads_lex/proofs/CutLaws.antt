@@ -1,8 +1,8 @@
 -- What is read of a whole text is what the rules say, both ways.
-use Rattle.std.proofs.Common.{◌≡◌, ◌≢◌, ℕ, zero, suc, ◌+◌, ◌-◌, ◌<◌, ◌≤◌, Bool, true, false, List, [], ◌∷◌, ◌++◌, length, take, drop, Result, Ok, Err, ℤ, pos, ◌≤ℤ◌, sym, refl, ap, ◌∙◌, subst, arith}
+use Rattle.std.proofs.Common.{◌≡◌, ℕ, zero, suc, ◌+◌, ◌<◌, ◌≤◌, List, [], ◌∷◌, ◌++◌, length, take, drop, Result, Ok, Err, ℤ, pos, ◌≤ℤ◌, sym, refl, ap, ◌∙◌, subst, arith}
 use Rattle.std.specs.Prelude.{IfOk}
 use Rattle.std.proofs.lemmas.Int.{ints}
-use Rattle.std.proofs.lemmas.List.{length-append, length-drop, append_assoc, append-nil}
+use Rattle.std.proofs.lemmas.List.{length-drop, append_assoc}
 use Rattle.pads_lex.specs.Steps.{step_of}
 use Rattle.pads_lex.specs.Spelling.{Spells}
 use Rattle.pads_lex.specs.Numbers.{value}

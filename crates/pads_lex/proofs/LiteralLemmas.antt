@@ -1,13 +1,12 @@
 -- A literal, character by character.
 use Rattle.std.proofs.Common.{◌≡◌, ◌≢◌, ℕ, zero, suc, ◌+◌, ◌-◌, ◌<◌, ◌≤◌, Bool, true, false, cond, List, [], ◌∷◌, ◌++◌, length, take, drop, Option, Some, None, ◌⊎◌, inl, inr, sym, refl, ap, ◌∙◌, subst, arith}
 use Rattle.std.specs.Prelude.{◌==◌, ◌&&◌}
-use Rattle.std.proofs.lemmas.List.{length-append, take_at, drop_at, append_assoc, length-drop, drop-drop, take_rest}
-use Rattle.std.proofs.lemmas.Bool.{eqb-true, eqb-false, eq-eqb, ne_eqb, and_parts, and_from}
+use Rattle.std.proofs.lemmas.List.{length-append, length-drop, drop-drop, take_rest}
+use Rattle.std.proofs.lemmas.Bool.{eqb-true, eqb-false, and_parts}
 use Rattle.pads_lex.specs.Bytes.{is_hex}
 use Rattle.pads_lex.specs.Literals.{character_at, literal_from, literal_by, escaped, escape, by_escape, hex_character, hex_point, is_printed}
-use Rattle.pads_lex.specs.Spelling.{IsCharacter, AreCharacters}
+use Rattle.pads_lex.specs.Spelling.{IsCharacter}
 use Rattle.pads_lex.specs.Spelling.IsCharacter.{itself, escaped as an_escape, coded}
-use Rattle.pads_lex.specs.declared.fault.LexKind.{LexKind}
 use Rattle.pads_lex.specs.declared.fault.LexKind.TheVariants.{BadEscape, BadByte}
 use Rattle.pads_lex.specs.declared.literal.Character.{Character}
 use Rattle.pads_lex.specs.declared.literal.Character.TheVariants.{Close, Point, Open, Fault}

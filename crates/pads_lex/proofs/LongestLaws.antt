@@ -1,10 +1,10 @@
 -- The token that is read at the front is the longest one, and the only one of its length.
-use Rattle.std.proofs.Common.{◌≡◌, ◌≢◌, ℕ, zero, suc, ◌+◌, ◌-◌, ◌*◌, ◌<◌, ◌≤◌, Bool, true, false, cond, List, [], ◌∷◌, ◌++◌, length, take, drop, Option, Some, None, ℤ, pos, ◌⊎◌, inl, inr, sym, refl, ap, ◌∙◌, subst, arith, add-one}
-use Rattle.std.specs.Prelude.{◌==◌, ◌&&◌, ◌||◌, not}
+use Rattle.std.proofs.Common.{◌≡◌, ◌≢◌, ℕ, zero, suc, ◌+◌, ◌<◌, ◌≤◌, Bool, true, false, cond, List, [], ◌∷◌, length, take, Option, Some, None, pos, ◌⊎◌, inl, inr, sym, refl, ap, ◌∙◌, arith, add-one}
+use Rattle.std.specs.Prelude.{◌==◌}
 use Rattle.std.specs.List.{list_all}
-use Rattle.std.proofs.lemmas.Bool.{and_parts, eqb-true, eqb-false, eq-eqb}
-use Rattle.std.proofs.lemmas.List.{length-take-le, length-take}
-use Rattle.pads_lex.specs.Bytes.{is_between, is_blank, is_letter, is_digit, is_word_byte, is_hex}
+use Rattle.std.proofs.lemmas.Bool.{eqb-true, eqb-false, eq-eqb}
+use Rattle.std.proofs.lemmas.List.{length-take-le}
+use Rattle.pads_lex.specs.Bytes.{is_between, is_letter, is_digit, is_word_byte, is_hex}
 use Rattle.pads_lex.specs.Runs.{run}
 use Rattle.pads_lex.specs.Numbers.{number_size, hex_length, word_value}
 use Rattle.pads_lex.specs.Words.{find_word, or_else, double_mark, single_mark, double_marks, single_marks}
@@ -14,7 +14,7 @@ use Rattle.pads_lex.specs.declared.token.TokenKind.{TokenKind}
 use Rattle.pads_lex.specs.declared.token.TokenKind.TheVariants as kind
 use Rattle.pads_lex.proofs.ByteLemmas.{is_quote, letter_in_word, digit_first}
 use Rattle.pads_lex.proofs.RunLemmas.{run_within, run_all, run_longest}
-use Rattle.pads_lex.proofs.TableLemmas.{begins_mark, or_else_some, double_length, single_length}
+use Rattle.pads_lex.proofs.TableLemmas.{or_else_some, double_length, single_length}
 use Rattle.pads_lex.proofs.SpelledLemmas.{Spelled, spelled, spells_some, letter_spells, digit_spells, mark_spells, IsNumberWord, number_word_spells}
 use Rattle.pads_lex.proofs.SpelledLemmas.IsNumberWord.{just_zero, base_ten, base_sixteen}
 

@@ -1,5 +1,5 @@
 -- Digits only make a number larger, so a front that is above the limit settles the whole.
-use Rattle.std.proofs.Common.{◌≡◌, ℕ, ◌+◌, ◌*◌, ◌<◌, ◌≤◌, Bool, true, false, cond, List, [], ◌∷◌, get_or, length, take, drop, Option, Some, None, ℤ, pos, sym, refl, ap, ◌∙◌, subst, arith}
+use Rattle.std.proofs.Common.{◌≡◌, ℕ, ◌+◌, ◌*◌, ◌<◌, ◌≤◌, Bool, true, false, cond, List, [], ◌∷◌, get_or, length, take, drop, Some, None, pos, sym, refl, ap, ◌∙◌, arith}
 use Rattle.std.specs.Prelude.{fold, nat_le}
 use Rattle.std.specs.Int.{w128}
 use mir.Val.{to_z}

@@ -1,38 +1,29 @@
 -- What stands at the front of a text by the rules is what is read there.
-use Rattle.std.proofs.Common.{◌≡◌, ◌≢◌, ℕ, zero, suc, ◌+◌, ◌-◌, ◌*◌, ◌<◌, ◌≤◌, Bool, true, false, cond, List, [], ◌∷◌, ◌++◌, length, take, drop, Option, Some, None, ℤ, pos, ◌≤ℤ◌, ◌⊎◌, inl, inr, sym, refl, ap, ◌∙◌, subst, arith, add-one}
-use Rattle.std.specs.Prelude.{◌==◌, ◌&&◌, ◌||◌, not, nat_le}
-use Rattle.std.proofs.lemmas.Bool.{cases_Bool, eqb-true, eq-eqb, or_cases, and_parts, le-leb, lt-leb}
+use Rattle.std.proofs.Common.{◌≡◌, ℕ, zero, suc, ◌+◌, ◌<◌, ◌≤◌, Bool, true, false, cond, List, [], ◌∷◌, ◌++◌, length, take, drop, Option, Some, None, pos, ◌≤ℤ◌, ◌⊎◌, inl, inr, sym, refl, ap, ◌∙◌, subst, arith}
+use Rattle.std.specs.Prelude.{◌==◌, ◌||◌}
+use Rattle.std.proofs.lemmas.Bool.{cases_Bool, eqb-true, or_cases, le-leb, lt-leb}
 use Rattle.std.proofs.lemmas.Int.{ints}
 use Rattle.std.proofs.lemmas.List.{length-take-le, take-append-drop, length-append, append_assoc}
 use Rattle.pads_lex.specs.Bytes.{is_blank, is_letter, is_digit, is_word_byte, is_on_line}
 use Rattle.pads_lex.specs.Runs.{run}
-use Rattle.pads_lex.specs.Numbers.{number_size, number_limit, word_value, in_range}
-use Rattle.pads_lex.specs.Words.{is_text, double_mark, single_mark}
-use Rattle.pads_lex.specs.Literals.{character_at, literal_from}
+use Rattle.pads_lex.specs.Numbers.{number_limit, word_value, in_range}
+use Rattle.pads_lex.specs.Words.{double_mark, single_mark}
+use Rattle.pads_lex.specs.Literals.{literal_from}
 use Rattle.pads_lex.specs.Gaps.{close_length, to_close, block_comment, behind_slash, comment}
-use Rattle.pads_lex.specs.Spelling.{AreCharacters, Spells, IsLongest, word_kind, mark_of}
-use Rattle.pads_lex.specs.Spelling.Spells.{mark}
-use Rattle.pads_lex.specs.Steps.{word_step, by_number, number_step, closed_step, one_point, by_literal, literal_step, by_mark, single_step, mark_step, token_step, or_token, step_of}
-use Rattle.pads_lex.specs.Cut.{opens_comment, IsGap, goes_on, IsGoodNumber, StandsAt, IsLiteral, IsFault, EndsLine, HasNoClose}
+use Rattle.pads_lex.specs.Spelling.{Spells, IsLongest, word_kind}
+use Rattle.pads_lex.specs.Steps.{word_step, by_number, number_step, by_literal, literal_step, by_mark, single_step, mark_step, token_step, or_token, step_of}
+use Rattle.pads_lex.specs.Cut.{opens_comment, IsGap, goes_on, IsGoodNumber, StandsAt}
 use Rattle.pads_lex.specs.Cut.IsGap.{blank, line, block}
-use Rattle.pads_lex.specs.Cut.IsFault.{no_token, no_character, bad_number, wide_number, open_text, bad_char, bad_escape, open_comment}
 use Rattle.pads_lex.specs.declared.token.TokenKind.{TokenKind}
 use Rattle.pads_lex.specs.declared.token.TokenKind.TheVariants as kind
-use Rattle.pads_lex.specs.declared.fault.LexKind.{LexKind}
 use Rattle.pads_lex.specs.declared.fault.LexKind.TheVariants as fault
-use Rattle.pads_lex.specs.declared.literal.Character.TheVariants as character_is
-use Rattle.pads_lex.specs.declared.literal.Literal.{Literal}
-use Rattle.pads_lex.specs.declared.literal.Literal.TheVariants as literal_is
 use Rattle.pads_lex.specs.declared.step.Step.{Step}
 use Rattle.pads_lex.specs.declared.step.Step.TheVariants.{Gap, Stands, Fault}
 use Rattle.pads_lex.proofs.ByteLemmas.{is_quote, quote_cases, letter_only, digit_only}
 use Rattle.pads_lex.proofs.RunLemmas.{run_exact, stops_line}
-use Rattle.pads_lex.proofs.CloseLemmas.{close_is, close_no}
-use Rattle.pads_lex.proofs.LiteralLemmas.{literal_reads, after_character}
-use Rattle.pads_lex.proofs.LiteralLaws.{characters_read, IsFaulty, faulty_reads}
-use Rattle.pads_lex.proofs.LiteralLaws.IsFaulty.{no_byte, no_escape}
-use Rattle.pads_lex.proofs.SpelledLemmas.{Spelled, spelled, spells_some, both, quote_spells, spelled_no_blank, quote_no_blank, letter_spells, mark_spells}
-use Rattle.pads_lex.proofs.SameLaws.{is_number, no_number, word_no_number, mark_no_number, quote_no_escape, literal_closed, closed_stands, longest_same, literal_no_number, quote_closes}
+use Rattle.pads_lex.proofs.CloseLemmas.{close_is}
+use Rattle.pads_lex.proofs.SpelledLemmas.{Spelled, spelled, spells_some, both, quote_spells, spelled_no_blank, quote_no_blank}
+use Rattle.pads_lex.proofs.SameLaws.{literal_closed, closed_stands, longest_same}
 use Rattle.pads_lex.proofs.LongestLaws.{word_longest, word_run, number_longest, number_more, number_size_is, NoDouble, no_mark, single_longest, double_longest}
 use Rattle.pads_lex.proofs.StepLaws.{Holds, comment_is}
 

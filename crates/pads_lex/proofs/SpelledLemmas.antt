@@ -1,15 +1,15 @@
 -- What a word spells, by its first byte.
-use Rattle.std.proofs.Common.{◌≡◌, ◌≢◌, ℕ, zero, suc, ◌+◌, ◌*◌, ◌<◌, ◌≤◌, Bool, true, false, cond, List, [], ◌∷◌, ◌++◌, length, Option, Some, None, ℤ, pos, ◌⊎◌, inl, inr, sym, refl, ap, ◌∙◌, subst, arith}
-use Rattle.std.specs.Prelude.{◌==◌, ◌&&◌, ◌||◌, not}
+use Rattle.std.proofs.Common.{◌≡◌, ℕ, ◌<◌, Bool, true, false, List, [], ◌∷◌, ◌++◌, length, Some, pos, ◌⊎◌, inl, inr, sym, refl, ap, ◌∙◌, subst}
+use Rattle.std.specs.Prelude.{◌==◌, ◌&&◌, not}
 use Rattle.std.specs.List.{list_all}
-use Rattle.std.proofs.lemmas.Bool.{and_parts, eqb-true, not-true}
+use Rattle.std.proofs.lemmas.Bool.{and_parts, not-true}
 use Rattle.pads_lex.specs.Bytes.{is_between, is_blank, is_letter, is_digit, is_word_byte, is_hex, digit_value}
 use Rattle.pads_lex.specs.Numbers.{value, word_value}
 use Rattle.pads_lex.specs.Spelling.{AreCharacters, Spells, word_kind, mark_of}
 use Rattle.pads_lex.specs.Spelling.Spells.{name, zero as zero_word, decimal, hexadecimal, char, text, mark}
 use Rattle.pads_lex.specs.declared.token.TokenKind.{TokenKind}
 use Rattle.pads_lex.specs.declared.token.TokenKind.TheVariants as kind
-use Rattle.pads_lex.proofs.ByteLemmas.{is_quote, letter_only, digit_only, decimal_first, quote_cases}
+use Rattle.pads_lex.proofs.ByteLemmas.{is_quote, letter_only, digit_only, decimal_first}
 use Rattle.pads_lex.proofs.TableLemmas.{begins_mark, mark_begins}
 
 pub data Spelled (b : ℕ) (w : List ℕ) (k : TokenKind) : Type 0 where

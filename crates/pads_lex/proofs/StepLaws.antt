@@ -1,18 +1,18 @@
 -- What is read at the front of a text stands there by the rules.
-use Rattle.std.proofs.Common.{◌≡◌, ◌≢◌, ℕ, zero, suc, ◌+◌, ◌-◌, ◌*◌, ◌<◌, ◌≤◌, Bool, true, false, cond, List, [], ◌∷◌, ◌++◌, length, take, drop, Option, Some, None, ℤ, pos, ◌≤ℤ◌, ◌⊎◌, inl, inr, sym, refl, ap, ◌∙◌, subst, arith, add-one}
-use Rattle.std.specs.Prelude.{◌==◌, ◌&&◌, ◌||◌, not, nat_le}
-use Rattle.std.proofs.lemmas.Bool.{cases_Bool, or_left as or_from, or_right, eqb-true, eqb-false, or_cases, and_parts, leb-true, leb-false}
+use Rattle.std.proofs.Common.{◌≡◌, ℕ, suc, ◌+◌, ◌<◌, ◌≤◌, Bool, true, false, cond, List, [], ◌∷◌, ◌++◌, length, take, drop, Option, Some, None, pos, ◌≤ℤ◌, ◌⊎◌, inl, inr, sym, refl, ap, ◌∙◌, subst, arith}
+use Rattle.std.specs.Prelude.{◌==◌, ◌&&◌, ◌||◌, nat_le}
+use Rattle.std.proofs.lemmas.Bool.{or_left as or_from, or_right, eqb-true, leb-true, leb-false}
 use Rattle.std.proofs.lemmas.Int.{ints}
-use Rattle.std.proofs.lemmas.List.{length-take-le, take-append-drop, length-append, append_assoc}
-use Rattle.pads_lex.specs.Bytes.{is_blank, is_letter, is_digit, is_word_byte, is_on_line}
+use Rattle.std.proofs.lemmas.List.{length-take-le, take-append-drop}
+use Rattle.pads_lex.specs.Bytes.{is_blank, is_letter, is_digit, is_on_line}
 use Rattle.pads_lex.specs.Runs.{run}
-use Rattle.pads_lex.specs.Numbers.{number_size, number_limit, word_value, in_range}
+use Rattle.pads_lex.specs.Numbers.{number_limit, word_value, in_range}
 use Rattle.pads_lex.specs.Words.{double_mark, single_mark}
-use Rattle.pads_lex.specs.Literals.{character_at, literal_from, is_printed}
+use Rattle.pads_lex.specs.Literals.{literal_from}
 use Rattle.pads_lex.specs.Gaps.{close_length, to_close, block_comment, behind_slash, comment}
-use Rattle.pads_lex.specs.Spelling.{AreCharacters, Spells, IsLongest, IsCharacter, word_kind, mark_of}
+use Rattle.pads_lex.specs.Spelling.{AreCharacters, IsLongest, word_kind}
 use Rattle.pads_lex.specs.Steps.{word_step, by_number, number_step, closed_step, one_point, by_literal, literal_step, by_mark, single_step, mark_step, token_step, or_token, step_of}
-use Rattle.pads_lex.specs.Cut.{opens_comment, IsGap, goes_on, IsGoodNumber, StandsAt, IsLiteral, IsFault, EndsLine, HasNoClose}
+use Rattle.pads_lex.specs.Cut.{opens_comment, IsGap, goes_on, IsGoodNumber, StandsAt, IsLiteral, IsFault}
 use Rattle.pads_lex.specs.Cut.IsGap.{blank, line, block}
 use Rattle.pads_lex.specs.Cut.IsFault.{no_token, no_character, bad_number, wide_number, open_text, bad_char, bad_escape, open_comment}
 use Rattle.pads_lex.specs.declared.token.TokenKind.{TokenKind}

@@ -1,12 +1,11 @@
 -- What holds of each word of a table holds of each word that is found there.
-use Rattle.std.proofs.Common.{◌≡◌, ◌≢◌, ℕ, zero, suc, ◌+◌, ◌<◌, ◌≤◌, Bool, true, false, cond, List, [], ◌∷◌, ◌++◌, length, Option, Some, None, ◌⊎◌, inl, inr, sym, refl, ap, ◌∙◌, subst, arith}
-use Rattle.std.specs.Prelude.{◌==◌, ◌&&◌, ◌||◌, not, nat_eq}
+use Rattle.std.proofs.Common.{◌≡◌, ℕ, Bool, true, false, cond, List, [], ◌∷◌, length, Option, Some, None, ◌⊎◌, inl, inr, refl, ap, ◌∙◌}
+use Rattle.std.specs.Prelude.{◌==◌, ◌&&◌, not}
 use Rattle.std.specs.List.{list_all}
-use Rattle.std.specs.Str.{bytes_eq}
 use Rattle.std.proofs.lemmas.Bool.{and_parts, eqb-true}
 use Rattle.std.proofs.lemmas.Slice.Eq.{bytes_eq-Decides}
 use Rattle.pads_lex.specs.Bytes.{is_blank, is_letter, is_digit}
-use Rattle.pads_lex.specs.Words.{is_text, find_word, or_else, double_marks, single_marks, double_mark, single_mark}
+use Rattle.pads_lex.specs.Words.{is_text, find_word, or_else, double_marks, single_marks}
 use Rattle.pads_lex.specs.Spelling.{mark_of}
 use Rattle.pads_lex.specs.declared.token.TokenKind.{TokenKind}
 use Rattle.pads_lex.proofs.ByteLemmas.{is_quote}

@@ -1,8 +1,7 @@
 -- A text, step by step.
-use Rattle.std.proofs.Common.{◌≡◌, ◌≢◌, ℕ, zero, suc, ◌+◌, ◌-◌, ◌<◌, ◌≤◌, Bool, true, false, List, [], ◌∷◌, ◌++◌, length, take, drop, Result, Ok, Err, sym, refl, ap, ◌∙◌, subst, arith}
-use Rattle.std.proofs.lemmas.List.{length-append, length-drop, drop-drop, take_rest, append_assoc}
+use Rattle.std.proofs.Common.{◌≡◌, ℕ, zero, suc, ◌+◌, ◌-◌, ◌<◌, ◌≤◌, List, [], ◌∷◌, ◌++◌, length, take, drop, Result, Ok, Err, sym, refl, ap, ◌∙◌, subst, arith}
+use Rattle.std.proofs.lemmas.List.{length-append, length-drop, drop-drop, take_rest}
 use Rattle.pads_lex.specs.Steps.{step_of}
-use Rattle.pads_lex.specs.Spelling.{Spells}
 use Rattle.pads_lex.specs.Cut.{token_of, IsGap, StandsAt, IsFault, IsLiteral}
 use Rattle.pads_lex.specs.Cut.IsGap.{blank, line, block}
 use Rattle.pads_lex.specs.Cut.IsFault.{no_token, no_character, bad_number, wide_number, open_text, bad_char, bad_escape, open_comment}

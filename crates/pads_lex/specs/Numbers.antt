@@ -1,5 +1,5 @@
 -- What digits count in a base, and how long the number at the front of a text is.
-use Rattle.std.specs.Prelude.{ℕ, ◌+◌, ◌*◌, ◌-◌, ◌^◌, ℤ, pos, Bool, List, [], ◌∷◌, Option, Some, None, ◌==◌, ◌&&◌, nat_le, if◌then◌else◌, fold}
+use Rattle.std.specs.Prelude.{ℕ, ◌+◌, ◌*◌, ◌-◌, ◌^◌, ℤ, pos, List, [], ◌∷◌, Option, Some, None, ◌==◌, ◌&&◌, nat_le, if◌then◌else◌, fold}
 use Rattle.pads_lex.specs.Bytes.{digit_value, is_digit, is_hex}
 use Rattle.pads_lex.specs.Runs.{run}
 

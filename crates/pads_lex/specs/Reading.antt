@@ -1,5 +1,5 @@
 -- How a text is read from the left, step by step. That this is what the rules of `Cut` say is proved.
-use Rattle.std.specs.Prelude.{◌≡◌, ℕ, zero, suc, ◌+◌, ◌-◌, List, [], ◌∷◌, ◌++◌, Result, Ok, Err}
+use Rattle.std.specs.Prelude.{ℕ, zero, suc, ◌+◌, ◌-◌, List, [], ◌∷◌, ◌++◌, Result, Ok, Err}
 use Rattle.pads_lex.specs.Steps.{step_of}
 use Rattle.pads_lex.specs.Cut.{token_of}
 use Rattle.pads_lex.specs.declared.token.Token.{Token}

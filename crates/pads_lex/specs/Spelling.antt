@@ -4,7 +4,7 @@
 -- that keyword. A number is `0`, or a digit from 1 to 9 and then digits, or `0x` and at least one digit of base 16.
 -- A character between two single quotes, and any number of them between two double quotes, are literals. The marks
 -- are those of their table.
-use Rattle.std.specs.Prelude.{◌≡◌, ◌≢◌, ℕ, ◌+◌, ◌*◌, ◌<◌, ◌≤◌, ℤ, pos, Bool, IsTrue, List, [], ◌∷◌, ◌++◌, length, take, drop, Option, Some, None}
+use Rattle.std.specs.Prelude.{◌≡◌, ◌≢◌, ℕ, ◌<◌, ◌≤◌, pos, IsTrue, List, [], ◌∷◌, ◌++◌, length, take, Option, Some, None}
 use Rattle.std.specs.List.{list_all}
 use Rattle.pads_lex.specs.Bytes.{is_between, is_letter, is_digit, is_word_byte, is_hex}
 use Rattle.pads_lex.specs.Words.{keyword_of, find_word, double_marks, single_marks, or_else}

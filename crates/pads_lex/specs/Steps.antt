@@ -1,6 +1,6 @@
 -- What stands at the front of a text, as it is read from the left.
-use Rattle.std.specs.Prelude.{ℕ, ◌+◌, ℤ, Bool, List, [], ◌∷◌, length, take, drop, Option, Some, None, ◌==◌, ◌||◌, if◌then◌else◌}
-use Rattle.pads_lex.specs.Bytes.{is_blank, is_letter, is_digit, is_word_byte, is_hex}
+use Rattle.std.specs.Prelude.{ℕ, ◌+◌, ℤ, List, [], ◌∷◌, take, drop, Option, Some, None, ◌==◌, ◌||◌, if◌then◌else◌}
+use Rattle.pads_lex.specs.Bytes.{is_blank, is_letter, is_digit, is_word_byte}
 use Rattle.pads_lex.specs.Runs.{run}
 use Rattle.pads_lex.specs.Words.{double_mark, single_mark}
 use Rattle.pads_lex.specs.Numbers.{in_range, number_size, word_value}

@@ -1,5 +1,5 @@
 use Rattle.std.proofs.Common.{sym, ◌∙◌, arith}
-use Rattle.pads_lex.proofs.GapLemmas.{close_found, close_passed, close_missing}
+use Rattle.pads_lex.proofs.GapLemmas.{close_passed, close_missing}
 use Rattle.pads_lex.proofs.gap.close_length.Goals as goal
 
 pub bytes-preserved : goal.bytes-preserved
