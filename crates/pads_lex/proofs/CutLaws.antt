@@ -1,5 +1,5 @@
 -- What is read of a whole text is what the rules say, both ways.
-use Rattle.std.proofs.Common.{◌≡◌, ℕ, zero, suc, ◌+◌, ◌<◌, ◌≤◌, List, [], ◌∷◌, ◌++◌, length, take, drop, Result, Ok, Err, ℤ, pos, ◌≤ℤ◌, sym, refl, ap, ◌∙◌, subst, arith}
+use Rattle.std.proofs.Common.{◌≡◌, ℕ, zero, suc, ◌+◌, ◌<◌, ◌≤◌, List, [], ◌∷◌, ◌++◌, length, take, drop, Result, Ok, Err, ◌⊎◌, inl, inr, ℤ, pos, ◌≤ℤ◌, sym, refl, ap, ◌∙◌, subst, arith}
 use Rattle.std.specs.Prelude.{IfOk}
 use Rattle.std.proofs.lemmas.Int.{ints}
 use Rattle.std.proofs.lemmas.List.{length-drop, append_assoc}
@@ -161,3 +161,33 @@ found_ends z (Err e) cut = tt
 pub found_numbers : (z : List ℕ) (r : Result (List Token) (Refusal LexFault)) → IfOk r (λ tokens. IsCut 0 z tokens) → IfOk r HasNoNegative
 found_numbers z (Ok tokens) cut = cut_numbers 0 z tokens cut
 found_numbers z (Err e) cut = tt
+
+-- each text has one reading
+same_tokens : (one other : List Token) (answer : Result (List Token) LexFault) → answer ≡ Ok one → answer ≡ Ok other → one ≡ other
+same_tokens one other answer first second = cc
+
+same_fault : (one other : LexFault) (answer : Result (List Token) LexFault) → answer ≡ Err one → answer ≡ Err other → one ≡ other
+same_fault one other answer first second = cc
+
+not_both : (tokens : List Token) (fault : LexFault) (answer : Result (List Token) LexFault) → answer ≡ Ok tokens → answer ≡ Err fault → ⊥
+not_both tokens fault answer first second = cc
+
+pub one_cut : (z : List ℕ) (one other : List Token) → IsCut 0 z one → IsCut 0 z other → one ≡ other
+one_cut z one other first second =
+    same_tokens one other (tokens_from 0 0 [] z) (cut_is_read 0 z one [] first) (cut_is_read 0 z other [] second)
+
+pub one_break : (z : List ℕ) (one other : LexKind) (at place : ℕ) → BreaksAt 0 z one at → BreaksAt 0 z other place → (one ≡ other) × (at ≡ place)
+one_break z one other at place first second =
+    let fault = same_fault (record { kind = one; at = at }) (record { kind = other; at = place }) (tokens_from 0 0 [] z) (break_is_read 0 z one at [] first) (break_is_read 0 z other place [] second) in
+    (ap (λ (f : LexFault). f.kind) fault, ap (λ (f : LexFault). f.at) fault)
+
+pub no_cut_breaks : (z : List ℕ) (tokens : List Token) (k : LexKind) (at : ℕ) → IsCut 0 z tokens → BreaksAt 0 z k at → ⊥
+no_cut_breaks z tokens k at cut breaks =
+    not_both tokens (record { kind = k; at = at }) (tokens_from 0 0 [] z) (cut_is_read 0 z tokens [] cut) (break_is_read 0 z k at [] breaks)
+
+pub cut_or_breaks : (z : List ℕ) → ((tokens : List Token) × IsCut 0 z tokens) ⊎ ((k : LexKind) × (at : ℕ) × BreaksAt 0 z k at)
+cut_or_breaks z = go (tokens_from 0 0 [] z) (text_is_read z)
+  where
+    go : (answer : Result (List Token) LexFault) → IsRead 0 [] z answer → ((tokens : List Token) × IsCut 0 z tokens) ⊎ ((k : LexKind) × (at : ℕ) × BreaksAt 0 z k at)
+    go (Ok tokens) (more, is, cut) = inl (more, cut)
+    go (Err fault) breaks = inr (fault.kind, fault.at, breaks)

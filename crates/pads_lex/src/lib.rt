@@ -7,15 +7,19 @@
 mod byte;
 mod fault;
 mod gap;
+mod laws;
 mod literal;
 mod number;
 mod reading;
 mod run;
 mod step;
+#[cfg(test)]
+mod tests;
 mod token;
 mod tokens;
 mod words;
 
 pub use fault::{LexFault, LexKind};
+pub use laws::each_text_has_one_reading;
 pub use token::{Token, TokenKind, Tokens};
 pub use tokens::lex;

@@ -1,7 +1,7 @@
 use pads_value::{Bytes, Items};
 
 /// What a token is: one variant for each keyword and mark, and those that carry what was written.
-#[derive(Drop)]
+#[derive(Debug, Drop)]
 pub enum TokenKind {
     // Keywords that begin or mark a declaration.
     Pstruct,
@@ -105,7 +105,7 @@ pub enum TokenKind {
 }
 
 /// A token and the bytes of the text that it stands on, from `begin` up to `end`, counted from 0.
-#[derive(Drop)]
+#[derive(Debug, Drop)]
 pub struct Token {
     pub kind: TokenKind,
     pub begin: u64,
