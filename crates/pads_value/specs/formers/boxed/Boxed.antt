@@ -56,7 +56,7 @@ module _ (R S : RattleType) (h : R.Denot → S.Denot) where
       (contract.the_row R).coded (contract.the_row S).coded (invariant R.Denot) (invariant S.Denot)
       (λ inside p q. refl) (λ inside p q. refl) (λ inside e. tt) (λ inside e. tt) (over (fields.the_row R)) (over (fields.the_row S))
       (struct_places (fields.the_type R) (fields.the_type S) ((λ old. holding old (h old.value)), tt) _ (λ inside. refl) refl
-          (laid _ _ _ (box_places alike), tt))
+      (laid _ _ _ (box_places alike), tt))
 
   pub the_codes_placed : Recodes R S h → Recodes (contract.the_row R) (contract.the_row S) ((the_former this).map R.Denot S.Denot h)
   the_codes_placed recoded value = recoded value

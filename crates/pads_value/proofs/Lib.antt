@@ -1,0 +1,2 @@
+pub mod HeaderRows
+pub mod NameLemmas
