@@ -1,0 +1,18 @@
+-- A scope with one more variable.
+use Rattle.std.proofs.Common.{◌≡◌, ◌∙◌, sym, ap, ◌∷◌, ℕ, ℤ, to_z, of_z, FitsSigned, Bor}
+use Rattle.std.proofs.lemmas.Int.{to_z-of_z}
+use Rattle.std.specs.Int.{w128}
+use Rattle.pads_value.specs.declared.value.Val.TheVariants as val
+use Rattle.pads_expr.specs.declared.evaluation.Scope.{Scope, Scope-F, fold-roll-Scope}
+use Rattle.pads_expr.specs.declared.evaluation.Scope.TheVariants as scope
+use Rattle.pads_expr.specs.Scopes.{pairs_of, scope_step}
+use Rattle.pads_expr.specs.Value.{Pairs}
+
+pub pairs_of-Bind : (name : ℕ) (number : ℤ) (outer : Bor Scope) → pairs_of (scope.Bind name number outer) ≡ (name, val.Num number) ∷ pairs_of outer.now
+pairs_of-Bind name number outer =
+    ap pairs_of (sym (scope.rolls-Bind name number outer)) ∙ fold-roll-Scope Pairs scope_step (Scope-F.Bind name number outer)
+
+-- the number as it is kept in a word of 128 bits
+pub bound_in : (name : ℕ) (number : ℤ) (outer : Bor Scope) → FitsSigned w128 number →
+    pairs_of (scope.Bind name (to_z w128 (of_z w128 number)) outer) ≡ (name, val.Num number) ∷ pairs_of outer.now
+bound_in name number outer fits = rw (to_z-of_z w128 number fits) (pairs_of-Bind name number outer)
