@@ -6,11 +6,12 @@ use Rattle.std.proofs.lemmas.List.{length-replicate}
 use Rattle.pads_int.specs.declared.kind.Kind.{Kind}
 use Rattle.pads_int.specs.declared.kind.Kind.TheVariants.{I8, I16, I32, I64, U8, U16, U32, U64}
 use Rattle.pads_int.specs.Kinds.{is_signed, in_range}
-use Rattle.pads_int.specs.Readings.{number, signed_number, minus}
+use Rattle.pads_code.specs.Numerals.{number}
+use Rattle.pads_int.specs.Readings.{signed_number, minus}
 use Rattle.pads_int.specs.Spellings.{padded, signed_padded}
 use Rattle.pads_int.specs.Texts.{IsSign, IsIntegerText}
 use Rattle.pads_int.proofs.RangeLemmas.{beyond}
-use Rattle.pads_int.proofs.NumeralLemmas.{decimal-numeral, number-decimal, length-decimal-number, zeros-numeral, zeros-number}
+use Rattle.pads_code.proofs.NumeralLemmas.{decimal-numeral, number-decimal, length-decimal-number, zeros-numeral, zeros-number}
 
 -- a kind's numbers are below 2^64 in size, and only a signed kind has one below 0
 pub in_range-small : (kind : Kind) (negative : Bool) (n : ℕ) → in_range kind (signed_number negative n) ≡ true → n < 2 ^ 64

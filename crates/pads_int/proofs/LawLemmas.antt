@@ -1,35 +1,25 @@
 -- Integers read what they spell: what is read is spelled so and has a canonical spelling that is no longer,
 -- and a canonical spelling reads back whole.
-use Rattle.std.proofs.Common.{◌≡◌, ℕ, ◌≤◌, ◌&&◌, Bool, true, false, ℤ, pos, negsuc, List, [], ◌∷◌, length, take, map, Some, None, refl, sym, ap, ◌∙◌, arith, cond, not, length-take-le, length-append, replicate, ◌<◌, nat_eq, nat_le, nat_lt}
+use Rattle.std.proofs.Common.{◌≡◌, ℕ, ◌≤◌, ◌&&◌, Bool, true, false, ℤ, pos, negsuc, List, length, take, map, Some, None, refl, sym, ap, ◌∙◌, arith, cond, not, length-take-le, length-append, replicate, ◌<◌, nat_eq, nat_le, nat_lt}
 use Rattle.std.specs.Option.{IsSomeAnd}
 use Rattle.std.specs.Int.RustNames.{unsigned_abs}
 use Rattle.std.specs.Fmt.{signed_decimal}
-use Rattle.std.proofs.lemmas.List.{take-map, length-map}
+use Rattle.std.proofs.lemmas.List.{length-map}
 use Rattle.std.proofs.Math.Seq.{take-length}
 use Rattle.std.proofs.lemmas.Bool.{ne_eqb, eqb-false, ltb-false, le-ltb, le-leb, leb-true}
 use Rattle.pads_value.specs.declared.cause.Cause.TheVariants as cause
 use Rattle.pads_value.specs.declared.reading.Read.TheVariants.{Good, Hard}
 use Rattle.pads_code.specs.declared.Coding.{Coding}
-use Rattle.pads_code.specs.CodePage.{point, byte_of}
-use Rattle.pads_code.proofs.CodePageLemmas.{point-byte_of}
+use Rattle.pads_code.specs.CodePage.{byte_of, points_of}
+use Rattle.pads_code.proofs.TextLemmas.{points-bytes, length-points, points-take}
 use Rattle.pads_int.specs.declared.kind.Kind.{Kind}
 use Rattle.pads_int.specs.Kinds.{in_range}
-use Rattle.pads_int.specs.Readings.{blank, points_of, field_reading, int_reading, int_fw_reading}
+use Rattle.pads_int.specs.Readings.{blank, field_reading, int_reading, int_fw_reading}
 use Rattle.pads_int.specs.Spellings.{int_spelling, int_fw_spelling, signed_padded, is_field_width, widest}
 use Rattle.pads_int.specs.Texts.{SpellsInt, SpellsIntFw}
-use Rattle.pads_int.proofs.NumeralLemmas.{both_true}
+use Rattle.pads_code.proofs.NumeralLemmas.{both_true}
 use Rattle.pads_int.proofs.TextLemmas.{good_not_hard, read_is_text, text_is_read, field_is_read, read_is_field}
 use Rattle.pads_int.proofs.CanonicalLemmas.{plain_text, padded_text, length-padded, none_is_shorter}
-
-pub points-bytes : (coding : Coding) (points : List ℕ) → points_of coding (map (byte_of coding) points) ≡ points
-points-bytes coding [] = refl
-points-bytes coding (p ∷ ps) = rw (point-byte_of coding p, points-bytes coding ps) refl
-
-length-points : (coding : Coding) (bytes : List ℕ) → length (points_of coding bytes) ≡ length bytes
-length-points coding bytes = length-map bytes (point coding)
-
-points-take : (coding : Coding) (n : ℕ) (bytes : List ℕ) → take n (points_of coding bytes) ≡ points_of coding (take n bytes)
-points-take coding n bytes = take-map (point coding) n bytes
 
 -- integers as long as their digits go
 

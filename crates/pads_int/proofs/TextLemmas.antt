@@ -13,9 +13,10 @@ use Rattle.pads_value.specs.declared.cause.Cause.{Cause}
 use Rattle.pads_value.specs.declared.cause.Cause.TheVariants as cause
 use Rattle.pads_int.specs.declared.kind.Kind.{Kind}
 use Rattle.pads_int.specs.Kinds.{is_signed, in_range}
-use Rattle.pads_int.specs.Readings.{plus, minus, blank, sign_size, is_negative, is_numeral, number, signed_number, ranged, run_reading, field_reading}
+use Rattle.pads_code.specs.Numerals.{is_numeral, number}
+use Rattle.pads_int.specs.Readings.{plus, minus, blank, sign_size, is_negative, signed_number, ranged, run_reading, field_reading}
 use Rattle.pads_int.specs.Texts.{IsSign, IsIntegerText}
-use Rattle.pads_int.proofs.NumeralLemmas.{both_true, numeral_parts, numeral_from, whole_run, run_passes}
+use Rattle.pads_code.proofs.NumeralLemmas.{both_true, numeral_parts, numeral_from, whole_run, run_passes}
 
 and_false : (b : Bool) → (b && false) ≡ false
 and_false true = refl

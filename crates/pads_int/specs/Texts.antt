@@ -4,7 +4,9 @@ use Rattle.std.specs.Prelude.{◌≡◌, ℕ, ℤ, pos, Bool, true, false, ◌++
 use Rattle.pads_code.specs.declared.Coding.{Coding}
 use Rattle.pads_int.specs.declared.kind.Kind.{Kind}
 use Rattle.pads_int.specs.Kinds.{is_signed, in_range}
-use Rattle.pads_int.specs.Readings.{plus, minus, blank, points_of, is_numeral, number, signed_number}
+use Rattle.pads_code.specs.Numerals.{is_numeral, number}
+use Rattle.pads_int.specs.Readings.{plus, minus, blank, signed_number}
+use Rattle.pads_code.specs.CodePage.{points_of}
 
 -- the signs that a kind allows, each with whether it makes the number negative
 pub data IsSign (kind : Kind) : Bool → List ℕ → Type 0 where

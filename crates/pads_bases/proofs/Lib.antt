@@ -1,0 +1,4 @@
+pub mod StringLemmas
+pub mod ClassLemmas
+pub mod AddressLemmas
+pub mod ChoiceLemmas

@@ -1,0 +1,17 @@
+//! The other base types: texts, classes, single characters, IP addresses, enums and binary integers; and
+//! whole texts in a coding.
+#![tactic(auto)]
+
+mod address;
+mod binary;
+mod choice;
+mod class;
+mod enums;
+mod text;
+
+pub use address::read_ip;
+pub use binary::{Order, Range};
+pub use class::{in_class, read_class};
+pub use choice::read_enum;
+pub use enums::{Label, Labels};
+pub use text::{decode_text, encode_text, read_char, read_fixed, read_until};
