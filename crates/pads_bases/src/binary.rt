@@ -1,3 +1,5 @@
+ghost use Rattle.std.specs.Prelude.{◌≡◌, ◌≤◌, length};
+
 /// Which byte of a binary integer comes first.
 #[derive(Clone, Copy, Debug, PartialEq, Eq)]
 pub enum Order {

@@ -4,6 +4,7 @@
 
 mod address;
 mod binary;
+mod bytes;
 mod choice;
 mod class;
 mod enums;
@@ -12,6 +13,7 @@ mod text;
 pub use address::read_ip;
 pub use binary::{Order, Range};
 pub use class::{in_class, read_class};
+pub use bytes::{read_bin, spell_bin};
 pub use choice::read_enum;
 pub use enums::{Label, Labels};
 pub use text::{decode_text, encode_text, read_char, read_fixed, read_until};
