@@ -1,8 +1,12 @@
 //! Base types: one reading and one spelling for all of them.
 #![tactic(auto)]
 
+mod applied;
 mod base;
+mod kinds;
 mod read;
+mod spell;
 
 pub use base::{Arg, Args, Base};
 pub use read::read_base;
+pub use spell::spell_base;
