@@ -21,12 +21,12 @@ merged_none (Some a) = refl
 longer_assoc : (a b : Choice) (c : Option Choice) → longer a (longer b c) ≡ merged (longer a (Some b)) c
 longer_assoc a b None = sym (merged_none (longer a (Some b)))
 longer_assoc a b (Some c) = elim (cases_lt a.size b.size) [
-  inl ab ↦ elim (cases_lt b.size c.size) [
-    inl bc ↦ rw (lt-ltb a.size b.size ab, lt-ltb b.size c.size bc, lt-ltb a.size c.size (omega arith)) refl
+  | inl ab ↦ elim (cases_lt b.size c.size) [
+    | inl bc ↦ rw (lt-ltb a.size b.size ab, lt-ltb b.size c.size bc, lt-ltb a.size c.size (omega arith)) refl
     | inr cb ↦ rw (lt-ltb a.size b.size ab, le-ltb b.size c.size cb, lt-ltb a.size b.size ab) refl
   ]
   | inr ba ↦ elim (cases_lt b.size c.size) [
-    inl bc ↦ rw (le-ltb a.size b.size ba, lt-ltb b.size c.size bc) refl
+    | inl bc ↦ rw (le-ltb a.size b.size ba, lt-ltb b.size c.size bc) refl
     | inr cb ↦ rw (le-ltb b.size c.size cb, le-ltb a.size b.size ba, le-ltb a.size c.size (omega arith)) refl
   ]
 ]
@@ -44,7 +44,7 @@ pub begins_differs : (coding : Coding) (spelling bytes : List ℕ) (i : ℕ) →
     → begins spelling (points_of coding bytes) ≡ begins (drop i spelling) (drop i (points_of coding bytes)) → (point coding (get_or bytes i 0) ≡ get_or spelling i 0 → ⊥) → false ≡ begins spelling (points_of coding bytes)
 begins_differs coding spelling bytes i lt long so_far differs =
     let other : nat_eq (get_or (points_of coding bytes) i 0) (get_or spelling i 0) ≡ false =
-        rw (get_or-map (point coding) bytes i 0 0 (omega arith)) (ne_eqb _ _ differs) in
+    rw (get_or-map (point coding) bytes i 0 0 (omega arith)) (ne_eqb _ _ differs) in
     rw (so_far, begins_step spelling (points_of coding bytes) i lt (omega (arith, length-points coding bytes)), other) refl
 
 pub begins_goes_on : (coding : Coding) (spelling bytes : List ℕ) (i : ℕ) → i < length spelling → length spelling ≤ length bytes
@@ -52,7 +52,7 @@ pub begins_goes_on : (coding : Coding) (spelling bytes : List ℕ) (i : ℕ) →
     → begins spelling (points_of coding bytes) ≡ begins (drop (i + 1) spelling) (drop (i + 1) (points_of coding bytes))
 begins_goes_on coding spelling bytes i lt long so_far same =
     let equal : nat_eq (get_or (points_of coding bytes) i 0) (get_or spelling i 0) ≡ true =
-        rw (get_or-map (point coding) bytes i 0 0 (omega arith)) (eq-eqb _ _ same) in
+    rw (get_or-map (point coding) bytes i 0 0 (omega arith)) (eq-eqb _ _ same) in
     so_far ∙ rw (begins_step spelling (points_of coding bytes) i lt (omega (arith, length-points coding bytes)), equal) refl
 
 pub begins_whole : (coding : Coding) (spelling bytes : List ℕ) (i : ℕ) → i ≡ length spelling

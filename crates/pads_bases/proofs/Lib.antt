@@ -3,3 +3,6 @@ pub mod ClassLemmas
 pub mod AddressLemmas
 pub mod ChoiceLemmas
 pub mod BinaryLemmas
+pub mod DottedLemmas
+pub mod StringLaws
+pub mod FieldLaws

@@ -29,15 +29,15 @@ pub stop_found : (coding : Coding) (stop : ℕ) (bytes : List ℕ) (k : ℕ) →
     → ((j : ℕ) → j < k → nat_eq (get_or bytes j 0) (byte_of coding stop) ≡ false) → k ≡ position_or_len (λ p. nat_eq p stop) (points_of coding bytes)
 stop_found coding stop bytes k lt here before =
     sym (position_or_len_is (λ p. nat_eq p stop) (points_of coding bytes) k 0 (omega (arith, length-points coding bytes))
-      (λ j h. point_at coding stop bytes j false (omega arith) (before j h))
-      (λ h. point_at coding stop bytes k true lt here))
+    (λ j h. point_at coding stop bytes j false (omega arith) (before j h))
+    (λ h. point_at coding stop bytes k true lt here))
 
 pub stop_missing : (coding : Coding) (stop : ℕ) (bytes : List ℕ) → ((j : ℕ) → j < length bytes → nat_eq (get_or bytes j 0) (byte_of coding stop) ≡ false)
     → length bytes ≡ position_or_len (λ p. nat_eq p stop) (points_of coding bytes)
 stop_missing coding stop bytes nowhere =
     sym (position_or_len_is (λ p. nat_eq p stop) (points_of coding bytes) (length bytes) 0 (omega (arith, length-points coding bytes))
-      (λ j h. point_at coding stop bytes j false h (nowhere j h))
-      (λ h. absurd (omega (arith, length-points coding bytes))))
+    (λ j h. point_at coding stop bytes j false h (nowhere j h))
+    (λ h. absurd (omega (arith, length-points coding bytes))))
 
 pub text_until : (coding : Coding) (stop : ℕ) (bytes text : List ℕ) (n : ℕ) → n ≡ position_or_len (λ p. nat_eq p stop) (points_of coding bytes) → n ≤ length bytes → text ≡ take n bytes
     → Good (length text) (points_of coding text) ≡ until_reading coding (Some stop) bytes

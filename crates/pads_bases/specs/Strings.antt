@@ -1,7 +1,7 @@
 -- Texts: up to a stop character, to the end of the record, of a fixed width, and single characters. A
 -- text's value is its code points, and its canonical spelling their bytes.
 use Rattle.std.specs.Prelude.{◌≡◌, ◌≢◌, ℕ, ℤ, pos, negsuc, ◌<◌, ◌==◌, ◌&&◌, nat_lt, nat_le, if◌then◌else◌, not, true, List, [], ◌∷◌, take, length, Option, Some, None}
-use Rattle.std.specs.List.{before_first, AllPass}
+use Rattle.std.specs.List.{before_first, list_all}
 use Rattle.pads_value.specs.declared.reading.Read.{Read}
 use Rattle.pads_value.specs.declared.reading.Read.TheVariants.{Good, Soft, Hard}
 use Rattle.pads_value.specs.declared.cause.Cause.TheVariants as cause
@@ -48,7 +48,7 @@ char_spelling coding text = if length text == 1 then Some (bytes_of coding text)
 -- the stop character stands nowhere in the text
 abbrev pub HasNoStop : Option ℕ → List ℕ → Type 0
 HasNoStop None text = Unit {0}
-HasNoStop (Some stop) text = AllPass (λ p. not (p == stop)) text
+HasNoStop (Some stop) text = list_all (λ p. not (p == stop)) text ≡ true
 
 -- which bytes spell a text in each of these forms
 pub record SpellsUntil (coding : Coding) (stop : Option ℕ) (text bytes : List ℕ) : Type 0 where

@@ -7,13 +7,15 @@ mod binary;
 mod bytes;
 mod choice;
 mod class;
+mod dotted;
 mod enums;
 mod text;
 
 pub use address::read_ip;
 pub use binary::{Order, Range};
-pub use class::{in_class, read_class};
 pub use bytes::{read_bin, spell_bin};
 pub use choice::read_enum;
+pub use class::{in_class, read_class};
+pub use dotted::spell_ip;
 pub use enums::{Label, Labels};
 pub use text::{decode_text, encode_text, read_char, read_fixed, read_until};

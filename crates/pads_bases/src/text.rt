@@ -32,11 +32,7 @@ pub fn encode_text(alloc: Global, coding: Coding, points: &[u8]) -> Result<Bytes
 }
 
 /// All of the bytes as a text.
-pub(crate) fn read_all(
-    alloc: Global,
-    coding: Coding,
-    bytes: &[u8],
-) -> Result<Read<Bytes>, Memory>
+pub(crate) fn read_all(alloc: Global, coding: Coding, bytes: &[u8]) -> Result<Read<Bytes>, Memory>
     ensures reading { IfOk result (λ r. r ≡ Good (length bytes.now) (points_of coding bytes.now)) }
 {
     Ok(Read::Good(bytes.len() as u64, decode_text(alloc, coding, bytes)?))

@@ -18,5 +18,5 @@ returns c =
     let whole : to_z w128 (of_z w128 c.number.result) ≡ c.number.result = omega (arith, ints) in
     record {
       reading = c.ranged.ensures.range ∙ rw (whole, c.number.ensures.number)
-        (bytes_there c.args.range c.args.order c.args.size c.args.bytes.now _ _ (omega (arith, ints)) (omega (arith, ints)) (omega (arith, ints)) (omega (arith, ints)) c.split_at.ensures.front);
+          (bytes_there c.args.range c.args.order c.args.size c.args.bytes.now _ _ (omega (arith, ints)) (omega (arith, ints)) (omega (arith, ints)) (omega (arith, ints)) c.split_at.ensures.front);
     }

@@ -31,5 +31,5 @@ returns c =
     let bytes = simp to_z-of_z at c.spelled.ensures.bytes in
     record {
       spelling = bytes_spelled c.args.range c.args.order c.args.size c.args.v (unsigned_abs c.args.size) _ (omega (arith, ints)) (omega (arith, ints)) (omega (arith, ints))
-        (grind (arith, to_z-of_z)) (rw (← signed) (sym place ∙ c.if-not-fits_size.false)) bytes;
+          (grind (arith, to_z-of_z)) (rw (← signed) (sym place ∙ c.if-not-fits_size.false)) bytes;
     }

@@ -14,6 +14,6 @@ pub returns : goal.returns
 returns c =
     record {
       reading = if_ok_same _ _ _
-        (class_some c.args.coding c.args.class.now c.args.bytes.now _ _ (sym c.is_class.ensures.class ∙ c.if-not-is_class.false) c.class_run.ensures.run c.split_at.ensures.front (sym c.is_empty.ensures ∙ c.if-is_empty.false))
-        c.read_all.ensures.reading;
+          (class_some c.args.coding c.args.class.now c.args.bytes.now _ _ (sym c.is_class.ensures.class ∙ c.if-not-is_class.false) c.class_run.ensures.run c.split_at.ensures.front (sym c.is_empty.ensures ∙ c.if-is_empty.false))
+          c.read_all.ensures.reading;
     }

@@ -9,6 +9,6 @@ pub returns : goal.returns
 returns c =
     record {
       reading = if_ok_same _ _ _
-        (char_there c.args.coding c.args.bytes.now _ (sym c.is_empty.ensures ∙ c.if-is_empty.false) c.split_at.ensures.front)
-        c.read_all.ensures.reading;
+          (char_there c.args.coding c.args.bytes.now _ (sym c.is_empty.ensures ∙ c.if-is_empty.false) c.split_at.ensures.front)
+          c.read_all.ensures.reading;
     }

@@ -13,6 +13,6 @@ pub returns : goal.returns
 returns c =
     record {
       reading = if_ok_same _ _ _
-        (fixed_whole c.args.coding c.args.width c.args.bytes.now _ _ (grind (arith, ints, to_z-of_z)) (omega (arith, ints)) (omega (arith, ints)) c.split_at.ensures.front)
-        c.read_all.ensures.reading;
+          (fixed_whole c.args.coding c.args.width c.args.bytes.now _ _ (grind (arith, ints, to_z-of_z)) (omega (arith, ints)) (omega (arith, ints)) c.split_at.ensures.front)
+          c.read_all.ensures.reading;
     }
