@@ -1,1 +1,3 @@
+pub mod Classes
 pub mod Takes
+pub mod Values

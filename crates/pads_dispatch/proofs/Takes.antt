@@ -30,7 +30,7 @@ use Rattle.pads_bases.specs.Enums.{enum_reading}
 use Rattle.pads_bases.specs.Strings.{until_reading, fixed_reading, char_reading}
 use Rattle.pads_dispatch.specs.declared.base.Arg.{Arg}
 use Rattle.pads_dispatch.specs.declared.base.Base.{Base}
-use Rattle.pads_dispatch.specs.Applied.{Applied, applied, integer, field, binary, until, fixed, class, char, address, label}
+use Rattle.pads_dispatch.specs.Applied.{Applied, applied, integer, field, binary, until, fixed, class, char, address, labelled}
 use Rattle.pads_dispatch.specs.Kinds.{range_of}
 use Rattle.pads_dispatch.specs.Readings.{as_value, reading_of, reading_or_bad_param, base_reading}
 use Rattle.pads_dispatch.specs.Sizes.{taken}
@@ -148,7 +148,7 @@ reading-takes (fixed coding width) bytes = value-takes val.Text (fixed_reading c
 reading-takes (class coding text) bytes = value-takes val.Text (class_reading coding text bytes) (length bytes) (class-takes coding text bytes)
 reading-takes (char coding) bytes = value-takes val.Text (char_reading coding bytes) (length bytes) (char-takes coding bytes)
 reading-takes (address coding) bytes = value-takes val.Num (ip_reading coding bytes) (length bytes) (ip-takes coding bytes)
-reading-takes (label coding labels) bytes = value-takes val.Enum (enum_reading coding labels bytes) (length bytes) (enum-takes coding labels bytes)
+reading-takes (labelled coding labels) bytes = value-takes val.Enum (enum_reading coding labels bytes) (length bytes) (enum-takes coding labels bytes)
 
 optional-takes : (whole : Option Applied) (bytes : List ℕ) → taken (reading_or_bad_param whole bytes) ≤ length bytes
 optional-takes None bytes = omega arith

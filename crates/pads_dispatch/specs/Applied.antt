@@ -25,7 +25,7 @@ pub data Applied : Type 0 where
   class : Coding → List ℕ → Applied
   char : Coding → Applied
   address : Coding → Applied
-  label : Coding → List Label → Applied
+  labelled : Coding → List Label → Applied
 
 -- no argument
 abbrev pub alone : Applied → List Arg → Option Applied
@@ -68,4 +68,4 @@ applied (base.Fixed coding) args = option_map (λ width. fixed coding width) (nu
 applied (base.Class coding) args = option_map (λ text. class coding text) (text_in args)
 applied (base.Char coding) args = alone (char coding) args
 applied (base.Ip coding) args = alone (address coding) args
-applied (base.Enum coding labels) args = alone (label coding labels) args
+applied (base.Enum coding labels) args = alone (labelled coding labels) args

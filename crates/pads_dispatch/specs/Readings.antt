@@ -14,7 +14,7 @@ use Rattle.pads_bases.specs.Enums.{enum_reading}
 use Rattle.pads_bases.specs.Strings.{until_reading, fixed_reading, char_reading}
 use Rattle.pads_dispatch.specs.declared.base.Arg.{Arg}
 use Rattle.pads_dispatch.specs.declared.base.Base.{Base}
-use Rattle.pads_dispatch.specs.Applied.{Applied, applied, integer, field, binary, until, fixed, class, char, address, label}
+use Rattle.pads_dispatch.specs.Applied.{Applied, applied, integer, field, binary, until, fixed, class, char, address, labelled}
 use Rattle.pads_dispatch.specs.Kinds.{range_of}
 
 -- a reading of numbers, texts or labels as one of values
@@ -32,7 +32,7 @@ reading_of (fixed coding width) bytes = as_value val.Text (fixed_reading coding 
 reading_of (class coding text) bytes = as_value val.Text (class_reading coding text bytes)
 reading_of (char coding) bytes = as_value val.Text (char_reading coding bytes)
 reading_of (address coding) bytes = as_value val.Num (ip_reading coding bytes)
-reading_of (label coding labels) bytes = as_value val.Enum (enum_reading coding labels bytes)
+reading_of (labelled coding labels) bytes = as_value val.Enum (enum_reading coding labels bytes)
 
 abbrev pub reading_or_bad_param : Option Applied → List ℕ → Read Val
 reading_or_bad_param None bytes = Hard cause.BadParam

@@ -2,7 +2,7 @@
 use Rattle.std.specs.Prelude.{Bool, true, nat_le, length}
 use Rattle.pads_dispatch.specs.declared.applied.Applied.{Applied as Lent}
 use Rattle.pads_dispatch.specs.declared.applied.Applied.TheVariants as lent
-use Rattle.pads_dispatch.specs.Applied.{Applied, integer, field, binary, until, fixed, class, char, address, label}
+use Rattle.pads_dispatch.specs.Applied.{Applied, integer, field, binary, until, fixed, class, char, address, labelled}
 
 abbrev pub seen : Lent → Applied
 seen (lent.Int kind coding) = integer kind coding
@@ -13,7 +13,7 @@ seen (lent.Fixed coding width) = fixed coding width
 seen (lent.Class coding text) = class coding text.now
 seen (lent.Char coding) = char coding
 seen (lent.Ip coding) = address coding
-seen (lent.Enum coding labels) = label coding labels.now
+seen (lent.Enum coding labels) = labelled coding labels.now
 
 -- so many labels that 16 bits number them
 abbrev pub applied_fits : Applied → Bool
@@ -25,4 +25,4 @@ applied_fits (fixed coding width) = true
 applied_fits (class coding text) = true
 applied_fits (char coding) = true
 applied_fits (address coding) = true
-applied_fits (label coding labels) = nat_le (length labels) 65535
+applied_fits (labelled coding labels) = nat_le (length labels) 65535

@@ -10,11 +10,11 @@ use Rattle.pads_bases.specs.Enums.{enum_spelling}
 use Rattle.pads_bases.specs.Strings.{until_spelling, fixed_spelling, char_spelling}
 use Rattle.pads_dispatch.specs.declared.base.Arg.{Arg}
 use Rattle.pads_dispatch.specs.declared.base.Base.{Base}
-use Rattle.pads_dispatch.specs.Applied.{Applied, applied, integer, field, binary, until, fixed, class, char, address, label}
+use Rattle.pads_dispatch.specs.Applied.{Applied, applied, integer, field, binary, until, fixed, class, char, address, labelled}
 use Rattle.pads_dispatch.specs.Kinds.{range_of}
 
 -- the number, if the value is one
-abbrev pub number_of : Val → Option ℤ
+unfoldable pub number_of : Val → Option ℤ
 number_of value = by_form (out-Val value)
   where
     by_form : Val-F Val → Option ℤ
@@ -28,7 +28,7 @@ number_of value = by_form (out-Val value)
     by_form (Val-F.Array elements) = None
 
 -- the code points, if the value is a text
-abbrev pub text_of : Val → Option (List ℕ)
+unfoldable pub text_of : Val → Option (List ℕ)
 text_of value = by_form (out-Val value)
   where
     by_form : Val-F Val → Option (List ℕ)
@@ -42,7 +42,7 @@ text_of value = by_form (out-Val value)
     by_form (Val-F.Array elements) = None
 
 -- the label's number, if the value is one
-abbrev pub label_of : Val → Option ℕ
+unfoldable pub label_of : Val → Option ℕ
 label_of value = by_form (out-Val value)
   where
     by_form : Val-F Val → Option ℕ
@@ -64,7 +64,7 @@ spelling_of (fixed coding width) v = option_and_then (fixed_spelling coding widt
 spelling_of (class coding text) v = option_and_then (class_spelling coding text) (text_of v)
 spelling_of (char coding) v = option_and_then (char_spelling coding) (text_of v)
 spelling_of (address coding) v = option_and_then (ip_spelling coding) (number_of v)
-spelling_of (label coding labels) v = option_and_then (enum_spelling coding labels) (label_of v)
+spelling_of (labelled coding labels) v = option_and_then (enum_spelling coding labels) (label_of v)
 
 unfoldable pub base_spelling : Base → List Arg → Val → Option (List ℕ)
 base_spelling base args v = option_and_then (λ whole. spelling_of whole v) (applied base args)

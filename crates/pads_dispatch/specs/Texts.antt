@@ -10,7 +10,7 @@ use Rattle.pads_bases.specs.Enums.{SpellsEnum}
 use Rattle.pads_bases.specs.Strings.{SpellsUntil, SpellsFixed, SpellsChar}
 use Rattle.pads_dispatch.specs.declared.base.Arg.{Arg}
 use Rattle.pads_dispatch.specs.declared.base.Base.{Base}
-use Rattle.pads_dispatch.specs.Applied.{Applied, applied, integer, field, binary, until, fixed, class, char, address, label}
+use Rattle.pads_dispatch.specs.Applied.{Applied, applied, integer, field, binary, until, fixed, class, char, address, labelled}
 use Rattle.pads_dispatch.specs.Kinds.{range_of}
 
 -- the value is a number, text or label that the bytes spell
@@ -28,7 +28,7 @@ SpellsApplied (fixed coding width) v bytes = Spelled val.Text (SpellsFixed codin
 SpellsApplied (class coding text) v bytes = Spelled val.Text (SpellsClass coding text) v bytes
 SpellsApplied (char coding) v bytes = Spelled val.Text (SpellsChar coding) v bytes
 SpellsApplied (address coding) v bytes = Spelled val.Num (SpellsIp coding) v bytes
-SpellsApplied (label coding labels) v bytes = Spelled val.Enum (SpellsEnum coding labels) v bytes
+SpellsApplied (labelled coding labels) v bytes = Spelled val.Enum (SpellsEnum coding labels) v bytes
 
 pub record SpellsBase (base : Base) (args : List Arg) (v : Val) (bytes : List ℕ) : Type 0 where
   pub whole : Applied

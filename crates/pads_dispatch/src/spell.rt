@@ -57,20 +57,26 @@ fn spell_fixed(alloc: Global, coding: Coding, width: i128, text: &[u8]) -> Resul
 }
 
 /// Whether a class is well formed and has the code point.
+#[tactic(auto, using(crate::proofs::Classes::has))]
 fn class_has(class: &[u8], point: u8) -> bool
     ensures has { result ≡ (is_class class.now && has_point class.now point) }
 {
-    match in_class(class, point) {
-        None => false,
-        Some(has) => has,
-    }
+    in_class(class, point).unwrap_or(false)
+}
+
+/// Whether a class is well formed and has each code point, or there is none.
+fn all_in_class(class: &[u8], text: &[u8]) -> bool
+    ensures all { result ≡ list_all (λ point. is_class class.now && has_point class.now point) text.now }
+{
+    text.iter().all(|point| class_has(class, *point))
 }
 
 /// Whether the text is one of the class: not empty, and each code point in the class.
+#[tactic(auto, using(crate::proofs::Classes::all_has))]
 fn is_class_text(class: &[u8], text: &[u8]) -> bool
     ensures text { result ≡ is_text_of_class class.now text.now }
 {
-    !text.is_empty() && text.iter().all(|point| class_has(class, *point))
+    !text.is_empty() && all_in_class(class, text)
 }
 
 /// The bytes of a label's spelling.
@@ -85,6 +91,7 @@ fn spell_enum(alloc: Global, coding: Coding, labels: &Labels, label: u16) -> Res
 }
 
 /// The spelling of a number.
+#[tactic(auto, using(crate::proofs::Values::numbers))]
 fn spell_number(alloc: Global, whole: Applied<'_>, number: i128) -> Result<Option<Bytes>, Memory>
     ensures spelling { IfOk result (λ s. s ≡ spelling_of (seen whole.entry) (val.Num number)) }
 {
@@ -100,6 +107,7 @@ fn spell_number(alloc: Global, whole: Applied<'_>, number: i128) -> Result<Optio
 }
 
 /// The spelling of a text.
+#[tactic(auto, using(crate::proofs::Values::texts))]
 fn spell_text(alloc: Global, whole: Applied<'_>, text: &[u8]) -> Result<Option<Bytes>, Memory>
     ensures spelling { IfOk result (λ s. s ≡ spelling_of (seen whole.entry) (val.Text text.now)) }
 {
@@ -113,6 +121,7 @@ fn spell_text(alloc: Global, whole: Applied<'_>, text: &[u8]) -> Result<Option<B
 }
 
 /// The spelling of a label.
+#[tactic(auto, using(crate::proofs::Values::labels))]
 fn spell_label(alloc: Global, whole: Applied<'_>, label: u16) -> Result<Option<Bytes>, Memory>
     ensures spelling { IfOk result (λ s. s ≡ spelling_of (seen whole.entry) (val.Enum label)) }
 {
@@ -123,6 +132,7 @@ fn spell_label(alloc: Global, whole: Applied<'_>, label: u16) -> Result<Option<B
 }
 
 /// The spelling of a value by a base type with its arguments.
+#[tactic(auto, unfolding(crate::specs::Spellings::number_of, crate::specs::Spellings::text_of, crate::specs::Spellings::label_of))]
 fn spell_applied(alloc: Global, whole: Applied<'_>, v: &Val) -> Result<Option<Bytes>, Memory>
     ensures spelling { IfOk result (λ s. s ≡ spelling_of (seen whole.entry) v.now) }
 {
