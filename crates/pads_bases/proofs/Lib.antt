@@ -6,3 +6,6 @@ pub mod BinaryLemmas
 pub mod DottedLemmas
 pub mod StringLaws
 pub mod FieldLaws
+pub mod BinaryLaws
+pub mod ChoiceLaws
+pub mod AddressLaws
