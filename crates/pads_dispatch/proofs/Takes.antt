@@ -11,6 +11,7 @@ use Rattle.pads_value.specs.declared.value.Val.{Val}
 use Rattle.pads_value.specs.declared.value.Val.TheVariants as val
 use Rattle.pads_value.specs.declared.reading.Read.{Read}
 use Rattle.pads_value.specs.declared.reading.Read.TheVariants.{Good, Soft, Hard}
+use Rattle.pads_value.specs.declared.cause.Cause.{Cause}
 use Rattle.pads_value.specs.declared.cause.Cause.TheVariants as cause
 use Rattle.pads_code.specs.declared.Coding.{Coding}
 use Rattle.pads_code.specs.CodePage.{point, points_of}
@@ -26,7 +27,8 @@ use Rattle.pads_bases.specs.declared.enums.Label.{Label}
 use Rattle.pads_bases.specs.Addresses.{Numbered, address as address_of, address_read, ip_reading}
 use Rattle.pads_bases.specs.Binaries.{is_size, has_number, bin_number, ranged as binary_or_range, bin_reading}
 use Rattle.pads_bases.specs.Classes.{is_class, has_point, class_reading}
-use Rattle.pads_bases.specs.Enums.{enum_reading}
+use Rattle.pads_bases.specs.Enums.{choice, enum_reading}
+use Rattle.pads_bases.proofs.ChoiceLaws.{enum_within}
 use Rattle.pads_bases.specs.Strings.{until_reading, fixed_reading, char_reading}
 use Rattle.pads_dispatch.specs.declared.base.Arg.{Arg}
 use Rattle.pads_dispatch.specs.declared.base.Base.{Base}
@@ -39,6 +41,17 @@ module _ {X : Type 0} where
   either-takes : (n : ℕ) (b : Bool) (x y : Read X) → (b ≡ true → taken x ≤ n) → (b ≡ false → taken y ≤ n) → taken (if b then x else y) ≤ n
   either-takes n true x y holds fails = holds refl
   either-takes n false x y holds fails = fails refl
+
+  good-takes : (r : Read X) (n : ℕ) → ((size : ℕ) (x : X) → r ≡ Good size x → size ≤ n) → ((size : ℕ) (c : Cause) → r ≡ Soft size c → ⊥) → taken r ≤ n
+  good-takes (Good size x) n good soft = good size x refl
+  good-takes (Soft size c) n good soft = absurd (soft size c refl)
+  good-takes (Hard c) n good soft = omega arith
+
+  good_not_soft : (m : ℕ) (x : X) (size : ℕ) (c : Cause) → Good m x ≡ Soft size c → ⊥
+  good_not_soft m x size c e = absurd cc
+
+  hard_not_soft : (why : Cause) (size : ℕ) (c : Cause) → (Hard {X} why) ≡ Soft size c → ⊥
+  hard_not_soft why size c e = absurd cc
 
   value-takes : (value : X → Val) (r : Read X) (n : ℕ) → taken r ≤ n → taken (as_value value r) ≤ n
   value-takes value (Good size v) n h = h
@@ -136,8 +149,12 @@ ip-takes : (coding : Coding) (bytes : List ℕ) → taken (ip_reading coding byt
 unfolding ip_reading
 ip-takes coding bytes = found-takes (length bytes) (address_of (points_of coding bytes))
 
+never-soft : (coding : Coding) (labels : List Label) (bytes : List ℕ) (size : ℕ) (c : Cause) → enum_reading coding labels bytes ≡ Soft size c → ⊥
+unfolding enum_reading
+never-soft coding labels bytes size c = elim (choice 0 labels (points_of coding bytes)) [ None ↦ hard_not_soft cause.Enum size c | Some found ↦ good_not_soft found.size found.number size c ]
+
 enum-takes : (coding : Coding) (labels : List Label) (bytes : List ℕ) → taken (enum_reading coding labels bytes) ≤ length bytes
-enum-takes coding labels bytes = ?
+enum-takes coding labels bytes = good-takes (enum_reading coding labels bytes) (length bytes) (enum_within coding labels bytes) (never-soft coding labels bytes)
 
 reading-takes : (whole : Applied) (bytes : List ℕ) → taken (reading_of whole bytes) ≤ length bytes
 reading-takes (integer kind coding) bytes = value-takes val.Num (int_reading kind coding bytes) (length bytes) (int-takes kind coding bytes)

@@ -14,46 +14,46 @@ use Rattle.pads_dispatch.specs.Applied.{Applied, applied, integer, field, binary
 use Rattle.pads_dispatch.specs.Kinds.{range_of}
 
 -- the number, if the value is one
+abbrev pub number_in : Val-F Val → Option ℤ
+number_in Val-F.Unit = None
+number_in Val-F.Missing = None
+number_in (Val-F.Num number) = Some number
+number_in (Val-F.Text text) = None
+number_in (Val-F.Enum label) = None
+number_in (Val-F.Tuple parts) = None
+number_in (Val-F.Branch number inner) = None
+number_in (Val-F.Array elements) = None
+
 unfoldable pub number_of : Val → Option ℤ
-number_of value = by_form (out-Val value)
-  where
-    by_form : Val-F Val → Option ℤ
-    by_form Val-F.Unit = None
-    by_form Val-F.Missing = None
-    by_form (Val-F.Num number) = Some number
-    by_form (Val-F.Text text) = None
-    by_form (Val-F.Enum label) = None
-    by_form (Val-F.Tuple parts) = None
-    by_form (Val-F.Branch number inner) = None
-    by_form (Val-F.Array elements) = None
+number_of value = number_in (out-Val value)
 
 -- the code points, if the value is a text
+abbrev pub text_in : Val-F Val → Option (List ℕ)
+text_in Val-F.Unit = None
+text_in Val-F.Missing = None
+text_in (Val-F.Num number) = None
+text_in (Val-F.Text text) = Some text
+text_in (Val-F.Enum label) = None
+text_in (Val-F.Tuple parts) = None
+text_in (Val-F.Branch number inner) = None
+text_in (Val-F.Array elements) = None
+
 unfoldable pub text_of : Val → Option (List ℕ)
-text_of value = by_form (out-Val value)
-  where
-    by_form : Val-F Val → Option (List ℕ)
-    by_form Val-F.Unit = None
-    by_form Val-F.Missing = None
-    by_form (Val-F.Num number) = None
-    by_form (Val-F.Text text) = Some text
-    by_form (Val-F.Enum label) = None
-    by_form (Val-F.Tuple parts) = None
-    by_form (Val-F.Branch number inner) = None
-    by_form (Val-F.Array elements) = None
+text_of value = text_in (out-Val value)
 
 -- the label's number, if the value is one
+abbrev pub label_in : Val-F Val → Option ℕ
+label_in Val-F.Unit = None
+label_in Val-F.Missing = None
+label_in (Val-F.Num number) = None
+label_in (Val-F.Text text) = None
+label_in (Val-F.Enum label) = Some label
+label_in (Val-F.Tuple parts) = None
+label_in (Val-F.Branch number inner) = None
+label_in (Val-F.Array elements) = None
+
 unfoldable pub label_of : Val → Option ℕ
-label_of value = by_form (out-Val value)
-  where
-    by_form : Val-F Val → Option ℕ
-    by_form Val-F.Unit = None
-    by_form Val-F.Missing = None
-    by_form (Val-F.Num number) = None
-    by_form (Val-F.Text text) = None
-    by_form (Val-F.Enum label) = Some label
-    by_form (Val-F.Tuple parts) = None
-    by_form (Val-F.Branch number inner) = None
-    by_form (Val-F.Array elements) = None
+label_of value = label_in (out-Val value)
 
 abbrev pub spelling_of : Applied → Val → Option (List ℕ)
 spelling_of (integer kind coding) v = option_and_then (int_spelling kind coding) (number_of v)

@@ -107,7 +107,7 @@ fn spell_number(alloc: Global, whole: Applied<'_>, number: i128) -> Result<Optio
 }
 
 /// The spelling of a text.
-#[tactic(auto, using(crate::proofs::Values::texts))]
+#[tactic(auto, using(crate::proofs::Values::texts), unfolding(pads_bases::specs::Classes::class_spelling, pads_bases::specs::Strings::char_spelling))]
 fn spell_text(alloc: Global, whole: Applied<'_>, text: &[u8]) -> Result<Option<Bytes>, Memory>
     ensures spelling { IfOk result (λ s. s ≡ spelling_of (seen whole.entry) (val.Text text.now)) }
 {
