@@ -1,12 +1,12 @@
 -- What the code finds in the bytes is the address of their points.
-use Rattle.std.proofs.Common.{◌≡◌, ℕ, zero, suc, pos, ◌+◌, ◌-◌, ◌<◌, ◌≤◌, Bool, true, false, ◌||◌, ◌&&◌, cond, length-take-le, min, nat_eq, nat_le, List, [], ◌∷◌, length, take, drop, map, Option, Some, None, option_map, refl, sym, ap, ◌∙◌, arith}
+use Rattle.std.proofs.Common.{◌≡◌, ℕ, pos, ◌-◌, ◌<◌, ◌≤◌, Bool, true, false, ◌||◌, ◌&&◌, cond, length-take-le, min, nat_eq, nat_le, List, [], ◌∷◌, length, take, drop, Option, Some, None, refl, ◌∙◌, arith}
 use Rattle.std.specs.Char.{is_ascii_digit}
-use Rattle.std.specs.List.{prefix_len, take_while, list_all}
+use Rattle.std.specs.List.{prefix_len, list_all}
 use Rattle.std.proofs.lemmas.Bool.{lt-leb, le-leb}
-use Rattle.pads_value.specs.declared.reading.Read.TheVariants.{Good, Soft, Hard}
+use Rattle.pads_value.specs.declared.reading.Read.TheVariants.{Good, Hard}
 use Rattle.pads_value.specs.declared.cause.Cause.TheVariants as cause
 use Rattle.pads_code.specs.declared.Coding.{Coding}
-use Rattle.pads_code.specs.CodePage.{point, points_of}
+use Rattle.pads_code.specs.CodePage.{points_of}
 use Rattle.pads_code.specs.Numerals.{number}
 use Rattle.pads_code.proofs.TextLemmas.{length-points, points-take, points-drop}
 use Rattle.pads_code.proofs.NumeralLemmas.{run_passes}

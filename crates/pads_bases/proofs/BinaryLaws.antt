@@ -1,14 +1,13 @@
 -- Binary integers read what they spell.
-use Rattle.std.proofs.Common.{◌-ℤ◌, ◌≡◌, ℕ, zero, suc, ◌+◌, ◌-◌, ◌*◌, ◌%◌, ◌^◌, ◌<◌, ◌≤◌, ◌&&◌, Bool, true, false, not, cond, ℤ, pos, negsuc, nat_eq, nat_lt, nat_le, List, [], length, take, Option, Some, None, refl, sym, ap, ◌∙◌, arith, inl, inr, length-take-le, append-nil}
+use Rattle.std.proofs.Common.{◌-ℤ◌, ◌≡◌, ℕ, suc, ◌-◌, ◌*◌, ◌^◌, ◌<◌, ◌≤◌, ◌&&◌, Bool, true, false, not, cond, ℤ, pos, negsuc, nat_lt, nat_le, List, [], length, take, Some, refl, sym, ap, ◌∙◌, arith, inl, inr, length-take-le, append-nil}
 use Rattle.std.specs.Option.{IsSomeAnd}
 use Rattle.std.proofs.Math.Seq.{take-length}
 use Rattle.std.proofs.Math.Nat.{mod-eq_of_lt, mod-lt, one-le-pow}
 use Rattle.std.proofs.lemmas.Int.{ints}
-use Rattle.std.proofs.lemmas.Bool.{cases_lt, lt-ltb, le-ltb, ltb-true, ltb-false, le-leb, leb-true}
+use Rattle.std.proofs.lemmas.Bool.{cases_lt, lt-ltb, le-ltb, ltb-true, ltb-false, leb-true}
 use Rattle.byteorder.specs.Endian.{big_number, little_number, twos_complement}
 use Rattle.byteorder.specs.Numbers.{big_number-reads_back, little_number-reads_back, length-bytes_high_first, length-bytes_low_first}
 use Rattle.byteorder.proofs.Bytes.{pow256}
-use Rattle.pads_value.specs.declared.reading.Read.{Read}
 use Rattle.pads_value.specs.declared.reading.Read.TheVariants.{Good, Soft, Hard}
 use Rattle.pads_value.specs.declared.cause.Cause.TheVariants as cause
 use Rattle.pads_code.proofs.NumeralLemmas.{both_true}
@@ -71,10 +70,10 @@ size_bounds n h = let both = both_true (nat_le 1 n) (nat_le n 8) h in (leb-true 
 -- in two's complement a number of the bytes fits them
 complement_fits : (n u : ℕ) → 1 ≤ n → n ≤ 8 → u < 2 ^ (8 * n) → fits true n (twos_complement n u) ≡ true
 complement_fits n u low high small = elim (cases_lt u (2 ^ (8 * n - 1))) [
-  inl below ↦ rw (lt-ltb u (2 ^ (8 * n - 1)) below) (lt-ltb u (2 ^ (8 * n - 1)) below)
+  | inl below ↦ rw (lt-ltb u (2 ^ (8 * n - 1)) below) (lt-ltb u (2 ^ (8 * n - 1)) below)
   | inr above ↦
-    let gap : pos u -ℤ pos (2 ^ (8 * n)) ≡ negsuc (2 ^ (8 * n) - u - 1) = omega (arith, ints) in
-    rw (le-ltb u (2 ^ (8 * n - 1)) above, gap) (lt-ltb (2 ^ (8 * n) - u - 1) (2 ^ (8 * n - 1)) (omega (arith, twice_half n low high)))
+      let gap : pos u -ℤ pos (2 ^ (8 * n)) ≡ negsuc (2 ^ (8 * n) - u - 1) = omega (arith, ints) in
+      rw (le-ltb u (2 ^ (8 * n - 1)) above, gap) (lt-ltb (2 ^ (8 * n) - u - 1) (2 ^ (8 * n - 1)) (omega (arith, twice_half n low high)))
 ]
 
 number_fits : (range : Range) (order : Order) (bytes : List ℕ) → 1 ≤ length bytes → length bytes ≤ 8 → (signed : Bool) → fits signed (length bytes) (cond signed (twos_complement (length bytes) (unsigned order bytes)) (pos (unsigned order bytes))) ≡ true

@@ -1,5 +1,5 @@
 -- The numbers of bytes, and the bytes of numbers.
-use Rattle.std.proofs.Common.{◌≡◌, ℕ, zero, suc, ◌+◌, ◌-◌, ◌*◌, ◌%◌, ◌^◌, ◌<◌, ◌≤◌, Bool, true, false, List, length, take, get_or, pos, negsuc, ℤ, int_lt, nat_le, nat_lt, ◌&&◌, length-take-le, Some, None, refl, sym, ap, ◌∙◌, arith}
+use Rattle.std.proofs.Common.{◌≡◌, ℕ, suc, ◌+◌, ◌-◌, ◌*◌, ◌%◌, ◌^◌, ◌<◌, ◌≤◌, Bool, true, false, List, length, take, get_or, pos, negsuc, ℤ, int_lt, nat_le, nat_lt, ◌&&◌, length-take-le, Some, None, refl, sym, ap, ◌∙◌, arith}
 use Rattle.std.specs.Int.{w128}
 use Rattle.std.proofs.Math.Nat.{mod-eq_of_lt, one-le-pow}
 use Rattle.std.proofs.Math.Arith.{digits_mod}
@@ -9,7 +9,7 @@ use Rattle.std.proofs.lemmas.Int.{ints}
 use Rattle.std.proofs.lemmas.Bool.{le-leb, le-ltb, ltb-true}
 use Rattle.byteorder.specs.Endian.{big_number, little_number, low_bytes}
 use Rattle.byteorder.specs.Numbers.{big_from-lt, little_from-lt}
-use Rattle.pads_value.specs.declared.reading.Read.TheVariants.{Good, Soft, Hard}
+use Rattle.pads_value.specs.declared.reading.Read.TheVariants.{Hard}
 use Rattle.pads_value.specs.declared.cause.Cause.TheVariants as cause
 use Rattle.pads_bases.specs.declared.binary.Range.{Range}
 use Rattle.pads_bases.specs.declared.binary.Order.{Order}

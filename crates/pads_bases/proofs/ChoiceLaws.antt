@@ -1,18 +1,17 @@
 -- Enums read what they spell.
-use Rattle.std.proofs.Common.{◌≡◌, ℕ, zero, suc, ◌+◌, ◌<◌, ◌≤◌, ◌&&◌, Bool, true, false, cond, nat_eq, nat_lt, List, [], ◌∷◌, length, take, Option, Some, None, option_map, refl, sym, ap, ◌∙◌, arith, inl, inr, ◌⊎◌}
+use Rattle.std.proofs.Common.{◌≡◌, ℕ, zero, suc, ◌+◌, ◌≤◌, Bool, true, false, cond, nat_eq, nat_lt, List, [], ◌∷◌, length, take, Option, Some, None, option_map, refl, sym, ap, ◌∙◌, arith, inl, inr, ◌⊎◌}
 use Rattle.std.specs.Option.{IsSomeAnd}
 use Rattle.std.specs.List.{slice_get}
 use Rattle.std.proofs.Math.Seq.{take-length}
 use Rattle.std.proofs.lemmas.Bool.{cases_lt, cases_Bool, lt-ltb, le-ltb, eqb-true, eq-eqb}
-use Rattle.pads_value.specs.declared.reading.Read.{Read}
-use Rattle.pads_value.specs.declared.reading.Read.TheVariants.{Good, Soft, Hard}
+use Rattle.pads_value.specs.declared.reading.Read.TheVariants.{Good}
 use Rattle.pads_code.specs.declared.Coding.{Coding}
 use Rattle.pads_code.specs.CodePage.{points_of, bytes_of}
 use Rattle.pads_code.proofs.TextLemmas.{length-points, length-bytes, points-take, points-bytes}
 use Rattle.pads_code.proofs.NumeralLemmas.{both_true}
 use Rattle.pads_bases.specs.declared.enums.Label.{Label}
 use Rattle.pads_bases.specs.declared.enums.Choice.{Choice}
-use Rattle.pads_bases.specs.Enums.{begins, longer, merged, choice, choice_read, enum_reading, enum_spelling, SpellsEnum, SpellingsDiffer}
+use Rattle.pads_bases.specs.Enums.{begins, longer, choice, choice_read, enum_reading, enum_spelling, SpellsEnum, SpellingsDiffer}
 
 -- a spelling that begins a text is its front
 pub begins_front : (spelling points : List ℕ) → begins spelling points ≡ true → (take (length spelling) points ≡ spelling) × (length spelling ≤ length points)
@@ -52,16 +51,16 @@ pub choice_is : (start : ℕ) (labels : List Label) (points : List ℕ) (c : Cho
 choice_is start [] points c e = cc
 choice_is start (l ∷ ls) points c e =
     elim (cases_Bool (begins l.spelling points)) [
-      inl here ↦
-        let this : Choice = record { number = start; size = length l.spelling } in
-        let e' : longer this (choice (suc start) ls points) ≡ Some c = rw here at e in
-        elim (longer_one this c (choice (suc start) ls points) e') [
-          inl same ↦ first_label start l ls points c here same
-          | inr later ↦ later_label start l ls points c (choice_is (suc start) ls points c later)
-        ]
+      | inl here ↦
+          let this : Choice = record { number = start; size = length l.spelling } in
+          let e' : longer this (choice (suc start) ls points) ≡ Some c = rw here at e in
+          elim (longer_one this c (choice (suc start) ls points) e') [
+            | inl same ↦ first_label start l ls points c here same
+            | inr later ↦ later_label start l ls points c (choice_is (suc start) ls points c later)
+          ]
       | inr other ↦
-        let e' : choice (suc start) ls points ≡ Some c = rw other at e in
-        later_label start l ls points c (choice_is (suc start) ls points c e')
+          let e' : choice (suc start) ls points ≡ Some c = rw other at e in
+          later_label start l ls points c (choice_is (suc start) ls points c e')
     ]
 
 -- every label that begins the text is at most as long as the choice
@@ -73,13 +72,13 @@ pub record Reaches (size : ℕ) (r : Option Choice) : Type 0 where
 longer_this : (this : Choice) (later : Option Choice) → Reaches this.size (longer this later)
 longer_this this None = record { chosen = this; is = refl; long = omega arith }
 longer_this this (Some l) = elim (cases_lt this.size l.size) [
-  inl lt ↦ record { chosen = l; is = rw (lt-ltb this.size l.size lt) refl; long = omega arith }
+  | inl lt ↦ record { chosen = l; is = rw (lt-ltb this.size l.size lt) refl; long = omega arith }
   | inr le ↦ record { chosen = this; is = rw (le-ltb this.size l.size le) refl; long = omega arith }
 ]
 
 longer_later : (this l : Choice) → Reaches l.size (longer this (Some l))
 longer_later this l = elim (cases_lt this.size l.size) [
-  inl lt ↦ record { chosen = l; is = rw (lt-ltb this.size l.size lt) refl; long = omega arith }
+  | inl lt ↦ record { chosen = l; is = rw (lt-ltb this.size l.size lt) refl; long = omega arith }
   | inr le ↦ record { chosen = this; is = rw (le-ltb this.size l.size le) refl; long = omega arith }
 ]
 

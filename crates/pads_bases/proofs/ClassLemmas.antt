@@ -1,7 +1,7 @@
 -- What the code finds in the bytes is the reading of the class.
-use Rattle.std.proofs.Common.{◌≡◌, ℕ, ◌≤◌, Bool, true, false, nat_eq, List, length, take, refl, sym, ap, ◌∙◌, arith, length-take-le}
+use Rattle.std.proofs.Common.{◌≡◌, ℕ, true, false, nat_eq, List, length, take, refl}
 use Rattle.std.specs.List.{prefix_len}
-use Rattle.pads_value.specs.declared.reading.Read.TheVariants.{Good, Soft, Hard}
+use Rattle.pads_value.specs.declared.reading.Read.TheVariants.{Good, Hard}
 use Rattle.pads_value.specs.declared.cause.Cause.TheVariants as cause
 use Rattle.pads_code.specs.declared.Coding.{Coding}
 use Rattle.pads_code.specs.CodePage.{points_of}

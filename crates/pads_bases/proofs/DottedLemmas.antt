@@ -1,5 +1,5 @@
 -- What the code spells of an address, piece by piece, is the canonical spelling.
-use Rattle.std.proofs.Common.{◌≡◌, ℕ, ◌+◌, ◌/◌, ◌%◌, ◌^◌, ◌<◌, ℤ, pos, negsuc, int_lt, nat_lt, true, false, List, [], ◌∷◌, ◌++◌, map, Some, None, refl, sym, ap, ◌∙◌, arith, append_assoc}
+use Rattle.std.proofs.Common.{◌≡◌, ℕ, ◌/◌, ◌%◌, ◌^◌, ◌<◌, ℤ, pos, negsuc, int_lt, nat_lt, true, false, List, ◌∷◌, ◌++◌, Some, None, refl, arith, append_assoc}
 use Rattle.std.specs.Int.RustNames.{unsigned_abs}
 use Rattle.std.specs.Fmt.{decimal}
 use Rattle.std.proofs.lemmas.Int.{ints}
@@ -7,7 +7,7 @@ use Rattle.std.proofs.lemmas.Bool.{lt-ltb}
 use Rattle.std.proofs.lemmas.List.{map-append}
 use Rattle.pads_code.specs.declared.Coding.{Coding}
 use Rattle.pads_code.specs.CodePage.{byte_of, bytes_of}
-use Rattle.pads_bases.specs.Addresses.{dot, dotted, ip_spelling}
+use Rattle.pads_bases.specs.Addresses.{dot, ip_spelling}
 
 pub spelled_below : (coding : Coding) (v : ℤ) → int_lt v (pos 0) ≡ true → None ≡ ip_spelling coding v
 unfolding ip_spelling

@@ -1,15 +1,14 @@
 -- Texts of a fixed width, characters and class texts read what they spell.
-use Rattle.std.proofs.Common.{◌≡◌, ℕ, zero, suc, ◌<◌, ◌≤◌, ◌&&◌, Bool, true, false, not, cond, ℤ, pos, negsuc, nat_eq, nat_lt, nat_le, List, [], ◌∷◌, length, take, Option, Some, None, refl, sym, ap, ◌∙◌, arith, length-take-le}
+use Rattle.std.proofs.Common.{◌≡◌, ℕ, ◌≤◌, ◌&&◌, Bool, true, false, not, cond, ℤ, pos, negsuc, nat_eq, nat_lt, nat_le, List, [], ◌∷◌, length, take, Some, refl, sym, ap, ◌∙◌, arith, length-take-le}
 use Rattle.std.specs.Option.{IsSomeAnd}
-use Rattle.std.specs.List.{prefix_len, take_while, list_all}
+use Rattle.std.specs.List.{take_while, list_all}
 use Rattle.std.proofs.Math.Seq.{take-length}
-use Rattle.std.proofs.lemmas.Bool.{eq-eqb, eqb-true, eqb-false, ltb-false, le-ltb, le-leb, leb-true, ne_eqb}
-use Rattle.pads_value.specs.declared.reading.Read.{Read}
-use Rattle.pads_value.specs.declared.reading.Read.TheVariants.{Good, Soft, Hard}
+use Rattle.std.proofs.lemmas.Bool.{eq-eqb, eqb-true, ltb-false, le-ltb, le-leb}
+use Rattle.pads_value.specs.declared.reading.Read.TheVariants.{Good, Hard}
 use Rattle.pads_value.specs.declared.cause.Cause.TheVariants as cause
 use Rattle.pads_code.specs.declared.Coding.{Coding}
 use Rattle.pads_code.specs.CodePage.{point, points_of, bytes_of}
-use Rattle.pads_code.proofs.TextLemmas.{length-points, length-bytes, points-take, points-bytes}
+use Rattle.pads_code.proofs.TextLemmas.{length-points, length-bytes, points-bytes}
 use Rattle.pads_code.proofs.NumeralLemmas.{both_true, run_passes, whole_run}
 use Rattle.pads_bases.specs.Strings.{fixed_reading, char_reading, fixed_spelling, char_spelling, SpellsFixed, SpellsChar, widest}
 use Rattle.pads_bases.specs.Classes.{is_class, has_point, is_class_text, class_reading, class_spelling, SpellsClass}

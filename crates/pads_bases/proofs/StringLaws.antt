@@ -1,20 +1,18 @@
 -- Texts read what they spell.
-use Rattle.std.proofs.Common.{◌≡◌, ℕ, zero, suc, ◌<◌, ◌≤◌, ◌&&◌, Bool, true, false, not, cond, ℤ, pos, negsuc, nat_eq, nat_lt, nat_le, List, [], ◌∷◌, length, take, Option, Some, None, refl, sym, ap, ◌∙◌, arith, length-take-le}
+use Rattle.std.proofs.Common.{◌≡◌, ℕ, ◌≤◌, Bool, true, false, not, cond, nat_eq, List, length, take, Option, Some, None, refl, sym, ap, ◌∙◌, arith}
 use Rattle.std.specs.Option.{IsSomeAnd}
-use Rattle.std.specs.List.{prefix_len, take_while, list_all}
+use Rattle.std.specs.List.{prefix_len, take_while}
 use Rattle.std.proofs.Math.Seq.{take-length}
-use Rattle.std.proofs.lemmas.Bool.{eq-eqb, eqb-true, eqb-false, ltb-false, le-ltb, le-leb, leb-true, ne_eqb}
 use Rattle.std.proofs.lemmas.List.Folds.{length-prefix_len}
 use Rattle.std.proofs.lemmas.List.Sums.{prefix_len-le-length}
 use Rattle.pads_value.specs.declared.reading.Read.{Read}
-use Rattle.pads_value.specs.declared.reading.Read.TheVariants.{Good, Soft, Hard}
+use Rattle.pads_value.specs.declared.reading.Read.TheVariants.{Good, Hard}
 use Rattle.pads_value.specs.declared.cause.Cause.{Cause}
-use Rattle.pads_value.specs.declared.cause.Cause.TheVariants as cause
 use Rattle.pads_code.specs.declared.Coding.{Coding}
 use Rattle.pads_code.specs.CodePage.{points_of, bytes_of}
 use Rattle.pads_code.proofs.TextLemmas.{length-points, length-bytes, points-take, points-bytes}
-use Rattle.pads_code.proofs.NumeralLemmas.{both_true, run_passes, whole_run}
-use Rattle.pads_bases.specs.Strings.{until_reading, fixed_reading, char_reading, until_spelling, fixed_spelling, char_spelling, SpellsUntil, SpellsFixed, SpellsChar, HasNoStop, widest}
+use Rattle.pads_code.proofs.NumeralLemmas.{run_passes, whole_run}
+use Rattle.pads_bases.specs.Strings.{until_reading, until_spelling, SpellsUntil, HasNoStop}
 
 -- what a good reading says
 pub good_parts : {V : Type 0} (a n : ℕ) (x v : V) → Good a x ≡ Good n v → (n ≡ a) × (v ≡ x)

@@ -1,13 +1,12 @@
 -- What the code finds in the bytes is the reading of their points.
-use Rattle.std.proofs.Common.{◌≡◌, ◌≢◌, ℕ, zero, suc, ◌+◌, ◌<◌, ◌≤◌, Bool, true, false, ℤ, pos, negsuc, int_lt, nat_eq, nat_lt, List, [], ◌∷◌, length, take, get_or, Option, Some, None, refl, sym, ap, ◌∙◌, subst, Result, arith, length-take-le}
+use Rattle.std.proofs.Common.{◌≡◌, ℕ, ◌<◌, ◌≤◌, Bool, true, false, ℤ, pos, negsuc, int_lt, nat_eq, nat_lt, List, [], ◌∷◌, length, take, get_or, Some, None, refl, sym, ap, ◌∙◌, subst, Result, arith, length-take-le}
 use Rattle.std.specs.Result.{IfOk}
-use Rattle.std.specs.List.{position_or_len, before_first}
+use Rattle.std.specs.List.{position_or_len}
 use Rattle.std.proofs.lemmas.Bool.{ne_eqb, eqb-true, eqb-false, eq-eqb}
 use Rattle.std.proofs.lemmas.Int.{ints}
 use Rattle.std.proofs.lemmas.List.{get_or-map}
 use Rattle.std.proofs.lemmas.List.Sums.{position_or_len_is}
-use Rattle.pads_value.specs.declared.reading.Read.{Read}
-use Rattle.pads_value.specs.declared.reading.Read.TheVariants.{Good, Soft, Hard}
+use Rattle.pads_value.specs.declared.reading.Read.TheVariants.{Good, Hard}
 use Rattle.pads_value.specs.declared.cause.Cause.TheVariants as cause
 use Rattle.pads_code.specs.declared.Coding.{Coding}
 use Rattle.pads_code.specs.CodePage.{point, byte_of, points_of}

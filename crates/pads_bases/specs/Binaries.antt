@@ -1,5 +1,5 @@
 -- Binary integers of 1 to 8 bytes, low or high byte first; those of a signed kind in two's complement.
-use Rattle.std.specs.Prelude.{◌≡◌, ℕ, suc, ℤ, pos, negsuc, ◌-◌, ◌*◌, ◌%◌, ◌^◌, ◌≤◌, Bool, true, ◌&&◌, not, int_lt, nat_le, nat_lt, if◌then◌else◌, List, take, length, Option, Some, None}
+use Rattle.std.specs.Prelude.{◌≡◌, ℕ, suc, ℤ, pos, negsuc, ◌-◌, ◌*◌, ◌%◌, ◌^◌, Bool, true, ◌&&◌, not, int_lt, nat_le, nat_lt, if◌then◌else◌, List, take, length, Option, Some, None}
 use Rattle.byteorder.specs.Endian.{big_number, little_number, big_bytes, little_bytes, twos_complement}
 use Rattle.pads_value.specs.declared.reading.Read.{Read}
 use Rattle.pads_value.specs.declared.reading.Read.TheVariants.{Good, Soft, Hard}

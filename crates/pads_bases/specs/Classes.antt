@@ -1,8 +1,8 @@
 -- Class texts: which code points a class such as `A-Za-z0-9` has, and the longest run of them.
-use Rattle.std.specs.Prelude.{◌≡◌, ℕ, Bool, true, ◌==◌, ◌&&◌, nat_le, if◌then◌else◌, not, List, [], ◌∷◌, ◌<◌, length, slice_index, Option, Some, None}
+use Rattle.std.specs.Prelude.{◌≡◌, ℕ, Bool, true, ◌==◌, ◌&&◌, nat_le, if◌then◌else◌, not, List, [], ◌∷◌, length, slice_index, Option, Some, None}
 use Rattle.std.specs.List.{take_while, list_all, list_any}
 use Rattle.pads_value.specs.declared.reading.Read.{Read}
-use Rattle.pads_value.specs.declared.reading.Read.TheVariants.{Good, Soft, Hard}
+use Rattle.pads_value.specs.declared.reading.Read.TheVariants.{Good, Hard}
 use Rattle.pads_value.specs.declared.cause.Cause.TheVariants as cause
 use Rattle.pads_code.specs.declared.Coding.{Coding}
 use Rattle.pads_code.specs.CodePage.{points_of, bytes_of}

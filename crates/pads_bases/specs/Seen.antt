@@ -1,5 +1,4 @@
 -- An octet that the code found, with the bytes behind it, as the definitions see it.
-use Rattle.std.specs.Prelude.{ℕ, List}
 use Rattle.pads_code.specs.declared.Coding.{Coding}
 use Rattle.pads_code.specs.CodePage.{points_of}
 use Rattle.pads_bases.specs.declared.address.Found.{Found}

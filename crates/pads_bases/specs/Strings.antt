@@ -1,9 +1,9 @@
 -- Texts: up to a stop character, to the end of the record, of a fixed width, and single characters. A
 -- text's value is its code points, and its canonical spelling their bytes.
-use Rattle.std.specs.Prelude.{◌≡◌, ◌≢◌, ℕ, ℤ, pos, negsuc, ◌<◌, ◌==◌, ◌&&◌, nat_lt, nat_le, if◌then◌else◌, not, true, List, [], ◌∷◌, take, length, Option, Some, None}
+use Rattle.std.specs.Prelude.{◌≡◌, ℕ, ℤ, pos, negsuc, ◌==◌, ◌&&◌, nat_lt, nat_le, if◌then◌else◌, not, true, List, [], ◌∷◌, take, length, Option, Some, None}
 use Rattle.std.specs.List.{before_first, list_all}
 use Rattle.pads_value.specs.declared.reading.Read.{Read}
-use Rattle.pads_value.specs.declared.reading.Read.TheVariants.{Good, Soft, Hard}
+use Rattle.pads_value.specs.declared.reading.Read.TheVariants.{Good, Hard}
 use Rattle.pads_value.specs.declared.cause.Cause.TheVariants as cause
 use Rattle.pads_code.specs.declared.Coding.{Coding}
 use Rattle.pads_code.specs.CodePage.{point, points_of, bytes_of}

@@ -1,4 +1,4 @@
-use Rattle.std.proofs.Common.{arith, rules, sym, ◌∙◌}
+use Rattle.std.proofs.Common.{arith, sym, ◌∙◌}
 use Rattle.pads_bases.proofs.AddressLemmas.{FindsRun, octet_missing, octet_too_long, octet_too_large, octet_there}
 use Rattle.pads_bases.proofs.address.read_octet.Goals as goal
 

@@ -1,6 +1,5 @@
-use Rattle.std.proofs.Common.{◌≡◌, ◌∙◌, arith, pos, sym}
+use Rattle.std.proofs.Common.{◌∙◌, arith, sym}
 use Rattle.std.specs.Int.RustNames.{unsigned_abs}
-use Rattle.std.specs.Int.{w128}
 use Rattle.std.proofs.lemmas.Int.{ints, to_z-of_z}
 use Rattle.pads_bases.proofs.BinaryLemmas.{no_size_below, no_size_above, not_of_kind, no_place, bytes_spelled}
 use Rattle.pads_bases.proofs.bytes.spell_bin.Goals as goal

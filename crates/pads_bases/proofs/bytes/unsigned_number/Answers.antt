@@ -1,6 +1,4 @@
-use Rattle.std.proofs.Common.{◌≡◌, ◌∙◌, ap, arith, length}
-use Rattle.std.proofs.lemmas.Int.{to_z-of_z}
-use Rattle.byteorder.specs.Endian.{twos_complement}
+use Rattle.std.proofs.Common.{◌∙◌, arith}
 use Rattle.pads_bases.proofs.BinaryLemmas.{AreBytes, unsigned_low, unsigned_high}
 use Rattle.pads_bases.proofs.bytes.unsigned_number.Goals as goal
 

@@ -1,7 +1,7 @@
-use Rattle.std.proofs.Common.{arith, rules, sym, ◌∙◌}
+use Rattle.std.proofs.Common.{arith, sym, ◌∙◌}
 use Rattle.pads_code.specs.CodePage.{points_of}
 use Rattle.pads_code.proofs.TextLemmas.{length-points}
-use Rattle.pads_bases.proofs.ChoiceLemmas.{begins_short, begins_differs, begins_goes_on, begins_whole}
+use Rattle.pads_bases.proofs.ChoiceLemmas.{begins_short, begins_differs, begins_goes_on}
 use Rattle.pads_bases.proofs.choice.begins_with.Goals as goal
 
 pub returns-then-bytes-spelling : goal.returns-then-bytes-spelling

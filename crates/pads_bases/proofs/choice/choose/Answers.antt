@@ -1,4 +1,4 @@
-use Rattle.std.proofs.Common.{arith, rules, sym, ◌∙◌}
+use Rattle.std.proofs.Common.{arith}
 use Rattle.pads_code.specs.CodePage.{points_of}
 use Rattle.pads_bases.proofs.ChoiceLemmas.{choice_none, choice_step}
 use Rattle.pads_bases.proofs.choice.choose.Goals as goal

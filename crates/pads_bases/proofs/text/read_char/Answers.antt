@@ -1,4 +1,4 @@
-use Rattle.std.proofs.Common.{arith, sym, ◌∙◌}
+use Rattle.std.proofs.Common.{sym, ◌∙◌}
 use Rattle.pads_bases.proofs.StringLemmas.{if_ok_same, char_missing, char_there}
 use Rattle.pads_bases.proofs.text.read_char.Goals as goal
 

@@ -1,4 +1,3 @@
-use Rattle.std.proofs.Common.{arith}
 use Rattle.pads_bases.proofs.StringLemmas.{if_ok_same, text_until, text_to_end}
 use Rattle.pads_bases.proofs.text.read_until.Goals as goal
 
