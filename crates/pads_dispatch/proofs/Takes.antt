@@ -27,7 +27,7 @@ use Rattle.pads_bases.specs.declared.enums.Label.{Label}
 use Rattle.pads_bases.specs.Addresses.{Numbered, address as address_of, address_read, ip_reading}
 use Rattle.pads_bases.specs.Binaries.{is_size, has_number, bin_number, ranged as binary_or_range, bin_reading}
 use Rattle.pads_bases.specs.Classes.{is_class, has_point, class_reading}
-use Rattle.pads_bases.specs.Enums.{choice, enum_reading}
+use Rattle.pads_bases.specs.Enums.{choice, choice_read, enum_reading}
 use Rattle.pads_bases.proofs.ChoiceLaws.{enum_within}
 use Rattle.pads_bases.specs.Strings.{until_reading, fixed_reading, char_reading}
 use Rattle.pads_dispatch.specs.declared.base.Arg.{Arg}
@@ -47,11 +47,14 @@ module _ {X : Type 0} where
   good-takes (Soft size c) n good soft = absurd (soft size c refl)
   good-takes (Hard c) n good soft = omega arith
 
-  good_not_soft : (m : ℕ) (x : X) (size : ℕ) (c : Cause) → Good m x ≡ Soft size c → ⊥
-  good_not_soft m x size c e = absurd cc
+  abbrev Same : Read X → Read X → Type 0
+  Same x y = x ≡ y
 
-  hard_not_soft : (why : Cause) (size : ℕ) (c : Cause) → (Hard {X} why) ≡ Soft size c → ⊥
-  hard_not_soft why size c e = absurd cc
+  good_not_soft : (m : ℕ) (x : X) (size : ℕ) (c : Cause) → Good m x ≡ Soft size c → ⊥
+  good_not_soft m x size c e = grind (arith, e)
+
+  hard_not_soft : (why : Cause) (size : ℕ) (c : Cause) → Same (Hard why) (Soft size c) → ⊥
+  hard_not_soft why size c e = grind (arith, e)
 
   value-takes : (value : X → Val) (r : Read X) (n : ℕ) → taken r ≤ n → taken (as_value value r) ≤ n
   value-takes value (Good size v) n h = h
@@ -149,9 +152,17 @@ ip-takes : (coding : Coding) (bytes : List ℕ) → taken (ip_reading coding byt
 unfolding ip_reading
 ip-takes coding bytes = found-takes (length bytes) (address_of (points_of coding bytes))
 
+option-cases : {A : Type 0} (o : Option A) (P : Option A → Type 0) → P None → ((x : A) → P (Some x)) → P o
+option-cases None P none some = none
+option-cases (Some x) P none some = some x
+
+choice-not-soft : (labels : List Label) (points : List ℕ) (size : ℕ) (c : Cause) → choice_read (choice 0 labels points) ≡ Soft size c → ⊥
+choice-not-soft labels points size c =
+    option-cases (choice 0 labels points) (λ o. choice_read o ≡ Soft size c → ⊥) (hard_not_soft cause.Enum size c) (λ found. good_not_soft found.size found.number size c)
+
 never-soft : (coding : Coding) (labels : List Label) (bytes : List ℕ) (size : ℕ) (c : Cause) → enum_reading coding labels bytes ≡ Soft size c → ⊥
 unfolding enum_reading
-never-soft coding labels bytes size c = elim (choice 0 labels (points_of coding bytes)) [ None ↦ hard_not_soft cause.Enum size c | Some found ↦ good_not_soft found.size found.number size c ]
+never-soft coding labels bytes size c e = choice-not-soft labels (points_of coding bytes) size c e
 
 enum-takes : (coding : Coding) (labels : List Label) (bytes : List ℕ) → taken (enum_reading coding labels bytes) ≤ length bytes
 enum-takes coding labels bytes = good-takes (enum_reading coding labels bytes) (length bytes) (enum_within coding labels bytes) (never-soft coding labels bytes)

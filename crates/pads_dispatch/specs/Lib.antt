@@ -1,4 +1,5 @@
 pub mod Applied
+pub mod Conditions
 pub mod Kinds
 pub mod Labels
 pub mod Readings

@@ -4,9 +4,11 @@
 mod applied;
 mod base;
 mod kinds;
+mod laws;
 mod read;
 mod spell;
 
 pub use base::{Arg, Args, Base};
+pub use laws::bases_read_what_they_spell;
 pub use read::read_base;
 pub use spell::spell_base;
