@@ -4,6 +4,8 @@ use Rattle.std.specs.List.{list_all}
 use Rattle.std.proofs.lemmas.List.{length-map}
 use Rattle.std.proofs.lemmas.List.Folds.{list_all-map}
 use Rattle.pads_expr.specs.declared.expr.Expr.{Expr}
+use Rattle.pads_dispatch.specs.declared.base.Base.{Base}
+use Rattle.pads_dispatch.specs.Labels.{labels_fit}
 use Rattle.pads_calc.specs.declared.decl.Decl.{Decl}
 use Rattle.pads_calc.specs.declared.term.Arm.{Arm, fold-Arm, fold_out-Arm}
 use Rattle.pads_calc.specs.declared.term.Case.{Case, fold-Case, fold_out-Case}
@@ -66,6 +68,9 @@ counts-Alt arms = ap counts_fit (sym (term.rolls-Alt arms)) ∙ counts-roll (Ter
 
 pub counts-Switch : (e : Expr) (cases : List Case) → counts_fit (term.Switch e cases) ≡ (few cases && list_all (λ case. counts_fit case.arm.term) cases)
 counts-Switch e cases = ap counts_fit (sym (term.rolls-Switch e cases)) ∙ counts-roll (Term-F.Switch e cases) ∙ judged of_case (λ case. counts_fit case.arm.term) of_case-is cases
+
+pub fit-base : (base : Base) (args : List Expr) → counts_fit (term.Base base args) ≡ true → labels_fit base ≡ true
+fit-base base args h = sym (ap counts_fit (sym (term.rolls-Base base args)) ∙ counts-roll (Term-F.Base base args)) ∙ h
 
 pub counts-Guard : (inner : Term) (binder : ℕ) (condition : Expr) → counts_fit (term.Guard inner binder condition) ≡ counts_fit inner
 counts-Guard inner binder condition = ap counts_fit (sym (term.rolls-Guard inner binder condition)) ∙ counts-roll (Term-F.Guard inner binder condition)
