@@ -7,6 +7,8 @@ mod kinds;
 mod laws;
 mod read;
 mod spell;
+#[cfg(test)]
+mod tests;
 
 pub use base::{Arg, Args, Base, labels_fit};
 pub use laws::bases_read_what_they_spell;
