@@ -1,0 +1,5 @@
+pub mod Numbers
+pub mod Operators
+pub mod Parts
+pub mod Seen
+pub mod Worth

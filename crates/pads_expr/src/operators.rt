@@ -1,0 +1,95 @@
+ghost use Rattle.std.specs.Prelude.{◌≡◌, option_map};
+ghost use Rattle.pads_expr.specs.Operators.{holds, on_numbers, on_texts, on_truths, operate, decides};
+ghost use Rattle.pads_expr.specs.Worth.{told, number_or_absent, truth_or_ill};
+ghost use Rattle.pads_expr.specs.Seen.{seen};
+
+use crate::numbers;
+use crate::{BinOp, Res};
+use std::cmp::Ordering;
+
+/// What a comparison says of two things in that order; `None` for an operator that compares nothing.
+fn holds_for(op: BinOp, order: Ordering) -> Option<bool>
+    ensures comparison { result ≡ holds op order }
+{
+    match op {
+        BinOp::Eq => Some(order.is_eq()),
+        BinOp::Ne => Some(order.is_ne()),
+        BinOp::Lt => Some(order.is_lt()),
+        BinOp::Le => Some(order.is_le()),
+        BinOp::Gt => Some(order.is_gt()),
+        BinOp::Ge => Some(order.is_ge()),
+        BinOp::Or | BinOp::And => None,
+        BinOp::Add | BinOp::Sub | BinOp::Mul | BinOp::Div | BinOp::Rem => None,
+    }
+}
+
+/// A number as what an expression is worth.
+fn number<'a>(number: Option<i128>) -> Option<Res<'a>>
+    ensures value { option_map seen result ≡ told (number_or_absent number) }
+{
+    Some(Res::Num(number?))
+}
+
+/// A truth value as what an expression is worth.
+fn truth<'a>(truth: Option<bool>) -> Option<Res<'a>>
+    ensures value { option_map seen result ≡ told (truth_or_ill truth) }
+{
+    Some(Res::Truth(truth?))
+}
+
+/// An operator between two numbers.
+fn between_numbers<'a>(op: BinOp, a: i128, b: i128) -> Option<Res<'a>>
+    ensures value { option_map seen result ≡ told (on_numbers op a b) }
+{
+    match op {
+        BinOp::Add => number(numbers::add(a, b)),
+        BinOp::Sub => number(numbers::subtract(a, b)),
+        BinOp::Mul => number(numbers::multiply(a, b)),
+        BinOp::Div => number(numbers::divide(a, b)),
+        BinOp::Rem => number(numbers::remainder(a, b)),
+        _ => truth(holds_for(op, a.cmp(&b))),
+    }
+}
+
+/// An operator between two texts.
+fn between_texts<'a>(op: BinOp, a: &[u8], b: &[u8]) -> Option<Res<'a>>
+    ensures value { option_map seen result ≡ told (on_texts op a.now b.now) }
+{
+    truth(holds_for(op, a.cmp(b)))
+}
+
+/// An operator between two truth values.
+fn between_truths<'a>(op: BinOp, a: bool, b: bool) -> Option<Res<'a>>
+    ensures value { option_map seen result ≡ told (on_truths op a b) }
+{
+    match op {
+        BinOp::Or => Some(Res::Truth(a || b)),
+        BinOp::And => Some(Res::Truth(a && b)),
+        BinOp::Eq => Some(Res::Truth(a == b)),
+        BinOp::Ne => Some(Res::Truth(a != b)),
+        _ => None,
+    }
+}
+
+/// An operator between what its two operands are worth.
+pub fn apply<'a>(op: BinOp, a: Res<'a>, b: Res<'a>) -> Option<Res<'a>>
+    ensures value { option_map seen result ≡ told (operate op (seen a.entry) (seen b.entry)) }
+{
+    match (a, b) {
+        (Res::Num(a), Res::Num(b)) => between_numbers(op, a, b),
+        (Res::Text(a), Res::Text(b)) => between_texts(op, a, b),
+        (Res::Truth(a), Res::Truth(b)) => between_truths(op, a, b),
+        _ => None,
+    }
+}
+
+/// Whether the left operand alone decides.
+pub fn is_decided(op: BinOp, left: Res) -> bool
+    ensures decided { result ≡ decides op (seen left.entry) }
+{
+    match (op, left) {
+        (BinOp::And, Res::Truth(left)) => !left,
+        (BinOp::Or, Res::Truth(left)) => left,
+        _ => false,
+    }
+}

@@ -1,0 +1,107 @@
+ghost use Rattle.std.specs.Prelude.{◌≡◌, option_map};
+ghost use Rattle.std.specs.Option.{option_copied};
+ghost use Rattle.pads_expr.specs.Parts.{worth_of, worth_or, part_of, arm_of, is_arm_of, item_at, element_of, length_of, minus, negation};
+ghost use Rattle.pads_expr.specs.Seen.{seen};
+ghost use Rattle.pads_expr.specs.Worth.{told};
+
+use crate::Res;
+use crate::numbers;
+use pads_value::{Items, Val};
+
+/// What a value is worth where a name, a part, a branch or an element stands for it.
+pub fn worth<'a>(value: &'a Val) -> Option<Res<'a>>
+    ensures worth { option_map seen result ≡ told (worth_of value.now) }
+{
+    match value {
+        Val::Missing => None,
+        Val::Num(number) => Some(Res::Num(*number)),
+        Val::Text(text) => Some(Res::Text(text.as_slice())),
+        _ => Some(Res::Part(value)),
+    }
+}
+
+/// The item at an index from 0, if the list has it.
+fn item<'a>(items: &'a Items<Val>, index: i128) -> Option<&'a Val>
+    ensures item { option_copied result ≡ item_at items.now index }
+{
+    if index < 0 || items.len() as i128 <= index {
+        return None;
+    }
+    items.get(index as u64)
+}
+
+impl<'a> Res<'a> {
+    /// Part `number` of a struct.
+    pub fn part(self, number: u16) -> Option<Res<'a>>
+        ensures value { option_map seen result ≡ told (part_of number (seen self.entry)) }
+    {
+        match self {
+            Res::Part(Val::Tuple(parts)) => worth(parts.get(number as u64)?),
+            _ => None,
+        }
+    }
+
+    /// Branch `number` of a union or optional, where that was chosen.
+    pub fn arm(self, number: u16) -> Option<Res<'a>>
+        ensures value { option_map seen result ≡ told (arm_of number (seen self.entry)) }
+    {
+        match self {
+            Res::Part(Val::Branch(chosen, inner)) => {
+                if *chosen == number { worth(inner.get()) } else { None }
+            }
+            _ => None,
+        }
+    }
+
+    /// Whether a union, optional or enum chose the branch or label `number`.
+    pub fn is_arm(self, number: u16) -> Option<Res<'a>>
+        ensures value { option_map seen result ≡ told (is_arm_of number (seen self.entry)) }
+    {
+        match self {
+            Res::Part(Val::Branch(chosen, _)) => Some(Res::Truth(*chosen == number)),
+            Res::Part(Val::Enum(label)) => Some(Res::Truth(*label == number)),
+            _ => None,
+        }
+    }
+
+    /// The element of an array at an index from 0, where the array has it.
+    pub fn element(self, index: Res) -> Option<Res<'a>>
+        ensures value { option_map seen result ≡ told (element_of (seen self.entry) (seen index.entry)) }
+    {
+        match (self, index) {
+            (Res::Part(Val::Array(elements)), Res::Num(index)) => worth(item(elements, index)?),
+            _ => None,
+        }
+    }
+
+    /// The length of a text or an array.
+    pub fn length(self) -> Option<Res<'a>>
+        ensures value { option_map seen result ≡ told (length_of (seen self.entry)) }
+    {
+        match self {
+            Res::Text(text) => Some(Res::Num(text.len() as i128)),
+            Res::Part(Val::Array(elements)) => Some(Res::Num(elements.len() as i128)),
+            _ => None,
+        }
+    }
+
+    /// Unary minus.
+    pub fn minus(self) -> Option<Res<'a>>
+        ensures value { option_map seen result ≡ told (minus (seen self.entry)) }
+    {
+        match self {
+            Res::Num(number) => Some(Res::Num(numbers::negate(number)?)),
+            _ => None,
+        }
+    }
+
+    /// The negation of a truth value.
+    pub fn negation(self) -> Option<Res<'a>>
+        ensures value { option_map seen result ≡ told (negation (seen self.entry)) }
+    {
+        match self {
+            Res::Truth(truth) => Some(Res::Truth(!truth)),
+            _ => None,
+        }
+    }
+}
