@@ -1,0 +1,5 @@
+pub mod Calls
+pub mod Layers
+pub mod Passing
+pub mod Texts
+pub mod WholeNumbers

@@ -1,0 +1,165 @@
+ghost use Rattle.std.specs.Prelude.{◌≡◌, length, IfOk};
+ghost use Rattle.pads_calc.specs.declared.term.Term.{out-Term};
+ghost use Rattle.pads_json.specs.Seen.{seen, members as members_of};
+ghost use Rattle.pads_json.specs.Values.{shown, number_told, text_told, base_told, computed_told, term_told, struct_told, parts_told, branch_told, named_shown, array_told, elements_told, put_named};
+
+use crate::form::form_at;
+use crate::json::{Json, Members, Things};
+use crate::slot::{arm_at, name_at};
+use crate::text::of_points;
+use pads_calc::{Base, Module, Part, Result2, Term};
+use pads_value::{Memory, Val};
+use std::alloc::Global;
+
+/// The value of a base type as JSON.
+fn base_value(base: &Base, val: &Val) -> Json
+    ensures value { seen result ≡ base_told base.now val.now }
+{
+    match base {
+        Base::Int(_, _) | Base::IntFw(_, _) => number_value(val),
+    }
+}
+
+fn number_value(val: &Val) -> Json
+    ensures value { seen result ≡ number_told val.now }
+{
+    match val {
+        Val::Num(number) => Json::integer(*number),
+        _ => Json::null(),
+    }
+}
+
+fn text_value(alloc: Global, val: &Val) -> Result<Json, Memory>
+    ensures value { IfOk result (λ json. seen json ≡ text_told val.now) }
+{
+    match val {
+        Val::Text(text) => Json::points(alloc, text.as_slice()),
+        _ => Ok(Json::null()),
+    }
+}
+
+/// The value of a computed field as JSON.
+fn computed_value(alloc: Global, form: Result2, val: &Val) -> Result<Json, Memory>
+    ensures value { IfOk result (λ json. seen json ≡ computed_told form val.now) }
+{
+    match form {
+        Result2::Range(_, _) => Ok(number_value(val)),
+        Result2::Text => text_value(alloc, val),
+    }
+}
+
+/// Members with that of a named part put in.
+fn with_named(description: &Module, alloc: Global, members: Members, name: Option<u16>, json: Json) -> Result<Members, Memory>
+    ensures put { IfOk result (λ put. members_of put ≡ put_named description.now.names name (seen json) (members_of members)) }
+{
+    match name {
+        None => Ok(members),
+        Some(name) => {
+            let key = of_points(alloc, name_at(description, name))?;
+            members.with(alloc, key.as_str(), json)
+        }
+    }
+}
+
+/// A value of a term as JSON, where calls may be nested so deep.
+#[tactic(auto, using(crate::proofs::Layers::shown_out))]
+#[cycle(value)]
+pub(crate) fn value(description: &Module, alloc: Global, val: &Val, depth: u64, term: &Term) -> Result<Json, Memory>
+    ensures value { IfOk result (λ json. seen json ≡ shown description.now.decls description.now.names val.now depth term.now) }
+{
+    match form_at(description, false, depth, term) {
+        None => Ok(Json::null()),
+        Some(form) => form_value(description, alloc, val, form.depth, form.term),
+    }
+}
+
+/// A value of a term that isn't passed through.
+#[tactic(auto, using(crate::proofs::Layers::num_mapped, crate::proofs::Layers::text_mapped))]
+#[cycle(value)]
+fn form_value(description: &Module, alloc: Global, val: &Val, depth: u64, term: &Term) -> Result<Json, Memory>
+    ensures value { IfOk result (λ json. seen json ≡ term_told description.now.decls description.now.names depth (out-Term term.now) val.now) }
+{
+    match term {
+        Term::Base(base, _) => Ok(base_value(base, val)),
+        Term::Compute(_, form) => computed_value(alloc, *form, val),
+        Term::Struct(parts) => struct_value(description, alloc, val, depth, parts.as_slice()),
+        Term::Alt(_) | Term::Switch(_, _) => branch_value(description, alloc, val, depth, term),
+        Term::Seq(seq) => array_value(description, alloc, val, depth, &seq.get().elem),
+        _ => Ok(Json::null()),
+    }
+}
+
+#[cycle(value)]
+fn struct_value(description: &Module, alloc: Global, val: &Val, depth: u64, parts: &[Part]) -> Result<Json, Memory>
+    ensures value { IfOk result (λ json. seen json ≡ struct_told description.now.decls description.now.names depth parts.now val.now) }
+{
+    match val {
+        Val::Tuple(values) => {
+            if values.as_slice().len() == parts.len() {
+                parts_value(description, alloc, values.as_slice(), depth, parts)
+            } else {
+                Ok(Json::null())
+            }
+        }
+        _ => Ok(Json::null()),
+    }
+}
+
+/// The object of the named parts.
+#[cycle(value)]
+fn parts_value(description: &Module, alloc: Global, values: &[Val], depth: u64, parts: &[Part]) -> Result<Json, Memory>
+    requires counts { length values.now ≡ length parts.now }
+    ensures value { IfOk result (λ json. seen json ≡ parts_told description.now.decls description.now.names depth parts.now values.now) }
+{
+    let mut members = Members::new(alloc);
+    for i in 0..values.len() {
+        let json = value(description, alloc, &values[i], depth, &parts[i].term)?;
+        members = with_named(description, alloc, members, parts[i].name, json)?;
+    }
+    Ok(members.into_json())
+}
+
+#[cycle(value)]
+fn branch_value(description: &Module, alloc: Global, val: &Val, depth: u64, term: &Term) -> Result<Json, Memory>
+    ensures value { IfOk result (λ json. seen json ≡ branch_told description.now.decls description.now.names depth (out-Term term.now) val.now) }
+{
+    match val {
+        Val::Branch(number, inner) => match arm_at(term, *number) {
+            Some(arm) => {
+                let json = value(description, alloc, inner.get(), depth, &arm.term)?;
+                named_value(description, alloc, arm.name, json)
+            }
+            None => Ok(Json::null()),
+        },
+        _ => Ok(Json::null()),
+    }
+}
+
+/// The object of one key.
+fn named_value(description: &Module, alloc: Global, name: u16, json: Json) -> Result<Json, Memory>
+    ensures value { IfOk result (λ named. seen named ≡ named_shown description.now.names name (seen json)) }
+{
+    let members = with_named(description, alloc, Members::new(alloc), Some(name), json)?;
+    Ok(members.into_json())
+}
+
+#[cycle(value)]
+fn array_value(description: &Module, alloc: Global, val: &Val, depth: u64, elem: &Term) -> Result<Json, Memory>
+    ensures value { IfOk result (λ json. seen json ≡ array_told description.now.decls description.now.names depth elem.now val.now) }
+{
+    match val {
+        Val::Array(elements) => elements_value(description, alloc, elements.as_slice(), depth, elem),
+        _ => Ok(Json::null()),
+    }
+}
+
+#[cycle(value)]
+fn elements_value(description: &Module, alloc: Global, values: &[Val], depth: u64, elem: &Term) -> Result<Json, Memory>
+    ensures value { IfOk result (λ json. seen json ≡ elements_told description.now.decls description.now.names depth elem.now values.now) }
+{
+    let mut things = Things::new(alloc);
+    for element in values {
+        things = things.with(value(description, alloc, element, depth, elem)?)?;
+    }
+    Ok(things.into_json())
+}
