@@ -1,4 +1,5 @@
 pub mod Calls
+pub mod FaultLayers
 pub mod Layers
 pub mod Passing
 pub mod Texts

@@ -1,4 +1,6 @@
+pub mod Faults
 pub mod Forms
+pub mod Lines
 pub mod Numbers
 pub mod Seen
 pub mod Shapes
