@@ -29,9 +29,9 @@ deepest = 128
 abbrev pub type_of : Shape → ℕ → ℕ
 type_of shape record_number = by_head shape.head
   where
-  by_head : Option ℕ → ℕ
-  by_head None = shape.each
-  by_head (Some head) = if nat_eq record_number 0 then head else shape.each
+    by_head : Option ℕ → ℕ
+    by_head None = shape.each
+    by_head (Some head) = if nat_eq record_number 0 then head else shape.each
 
 -- a record's body is a call of its declaration
 abbrev pub body_of : Shape → ℕ → Term

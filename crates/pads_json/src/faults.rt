@@ -40,7 +40,12 @@ fn fault_json(alloc: Global, place: String, cause: Cause, span: Span) -> Result<
 
 /// Faults with that of a node itself behind them, where the node has one. It stands at a place that goes
 /// by a word.
-pub(crate) fn with_own_at(alloc: Global, faults: Things, place: &str, pd: &Pd) -> Result<Things, Memory>
+pub(crate) fn with_own_at(
+    alloc: Global,
+    faults: Things,
+    place: &str,
+    pd: &Pd,
+) -> Result<Things, Memory>
     ensures own { IfOk result (λ more. things more ≡ things faults ++ own_fault_of place.now (out-Pd pd.now).cause (out-Pd pd.now).span) }
 {
     match pd.cause {
@@ -68,14 +73,31 @@ fn with_own(alloc: Global, faults: Things, place: &Place, pd: &Pd) -> Result<Thi
 /// Faults with those of a node and of the nodes below it behind them.
 #[cycle(faults)]
 #[tactic(auto, using(crate::proofs::FaultLayers::faults_out))]
-pub(crate) fn with_faults(description: &Module, alloc: Global, faults: Things, pd: &Pd, place: &Place, value: Option<&Val>, depth: u64, term: &Term) -> Result<Things, Memory>
+pub(crate) fn with_faults(
+    description: &Module,
+    alloc: Global,
+    faults: Things,
+    pd: &Pd,
+    place: &Place,
+    value: Option<&Val>,
+    depth: u64,
+    term: &Term,
+) -> Result<Things, Memory>
     ensures faults { IfOk result (λ more. things more ≡ things faults ++ faults_of description.now.decls description.now.names pd.now (steps place.now) (option_copied value.entry) depth term.now) }
 {
     let faults = with_own(alloc, faults, place, pd)?;
     match form_at(description, true, depth, term) {
         None => Ok(faults),
         Some(form) => {
-            let faults = with_kids(description, alloc, faults, pd.kids.as_slice(), place, value, form)?;
+            let faults = with_kids(
+                description,
+                alloc,
+                faults,
+                pd.kids.as_slice(),
+                place,
+                value,
+                form,
+            )?;
             Ok(faults)
         }
     }
@@ -83,27 +105,60 @@ pub(crate) fn with_faults(description: &Module, alloc: Global, faults: Things, p
 
 /// Faults with those of a node's kids behind them.
 #[cycle(faults)]
-fn with_kids(description: &Module, alloc: Global, faults: Things, kids: &[Pd], place: &Place, value: Option<&Val>, form: Form) -> Result<Things, Memory>
+fn with_kids(
+    description: &Module,
+    alloc: Global,
+    faults: Things,
+    kids: &[Pd],
+    place: &Place,
+    value: Option<&Val>,
+    form: Form,
+) -> Result<Things, Memory>
     ensures faults { IfOk result (λ more. things more ≡ things faults ++ kids_told description.now.decls description.now.names (steps place.now) (option_copied value.entry) (form_seen form.entry) kids.now) }
 {
     let mut faults = faults;
     for i in 0..kids.len() {
         let slot = slot_at(description, form.term, value, i as u64);
-        faults = with_kid(description, alloc, faults, &kids[i], place, form.depth, slot)?;
+        faults = with_kid(
+            description,
+            alloc,
+            faults,
+            &kids[i],
+            place,
+            form.depth,
+            slot,
+        )?;
     }
     Ok(faults)
 }
 
 /// Faults with those of a kid behind them, where the node's term gives the kid.
 #[cycle(faults)]
-fn with_kid(description: &Module, alloc: Global, faults: Things, kid: &Pd, place: &Place, depth: u64, slot: Option<Slot>) -> Result<Things, Memory>
+fn with_kid(
+    description: &Module,
+    alloc: Global,
+    faults: Things,
+    kid: &Pd,
+    place: &Place,
+    depth: u64,
+    slot: Option<Slot>,
+) -> Result<Things, Memory>
     ensures faults { IfOk result (λ more. things more ≡ things faults ++ kid_told description.now.decls description.now.names (steps place.now) depth (option_map slot_seen slot.entry) kid.now) }
 {
     match slot {
         None => Ok(faults),
         Some(slot) => {
             let below = Place::Below(&*place, slot.step);
-            with_faults(description, alloc, faults, kid, &below, slot.value, depth, slot.term)
+            with_faults(
+                description,
+                alloc,
+                faults,
+                kid,
+                &below,
+                slot.value,
+                depth,
+                slot.term,
+            )
         }
     }
 }

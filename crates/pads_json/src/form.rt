@@ -36,7 +36,12 @@ fn through(absorbs: bool, outer: &Term) -> &Term
 /// The form of a term's values, where calls may be nested so deep. Descriptors pass through absorbed
 /// terms as well (`absorbs`). There is none where calls go deeper.
 #[tactic(auto, using(crate::proofs::Calls::form_here, crate::proofs::Calls::form_too_deep, crate::proofs::Calls::form_called, crate::proofs::Calls::form_nowhere))]
-pub(crate) fn form_at<'m>(description: &'m Module, absorbs: bool, calls: u64, outer: &'m Term) -> Option<Form<'m>>
+pub(crate) fn form_at<'m>(
+    description: &'m Module,
+    absorbs: bool,
+    calls: u64,
+    outer: &'m Term,
+) -> Option<Form<'m>>
     ensures form { option_map form_seen result ≡ form_of description.now.decls absorbs calls outer.now }
 {
     let mut depth = calls;

@@ -30,13 +30,7 @@ fn declaration(shape: Shape, record_number: u64) -> u16
     ensures declaration { result ≡ type_of shape record_number }
 {
     match shape.head {
-        Some(head) => {
-            if record_number == 0 {
-                head
-            } else {
-                shape.each
-            }
-        }
+        Some(head) => { if record_number == 0 { head } else { shape.each } }
         None => shape.each,
     }
 }
@@ -59,13 +53,29 @@ fn with_extra(alloc: Global, faults: Things, kids: &[Pd]) -> Result<Things, Memo
 }
 
 /// Faults with those of a record's body and of the bytes left over behind them.
-fn with_body(description: &Module, alloc: Global, faults: Things, kids: &[Pd], value: &Val, body: &Term) -> Result<Things, Memory>
+fn with_body(
+    description: &Module,
+    alloc: Global,
+    faults: Things,
+    kids: &[Pd],
+    value: &Val,
+    body: &Term,
+) -> Result<Things, Memory>
     ensures body { IfOk result (λ more. things more ≡ things faults ++ body_faults description.now.decls description.now.names body.now value.now kids.now) }
 {
     match kids {
         [] => Ok(faults),
         [kid, more @ ..] => {
-            let faults = with_faults(description, alloc, faults, kid, &Place::Body, Some(value), DEEPEST, body)?;
+            let faults = with_faults(
+                description,
+                alloc,
+                faults,
+                kid,
+                &Place::Body,
+                Some(value),
+                DEEPEST,
+                body,
+            )?;
             let faults = with_extra(alloc, faults, more)?;
             Ok(faults)
         }
@@ -77,11 +87,25 @@ fn row_faults(description: &Module, alloc: Global, row: &Row, body: &Term) -> Re
     ensures faults { IfOk result (λ all. things all ≡ row_faults_of description.now.decls description.now.names body.now row.now.value row.now.pd) }
 {
     let faults = with_own_at(alloc, Things::new(alloc), ".", &row.pd)?;
-    with_body(description, alloc, faults, row.pd.kids.as_slice(), &row.value, body)
+    with_body(
+        description,
+        alloc,
+        faults,
+        row.pd.kids.as_slice(),
+        &row.value,
+        body,
+    )
 }
 
 /// The members of a record line.
-fn row_members(alloc: Global, row: &Row, class: Json, faults: Json, span: Json, value: Json) -> Result<Json, Memory>
+fn row_members(
+    alloc: Global,
+    row: &Row,
+    class: Json,
+    faults: Json,
+    span: Json,
+    value: Json,
+) -> Result<Json, Memory>
     ensures json { IfOk result (λ json. seen json ≡ line_data row.now (seen class) (seen faults) (seen span) (seen value)) }
 {
     let members = Members::new(alloc)

@@ -68,7 +68,12 @@ fn part_step(description: &Module, number: u64, name: Option<u16>) -> Step<'_>
     }
 }
 
-fn part_slot<'m>(description: &'m Module, number: u64, value: Option<&'m Val>, part: Option<&'m Part>) -> Option<Slot<'m>>
+fn part_slot<'m>(
+    description: &'m Module,
+    number: u64,
+    value: Option<&'m Val>,
+    part: Option<&'m Part>,
+) -> Option<Slot<'m>>
     ensures slot { option_map slot_seen result ≡ part_slot_of description.now.names number (option_copied value.entry) (option_copied part.entry) }
 {
     let part = part?;
@@ -79,7 +84,12 @@ fn part_slot<'m>(description: &'m Module, number: u64, value: Option<&'m Val>, p
     })
 }
 
-fn branch_slot<'m>(description: &'m Module, term: &'m Term, value: Option<&'m Val>, number: u64) -> Option<Slot<'m>>
+fn branch_slot<'m>(
+    description: &'m Module,
+    term: &'m Term,
+    value: Option<&'m Val>,
+    number: u64,
+) -> Option<Slot<'m>>
     ensures slot { option_map slot_seen result ≡ branch_slot_of description.now.names (out-Term term.now) (branch_of (option_copied value.entry)) number }
 {
     let Some(Val::Branch(chosen, inner)) = value else {
@@ -97,11 +107,21 @@ fn branch_slot<'m>(description: &'m Module, term: &'m Term, value: Option<&'m Va
 }
 
 /// Kid number `number` of a node with this form and value, if the form has it.
-pub(crate) fn slot_at<'m>(description: &'m Module, term: &'m Term, value: Option<&'m Val>, number: u64) -> Option<Slot<'m>>
+pub(crate) fn slot_at<'m>(
+    description: &'m Module,
+    term: &'m Term,
+    value: Option<&'m Val>,
+    number: u64,
+) -> Option<Slot<'m>>
     ensures slot { option_map slot_seen result ≡ slot_of description.now.names term.now (option_copied value.entry) number }
 {
     match term {
-        Term::Struct(parts) => part_slot(description, number, part_of(value, number), parts.get(number)),
+        Term::Struct(parts) => part_slot(
+            description,
+            number,
+            part_of(value, number),
+            parts.get(number),
+        ),
         Term::Alt(_) | Term::Switch(_, _) => branch_slot(description, term, value, number),
         Term::Seq(seq) => Some(Slot {
             step: Step::Element(number),

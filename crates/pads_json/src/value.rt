@@ -49,7 +49,13 @@ fn computed_value(alloc: Global, form: Result2, val: &Val) -> Result<Json, Memor
 }
 
 /// Members with that of a named part put in.
-fn with_named(description: &Module, alloc: Global, members: Members, name: Option<u16>, json: Json) -> Result<Members, Memory>
+fn with_named(
+    description: &Module,
+    alloc: Global,
+    members: Members,
+    name: Option<u16>,
+    json: Json,
+) -> Result<Members, Memory>
     ensures put { IfOk result (λ put. members_of put ≡ put_named description.now.names name (seen json) (members_of members)) }
 {
     match name {
@@ -64,7 +70,13 @@ fn with_named(description: &Module, alloc: Global, members: Members, name: Optio
 /// A value of a term as JSON, where calls may be nested so deep.
 #[tactic(auto, using(crate::proofs::Layers::shown_out))]
 #[cycle(value)]
-pub(crate) fn value(description: &Module, alloc: Global, val: &Val, depth: u64, term: &Term) -> Result<Json, Memory>
+pub(crate) fn value(
+    description: &Module,
+    alloc: Global,
+    val: &Val,
+    depth: u64,
+    term: &Term,
+) -> Result<Json, Memory>
     ensures value { IfOk result (λ json. seen json ≡ shown description.now.decls description.now.names val.now depth term.now) }
 {
     match form_at(description, false, depth, term) {
@@ -76,7 +88,13 @@ pub(crate) fn value(description: &Module, alloc: Global, val: &Val, depth: u64, 
 /// A value of a term that isn't passed through.
 #[tactic(auto, using(crate::proofs::Layers::num_mapped, crate::proofs::Layers::text_mapped))]
 #[cycle(value)]
-fn form_value(description: &Module, alloc: Global, val: &Val, depth: u64, term: &Term) -> Result<Json, Memory>
+fn form_value(
+    description: &Module,
+    alloc: Global,
+    val: &Val,
+    depth: u64,
+    term: &Term,
+) -> Result<Json, Memory>
     ensures value { IfOk result (λ json. seen json ≡ term_told description.now.decls description.now.names depth (out-Term term.now) val.now) }
 {
     match term {
@@ -90,7 +108,13 @@ fn form_value(description: &Module, alloc: Global, val: &Val, depth: u64, term: 
 }
 
 #[cycle(value)]
-fn struct_value(description: &Module, alloc: Global, val: &Val, depth: u64, parts: &[Part]) -> Result<Json, Memory>
+fn struct_value(
+    description: &Module,
+    alloc: Global,
+    val: &Val,
+    depth: u64,
+    parts: &[Part],
+) -> Result<Json, Memory>
     ensures value { IfOk result (λ json. seen json ≡ struct_told description.now.decls description.now.names depth parts.now val.now) }
 {
     match val {
@@ -107,7 +131,13 @@ fn struct_value(description: &Module, alloc: Global, val: &Val, depth: u64, part
 
 /// The object of the named parts.
 #[cycle(value)]
-fn parts_value(description: &Module, alloc: Global, values: &[Val], depth: u64, parts: &[Part]) -> Result<Json, Memory>
+fn parts_value(
+    description: &Module,
+    alloc: Global,
+    values: &[Val],
+    depth: u64,
+    parts: &[Part],
+) -> Result<Json, Memory>
     requires counts { length values.now ≡ length parts.now }
     ensures value { IfOk result (λ json. seen json ≡ parts_told description.now.decls description.now.names depth parts.now values.now) }
 {
@@ -120,7 +150,13 @@ fn parts_value(description: &Module, alloc: Global, values: &[Val], depth: u64, 
 }
 
 #[cycle(value)]
-fn branch_value(description: &Module, alloc: Global, val: &Val, depth: u64, term: &Term) -> Result<Json, Memory>
+fn branch_value(
+    description: &Module,
+    alloc: Global,
+    val: &Val,
+    depth: u64,
+    term: &Term,
+) -> Result<Json, Memory>
     ensures value { IfOk result (λ json. seen json ≡ branch_told description.now.decls description.now.names depth (out-Term term.now) val.now) }
 {
     match val {
@@ -144,17 +180,35 @@ fn named_value(description: &Module, alloc: Global, name: u16, json: Json) -> Re
 }
 
 #[cycle(value)]
-fn array_value(description: &Module, alloc: Global, val: &Val, depth: u64, elem: &Term) -> Result<Json, Memory>
+fn array_value(
+    description: &Module,
+    alloc: Global,
+    val: &Val,
+    depth: u64,
+    elem: &Term,
+) -> Result<Json, Memory>
     ensures value { IfOk result (λ json. seen json ≡ array_told description.now.decls description.now.names depth elem.now val.now) }
 {
     match val {
-        Val::Array(elements) => elements_value(description, alloc, elements.as_slice(), depth, elem),
+        Val::Array(elements) => elements_value(
+            description,
+            alloc,
+            elements.as_slice(),
+            depth,
+            elem,
+        ),
         _ => Ok(Json::null()),
     }
 }
 
 #[cycle(value)]
-fn elements_value(description: &Module, alloc: Global, values: &[Val], depth: u64, elem: &Term) -> Result<Json, Memory>
+fn elements_value(
+    description: &Module,
+    alloc: Global,
+    values: &[Val],
+    depth: u64,
+    elem: &Term,
+) -> Result<Json, Memory>
     ensures value { IfOk result (λ json. seen json ≡ elements_told description.now.decls description.now.names depth elem.now values.now) }
 {
     let mut things = Things::new(alloc);

@@ -13,5 +13,7 @@ with_faults-returns-in_ok-faults-in-Some t c =
     let names = c.args.description.now.names in
     let found = sym c.form_at.ensures.form ∙ ap (option_map form_seen) c.in-Some.is in
     let kids = ap (λ kids. things c.in_ok-faults.faults ++ kids_told decls names (steps c.args.place.now) (option_copied c.args.value) (form_seen c.in-Some.form) kids) c.as_slice.ensures.items in
-    record { faults = faults_told decls names c.args.pd.now (steps c.args.place.now) (option_copied c.args.value) c.args.depth c.args.term.now
-      _ _ _ _ c.in_ok-faults.ensures.own found (c.in_ok-faults-in-Some.ensures.faults ∙ kids) }
+    record {
+      faults = faults_told decls names c.args.pd.now (steps c.args.place.now) (option_copied c.args.value) c.args.depth c.args.term.now
+          _ _ _ _ c.in_ok-faults.ensures.own found (c.in_ok-faults-in-Some.ensures.faults ∙ kids);
+    }

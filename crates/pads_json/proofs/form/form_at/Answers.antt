@@ -19,6 +19,8 @@ returns-in-None c =
     let decls = c.args.description.now.decls in
     let call = ap (λ t. called (out-Term t)) c.in-Call.is ∙ ap called (outs-Call _ _) in
     let nowhere = ap (slice_get decls) (sym c.from.ensures) ∙ sym c.get.ensures.item ∙ ap option_copied c.in-None.is in
-    record { form =
-      sym (form_nowhere decls c.args.absorbs c.calls.depth c.calls.term.now _ call (omega (arith, c.if-depth-eq0.false)) nowhere)
-      ∙ c.calls.invariant ∙ ap (form_from decls c.args.absorbs c.args.calls) c.through-term.ensures.term }
+    record {
+      form =
+          sym (form_nowhere decls c.args.absorbs c.calls.depth c.calls.term.now _ call (omega (arith, c.if-depth-eq0.false)) nowhere)
+          ∙ c.calls.invariant ∙ ap (form_from decls c.args.absorbs c.args.calls) c.through-term.ensures.term;
+    }
