@@ -67,6 +67,9 @@ module _ (decls : List Decl) (names : List (List ℕ)) where
       line_data row (string (class_name (out-Pd row.pd).class)) (array (items_of (row_faults body row.value row.pd)))
       (span_shown (out-Pd row.pd).span) (shown decls names row.value deepest body)
 
+  abbrev pub line_told : Shape → Row → List ℕ
+  line_told shape row = compact_text (row_data (body_of shape row.number) row) ++ 10 ∷ []
+
 -- the line of a row of a module
 abbrev pub row_line : Module → Row → List ℕ
-row_line description row = compact_text (row_data description.decls description.names (body_of description.shape row.number) row) ++ 10 ∷ []
+row_line description row = line_told description.decls description.names description.shape row

@@ -11,7 +11,8 @@ use crate::form::{Form, form_at};
 use crate::json::{Json, Members, Things};
 use crate::place::Place;
 use crate::slot::{Slot, slot_at};
-use pads_calc::{Module, Term};
+use crate::terms::Terms;
+use pads_calc::Term;
 use pads_value::{Cause, Memory, Pd, Span, Val};
 use std::alloc::Global;
 use std::string::String;
@@ -73,24 +74,24 @@ fn with_own(alloc: Global, faults: Things, place: &Place, pd: &Pd) -> Result<Thi
 /// Faults with those of a node and of the nodes below it behind them.
 #[cycle(faults)]
 #[tactic(auto, using(crate::proofs::FaultLayers::faults_out))]
-pub(crate) fn with_faults(
-    description: &Module,
+pub(crate) fn with_faults<'m>(
+    terms: &Terms<'m>,
     alloc: Global,
     faults: Things,
     pd: &Pd,
-    place: &Place,
-    value: Option<&Val>,
+    place: &Place<'_, 'm>,
+    value: Option<&'m Val>,
     depth: u64,
-    term: &Term,
+    term: &'m Term,
 ) -> Result<Things, Memory>
-    ensures faults { IfOk result (λ more. things more ≡ things faults ++ faults_of description.now.decls description.now.names pd.now (steps place.now) (option_copied value.entry) depth term.now) }
+    ensures faults { IfOk result (λ more. things more ≡ things faults ++ faults_of terms.now.decls.now terms.now.names.now pd.now (steps place.now) (option_copied value.entry) depth term.now) }
 {
     let faults = with_own(alloc, faults, place, pd)?;
-    match form_at(description, true, depth, term) {
+    match form_at(terms, true, depth, term) {
         None => Ok(faults),
         Some(form) => {
             let faults = with_kids(
-                description,
+                terms,
                 alloc,
                 faults,
                 pd.kids.as_slice(),
@@ -105,22 +106,22 @@ pub(crate) fn with_faults(
 
 /// Faults with those of a node's kids behind them.
 #[cycle(faults)]
-fn with_kids(
-    description: &Module,
+fn with_kids<'m>(
+    terms: &Terms<'m>,
     alloc: Global,
     faults: Things,
     kids: &[Pd],
-    place: &Place,
-    value: Option<&Val>,
-    form: Form,
+    place: &Place<'_, 'm>,
+    value: Option<&'m Val>,
+    form: Form<'m>,
 ) -> Result<Things, Memory>
-    ensures faults { IfOk result (λ more. things more ≡ things faults ++ kids_told description.now.decls description.now.names (steps place.now) (option_copied value.entry) (form_seen form.entry) kids.now) }
+    ensures faults { IfOk result (λ more. things more ≡ things faults ++ kids_told terms.now.decls.now terms.now.names.now (steps place.now) (option_copied value.entry) (form_seen form.entry) kids.now) }
 {
     let mut faults = faults;
     for i in 0..kids.len() {
-        let slot = slot_at(description, form.term, value, i as u64);
+        let slot = slot_at(terms, form.term, value, i as u64);
         faults = with_kid(
-            description,
+            terms,
             alloc,
             faults,
             &kids[i],
@@ -134,23 +135,23 @@ fn with_kids(
 
 /// Faults with those of a kid behind them, where the node's term gives the kid.
 #[cycle(faults)]
-fn with_kid(
-    description: &Module,
+fn with_kid<'m>(
+    terms: &Terms<'m>,
     alloc: Global,
     faults: Things,
     kid: &Pd,
-    place: &Place,
+    place: &Place<'_, 'm>,
     depth: u64,
-    slot: Option<Slot>,
+    slot: Option<Slot<'m>>,
 ) -> Result<Things, Memory>
-    ensures faults { IfOk result (λ more. things more ≡ things faults ++ kid_told description.now.decls description.now.names (steps place.now) depth (option_map slot_seen slot.entry) kid.now) }
+    ensures faults { IfOk result (λ more. things more ≡ things faults ++ kid_told terms.now.decls.now terms.now.names.now (steps place.now) depth (option_map slot_seen slot.entry) kid.now) }
 {
     match slot {
         None => Ok(faults),
         Some(slot) => {
             let below = Place::Below(&*place, slot.step);
             with_faults(
-                description,
+                terms,
                 alloc,
                 faults,
                 kid,

@@ -2,7 +2,8 @@ ghost use Rattle.std.specs.Prelude.{◌≡◌};
 ghost use Rattle.std.specs.Option.{option_map};
 ghost use Rattle.pads_json.specs.Forms.{through as through_of, form_at as form_of, form_seen};
 
-use pads_calc::{Module, Term};
+use crate::terms::Terms;
+use pads_calc::Term;
 
 /// What a term is behind constraints, searches and calls.
 #[derive(Clone, Copy)]
@@ -37,12 +38,12 @@ fn through(absorbs: bool, outer: &Term) -> &Term
 /// terms as well (`absorbs`). There is none where calls go deeper.
 #[tactic(auto, using(crate::proofs::Calls::form_here, crate::proofs::Calls::form_too_deep, crate::proofs::Calls::form_called, crate::proofs::Calls::form_nowhere))]
 pub(crate) fn form_at<'m>(
-    description: &'m Module,
+    terms: &Terms<'m>,
     absorbs: bool,
     calls: u64,
     outer: &'m Term,
 ) -> Option<Form<'m>>
-    ensures form { option_map form_seen result ≡ form_of description.now.decls absorbs calls outer.now }
+    ensures form { option_map form_seen result ≡ form_of terms.now.decls.now absorbs calls outer.now }
 {
     let mut depth = calls;
     let mut term = through(absorbs, outer);
@@ -51,7 +52,7 @@ pub(crate) fn form_at<'m>(
             return None;
         }
         depth -= 1;
-        term = match description.decls.get(u64::from(*number)) {
+        term = match terms.decls.get(u64::from(*number)) {
             None => return None,
             Some(decl) => through(absorbs, &decl.body),
         };

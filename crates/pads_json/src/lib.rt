@@ -7,6 +7,7 @@ mod json;
 mod line;
 mod place;
 mod slot;
+mod terms;
 mod text;
 mod value;
 

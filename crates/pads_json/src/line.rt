@@ -1,13 +1,14 @@
 ghost use Rattle.std.specs.Prelude.{◌≡◌, ◌++◌, ◌∷◌, [], IfOk};
 ghost use Rattle.pads_value.specs.declared.descriptor.Pd.{out-Pd};
 ghost use Rattle.serde_json.specs.View.{items_of};
-ghost use Rattle.pads_json.specs.Lines.{class_name as class_name_of, type_of, body_of, extra_fault, body_faults, row_faults as row_faults_of, line_data, row_data, row_line};
+ghost use Rattle.pads_json.specs.Lines.{class_name as class_name_of, type_of, body_of, extra_fault, body_faults, row_faults as row_faults_of, line_data, row_data, line_told, row_line};
 ghost use Rattle.pads_json.specs.Seen.{seen, things};
 
 use crate::faults::{span_json, with_faults, with_own_at};
 use crate::json::{Json, Members, Things};
 use crate::place::Place;
 use crate::value::value as value_json;
+use crate::terms::Terms;
 use pads_calc::{Module, Shape, Term};
 use pads_value::{Bytes, Class, Items, Memory, Pd, Row, Val};
 use std::alloc::Global;
@@ -53,21 +54,21 @@ fn with_extra(alloc: Global, faults: Things, kids: &[Pd]) -> Result<Things, Memo
 }
 
 /// Faults with those of a record's body and of the bytes left over behind them.
-fn with_body(
-    description: &Module,
+fn with_body<'m>(
+    terms: &Terms<'m>,
     alloc: Global,
     faults: Things,
     kids: &[Pd],
-    value: &Val,
-    body: &Term,
+    value: &'m Val,
+    body: &'m Term,
 ) -> Result<Things, Memory>
-    ensures body { IfOk result (λ more. things more ≡ things faults ++ body_faults description.now.decls description.now.names body.now value.now kids.now) }
+    ensures body { IfOk result (λ more. things more ≡ things faults ++ body_faults terms.now.decls.now terms.now.names.now body.now value.now kids.now) }
 {
     match kids {
         [] => Ok(faults),
         [kid, more @ ..] => {
             let faults = with_faults(
-                description,
+                terms,
                 alloc,
                 faults,
                 kid,
@@ -83,12 +84,12 @@ fn with_body(
 }
 
 /// All faults of a row.
-fn row_faults(description: &Module, alloc: Global, row: &Row, body: &Term) -> Result<Things, Memory>
-    ensures faults { IfOk result (λ all. things all ≡ row_faults_of description.now.decls description.now.names body.now row.now.value row.now.pd) }
+fn row_faults<'m>(terms: &Terms<'m>, alloc: Global, row: &'m Row, body: &'m Term) -> Result<Things, Memory>
+    ensures faults { IfOk result (λ all. things all ≡ row_faults_of terms.now.decls.now terms.now.names.now body.now row.now.value row.now.pd) }
 {
     let faults = with_own_at(alloc, Things::new(alloc), ".", &row.pd)?;
     with_body(
-        description,
+        terms,
         alloc,
         faults,
         row.pd.kids.as_slice(),
@@ -121,14 +122,26 @@ fn row_members(
 }
 
 /// The object of a record line.
-fn row_json(description: &Module, alloc: Global, row: &Row, body: &Term) -> Result<Json, Memory>
-    ensures json { IfOk result (λ json. seen json ≡ row_data description.now.decls description.now.names body.now row.now) }
+fn row_json<'m>(terms: &Terms<'m>, alloc: Global, row: &'m Row, body: &'m Term) -> Result<Json, Memory>
+    ensures json { IfOk result (λ json. seen json ≡ row_data terms.now.decls.now terms.now.names.now body.now row.now) }
 {
     let class = Json::word(alloc, class_name(row.pd.class))?;
-    let faults = row_faults(description, alloc, row, body)?.into_json();
+    let faults = row_faults(terms, alloc, row, body)?.into_json();
     let span = span_json(alloc, row.pd.span)?;
-    let value = value_json(description, alloc, &row.value, DEEPEST, body)?;
+    let value = value_json(terms, alloc, &row.value, DEEPEST, body)?;
     row_members(alloc, row, class, faults, span, value)
+}
+
+/// The line of a row, by the declarations, the names and the shape of its module.
+fn line(alloc: Global, terms: &Terms<'_>, shape: Shape, row: &Row) -> Result<Bytes, Memory>
+    ensures line { IfOk result (λ line. line ≡ line_told terms.now.decls.now terms.now.names.now shape row.now) }
+{
+    let body = body(alloc, shape, row.number);
+    let terms = Terms {
+        decls: &*terms.decls,
+        names: &*terms.names,
+    };
+    row_json(&terms, alloc, &*row, &body)?.line(alloc)
 }
 
 /// The line that tells of a record: an object of its class, its faults, their number, the offset at which
@@ -137,6 +150,9 @@ fn row_json(description: &Module, alloc: Global, row: &Row, body: &Term) -> Resu
 pub fn record_line(alloc: Global, description: &Module, row: &Row) -> Result<Bytes, Memory>
     ensures line { IfOk result (λ line. line ≡ row_line description.now row.now) }
 {
-    let body = body(alloc, description.shape, row.number);
-    row_json(description, alloc, row, &body)?.line(alloc)
+    let terms = Terms {
+        decls: &description.decls,
+        names: &description.names,
+    };
+    line(alloc, &terms, description.shape, row)
 }

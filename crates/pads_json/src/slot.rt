@@ -6,7 +6,8 @@ ghost use Rattle.pads_json.specs.Steps.{step_seen};
 ghost use Rattle.pads_json.specs.Terms.{name_at as name_of, arm_in};
 
 use crate::place::Step;
-use pads_calc::{Arm, Module, Part, Term};
+use crate::terms::Terms;
+use pads_calc::{Arm, Part, Term};
 use pads_value::Val;
 
 /// A kid that a term gives to a node.
@@ -19,10 +20,10 @@ pub(crate) struct Slot<'m> {
 }
 
 /// The name of a number.
-pub(crate) fn name_at(description: &Module, number: u16) -> &[u8]
-    ensures name { result.now ≡ name_of description.now.names number }
+pub(crate) fn name_at<'m>(terms: &Terms<'m>, number: u16) -> &'m [u8]
+    ensures name { result.now ≡ name_of terms.now.names.now number }
 {
-    description.names.at(number).unwrap_or(b"")
+    terms.names.at(number).unwrap_or(b"")
 }
 
 /// The branch of a number, of a union of either kind.
@@ -59,38 +60,38 @@ fn element_of(value: Option<&Val>, number: u64) -> Option<&Val>
     }
 }
 
-fn part_step(description: &Module, number: u64, name: Option<u16>) -> Step<'_>
-    ensures step { step_seen result ≡ part_step_of description.now.names number name }
+fn part_step<'m>(terms: &Terms<'m>, number: u64, name: Option<u16>) -> Step<'m>
+    ensures step { step_seen result ≡ part_step_of terms.now.names.now number name }
 {
     match name {
-        Some(name) => Step::Named(name_at(description, name)),
+        Some(name) => Step::Named(name_at(terms, name)),
         None => Step::Unnamed(number),
     }
 }
 
 fn part_slot<'m>(
-    description: &'m Module,
+    terms: &Terms<'m>,
     number: u64,
     value: Option<&'m Val>,
     part: Option<&'m Part>,
 ) -> Option<Slot<'m>>
-    ensures slot { option_map slot_seen result ≡ part_slot_of description.now.names number (option_copied value.entry) (option_copied part.entry) }
+    ensures slot { option_map slot_seen result ≡ part_slot_of terms.now.names.now number (option_copied value.entry) (option_copied part.entry) }
 {
     let part = part?;
     Some(Slot {
-        step: part_step(description, number, part.name),
+        step: part_step(terms, number, part.name),
         value,
         term: &part.term,
     })
 }
 
 fn branch_slot<'m>(
-    description: &'m Module,
+    terms: &Terms<'m>,
     term: &'m Term,
     value: Option<&'m Val>,
     number: u64,
 ) -> Option<Slot<'m>>
-    ensures slot { option_map slot_seen result ≡ branch_slot_of description.now.names (out-Term term.now) (branch_of (option_copied value.entry)) number }
+    ensures slot { option_map slot_seen result ≡ branch_slot_of terms.now.names.now (out-Term term.now) (branch_of (option_copied value.entry)) number }
 {
     let Some(Val::Branch(chosen, inner)) = value else {
         return None;
@@ -100,7 +101,7 @@ fn branch_slot<'m>(
     }
     let arm = arm_at(term, *chosen)?;
     Some(Slot {
-        step: Step::Named(name_at(description, arm.name)),
+        step: Step::Named(name_at(terms, arm.name)),
         value: Some(inner.get()),
         term: &arm.term,
     })
@@ -108,21 +109,21 @@ fn branch_slot<'m>(
 
 /// Kid number `number` of a node with this form and value, if the form has it.
 pub(crate) fn slot_at<'m>(
-    description: &'m Module,
+    terms: &Terms<'m>,
     term: &'m Term,
     value: Option<&'m Val>,
     number: u64,
 ) -> Option<Slot<'m>>
-    ensures slot { option_map slot_seen result ≡ slot_of description.now.names term.now (option_copied value.entry) number }
+    ensures slot { option_map slot_seen result ≡ slot_of terms.now.names.now term.now (option_copied value.entry) number }
 {
     match term {
         Term::Struct(parts) => part_slot(
-            description,
+            terms,
             number,
             part_of(value, number),
             parts.get(number),
         ),
-        Term::Alt(_) | Term::Switch(_, _) => branch_slot(description, term, value, number),
+        Term::Alt(_) | Term::Switch(_, _) => branch_slot(terms, term, value, number),
         Term::Seq(seq) => Some(Slot {
             step: Step::Element(number),
             value: element_of(value, number),

@@ -7,7 +7,8 @@ use crate::form::form_at;
 use crate::json::{Json, Members, Things};
 use crate::slot::{arm_at, name_at};
 use crate::text::of_points;
-use pads_calc::{Base, Module, Part, Result2, Term};
+use crate::terms::Terms;
+use pads_calc::{Base, Part, Result2, Term};
 use pads_value::{Memory, Val};
 use std::alloc::Global;
 
@@ -50,18 +51,18 @@ fn computed_value(alloc: Global, form: Result2, val: &Val) -> Result<Json, Memor
 
 /// Members with that of a named part put in.
 fn with_named(
-    description: &Module,
+    terms: &Terms<'_>,
     alloc: Global,
     members: Members,
     name: Option<u16>,
     json: Json,
 ) -> Result<Members, Memory>
-    ensures put { IfOk result (λ put. members_of put ≡ put_named description.now.names name (seen json) (members_of members)) }
+    ensures put { IfOk result (λ put. members_of put ≡ put_named terms.now.names.now name (seen json) (members_of members)) }
 {
     match name {
         None => Ok(members),
         Some(name) => {
-            let key = of_points(alloc, name_at(description, name))?;
+            let key = of_points(alloc, name_at(terms, name))?;
             members.with(alloc, key.as_str(), json)
         }
     }
@@ -70,57 +71,57 @@ fn with_named(
 /// A value of a term as JSON, where calls may be nested so deep.
 #[tactic(auto, using(crate::proofs::Layers::shown_out))]
 #[cycle(value)]
-pub(crate) fn value(
-    description: &Module,
+pub(crate) fn value<'m>(
+    terms: &Terms<'m>,
     alloc: Global,
     val: &Val,
     depth: u64,
-    term: &Term,
+    term: &'m Term,
 ) -> Result<Json, Memory>
-    ensures value { IfOk result (λ json. seen json ≡ shown description.now.decls description.now.names val.now depth term.now) }
+    ensures value { IfOk result (λ json. seen json ≡ shown terms.now.decls.now terms.now.names.now val.now depth term.now) }
 {
-    match form_at(description, false, depth, term) {
+    match form_at(terms, false, depth, term) {
         None => Ok(Json::null()),
-        Some(form) => form_value(description, alloc, val, form.depth, form.term),
+        Some(form) => form_value(terms, alloc, val, form.depth, form.term),
     }
 }
 
 /// A value of a term that isn't passed through.
 #[tactic(auto, using(crate::proofs::Layers::num_mapped, crate::proofs::Layers::text_mapped))]
 #[cycle(value)]
-fn form_value(
-    description: &Module,
+fn form_value<'m>(
+    terms: &Terms<'m>,
     alloc: Global,
     val: &Val,
     depth: u64,
-    term: &Term,
+    term: &'m Term,
 ) -> Result<Json, Memory>
-    ensures value { IfOk result (λ json. seen json ≡ term_told description.now.decls description.now.names depth (out-Term term.now) val.now) }
+    ensures value { IfOk result (λ json. seen json ≡ term_told terms.now.decls.now terms.now.names.now depth (out-Term term.now) val.now) }
 {
     match term {
         Term::Base(base, _) => Ok(base_value(base, val)),
         Term::Compute(_, form) => computed_value(alloc, *form, val),
-        Term::Struct(parts) => struct_value(description, alloc, val, depth, parts.as_slice()),
-        Term::Alt(_) | Term::Switch(_, _) => branch_value(description, alloc, val, depth, term),
-        Term::Seq(seq) => array_value(description, alloc, val, depth, &seq.get().elem),
+        Term::Struct(parts) => struct_value(terms, alloc, val, depth, parts.as_slice()),
+        Term::Alt(_) | Term::Switch(_, _) => branch_value(terms, alloc, val, depth, term),
+        Term::Seq(seq) => array_value(terms, alloc, val, depth, &seq.get().elem),
         _ => Ok(Json::null()),
     }
 }
 
 #[cycle(value)]
-fn struct_value(
-    description: &Module,
+fn struct_value<'m>(
+    terms: &Terms<'m>,
     alloc: Global,
     val: &Val,
     depth: u64,
-    parts: &[Part],
+    parts: &'m [Part],
 ) -> Result<Json, Memory>
-    ensures value { IfOk result (λ json. seen json ≡ struct_told description.now.decls description.now.names depth parts.now val.now) }
+    ensures value { IfOk result (λ json. seen json ≡ struct_told terms.now.decls.now terms.now.names.now depth parts.now val.now) }
 {
     match val {
         Val::Tuple(values) => {
             if values.as_slice().len() == parts.len() {
-                parts_value(description, alloc, values.as_slice(), depth, parts)
+                parts_value(terms, alloc, values.as_slice(), depth, parts)
             } else {
                 Ok(Json::null())
             }
@@ -131,39 +132,39 @@ fn struct_value(
 
 /// The object of the named parts.
 #[cycle(value)]
-fn parts_value(
-    description: &Module,
+fn parts_value<'m>(
+    terms: &Terms<'m>,
     alloc: Global,
     values: &[Val],
     depth: u64,
-    parts: &[Part],
+    parts: &'m [Part],
 ) -> Result<Json, Memory>
     requires counts { length values.now ≡ length parts.now }
-    ensures value { IfOk result (λ json. seen json ≡ parts_told description.now.decls description.now.names depth parts.now values.now) }
+    ensures value { IfOk result (λ json. seen json ≡ parts_told terms.now.decls.now terms.now.names.now depth parts.now values.now) }
 {
     let mut members = Members::new(alloc);
     for i in 0..values.len() {
-        let json = value(description, alloc, &values[i], depth, &parts[i].term)?;
-        members = with_named(description, alloc, members, parts[i].name, json)?;
+        let json = value(terms, alloc, &values[i], depth, &parts[i].term)?;
+        members = with_named(terms, alloc, members, parts[i].name, json)?;
     }
     Ok(members.into_json())
 }
 
 #[cycle(value)]
-fn branch_value(
-    description: &Module,
+fn branch_value<'m>(
+    terms: &Terms<'m>,
     alloc: Global,
     val: &Val,
     depth: u64,
-    term: &Term,
+    term: &'m Term,
 ) -> Result<Json, Memory>
-    ensures value { IfOk result (λ json. seen json ≡ branch_told description.now.decls description.now.names depth (out-Term term.now) val.now) }
+    ensures value { IfOk result (λ json. seen json ≡ branch_told terms.now.decls.now terms.now.names.now depth (out-Term term.now) val.now) }
 {
     match val {
         Val::Branch(number, inner) => match arm_at(term, *number) {
             Some(arm) => {
-                let json = value(description, alloc, inner.get(), depth, &arm.term)?;
-                named_value(description, alloc, arm.name, json)
+                let json = value(terms, alloc, inner.get(), depth, &arm.term)?;
+                named_value(terms, alloc, arm.name, json)
             }
             None => Ok(Json::null()),
         },
@@ -172,26 +173,26 @@ fn branch_value(
 }
 
 /// The object of one key.
-fn named_value(description: &Module, alloc: Global, name: u16, json: Json) -> Result<Json, Memory>
-    ensures value { IfOk result (λ named. seen named ≡ named_shown description.now.names name (seen json)) }
+fn named_value(terms: &Terms<'_>, alloc: Global, name: u16, json: Json) -> Result<Json, Memory>
+    ensures value { IfOk result (λ named. seen named ≡ named_shown terms.now.names.now name (seen json)) }
 {
-    let members = with_named(description, alloc, Members::new(alloc), Some(name), json)?;
+    let members = with_named(terms, alloc, Members::new(alloc), Some(name), json)?;
     Ok(members.into_json())
 }
 
 #[cycle(value)]
-fn array_value(
-    description: &Module,
+fn array_value<'m>(
+    terms: &Terms<'m>,
     alloc: Global,
     val: &Val,
     depth: u64,
-    elem: &Term,
+    elem: &'m Term,
 ) -> Result<Json, Memory>
-    ensures value { IfOk result (λ json. seen json ≡ array_told description.now.decls description.now.names depth elem.now val.now) }
+    ensures value { IfOk result (λ json. seen json ≡ array_told terms.now.decls.now terms.now.names.now depth elem.now val.now) }
 {
     match val {
         Val::Array(elements) => elements_value(
-            description,
+            terms,
             alloc,
             elements.as_slice(),
             depth,
@@ -202,18 +203,18 @@ fn array_value(
 }
 
 #[cycle(value)]
-fn elements_value(
-    description: &Module,
+fn elements_value<'m>(
+    terms: &Terms<'m>,
     alloc: Global,
     values: &[Val],
     depth: u64,
-    elem: &Term,
+    elem: &'m Term,
 ) -> Result<Json, Memory>
-    ensures value { IfOk result (λ json. seen json ≡ elements_told description.now.decls description.now.names depth elem.now values.now) }
+    ensures value { IfOk result (λ json. seen json ≡ elements_told terms.now.decls.now terms.now.names.now depth elem.now values.now) }
 {
     let mut things = Things::new(alloc);
     for element in values {
-        things = things.with(value(description, alloc, element, depth, elem)?)?;
+        things = things.with(value(terms, alloc, element, depth, elem)?)?;
     }
     Ok(things.into_json())
 }

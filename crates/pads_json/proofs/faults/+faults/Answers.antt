@@ -9,8 +9,8 @@ use Rattle.pads_json.proofs.faults.+faults.Goals as goal
 
 pub with_faults-returns-in_ok-faults-in-Some : goal.with_faults-returns-in_ok-faults-in-Some
 with_faults-returns-in_ok-faults-in-Some t c =
-    let decls = c.args.description.now.decls in
-    let names = c.args.description.now.names in
+    let decls = c.args.terms.now.decls.now in
+    let names = c.args.terms.now.names.now in
     let found = sym c.form_at.ensures.form ∙ ap (option_map form_seen) c.in-Some.is in
     let kids = ap (λ kids. things c.in_ok-faults.faults ++ kids_told decls names (steps c.args.place.now) (option_copied c.args.value) (form_seen c.in-Some.form) kids) c.as_slice.ensures.items in
     record {

@@ -9,7 +9,7 @@ use Rattle.pads_json.proofs.faults.+faults.Given as goal
 -- what is told already, then the rest, is the whole
 abbrev pub invariant-with_kids-loop-i : goal.invariant-with_kids-loop-i
 invariant-with_kids-loop-i l =
-    let decls = l.description.decls in
-    let names = l.description.names in
+    let decls = l.terms.decls.now in
+    let names = l.terms.names.now in
     things l.faults ++ kids_faults decls names (steps l.place) (option_copied l.value) (form_seen l.form) l.i (map (faults decls names) (drop l.i l.kids))
     ≡ things l.initial.faults ++ kids_told decls names (steps l.place) (option_copied l.value) (form_seen l.form) l.kids

@@ -8,7 +8,7 @@ use Rattle.pads_json.proofs.form.form_at.Goals as goal
 
 pub calls-preserved : goal.calls-preserved
 calls-preserved c =
-    let decls = c.args.description.now.decls in
+    let decls = c.args.terms.now.decls.now in
     let call = ap (λ t. called (out-Term t)) c.in-Call.is ∙ ap called (outs-Call _ _) in
     let there = ap (slice_get decls) (sym c.from.ensures) ∙ sym c.get.ensures.item ∙ ap option_copied c.in-Some.is in
     rw c.through-term-in-Some.ensures.term
@@ -16,7 +16,7 @@ calls-preserved c =
 
 pub returns-in-None : goal.returns-in-None
 returns-in-None c =
-    let decls = c.args.description.now.decls in
+    let decls = c.args.terms.now.decls.now in
     let call = ap (λ t. called (out-Term t)) c.in-Call.is ∙ ap called (outs-Call _ _) in
     let nowhere = ap (slice_get decls) (sym c.from.ensures) ∙ sym c.get.ensures.item ∙ ap option_copied c.in-None.is in
     record {

@@ -6,11 +6,11 @@ use Rattle.pads_json.proofs.value.+value.Given as goal
 
 abbrev pub invariant-elements_value-loop-element : goal.invariant-elements_value-loop-element
 invariant-elements_value-loop-element l =
-    things l.things ≡ map (λ (value : Shown). value l.depth l.elem) (map (shown l.description.decls l.description.names) (take l.element-index l.values))
+    things l.things ≡ map (λ (value : Shown). value l.depth l.elem) (map (shown l.terms.decls.now l.terms.names.now) (take l.element-index l.values))
 
 -- what is put in already, then the rest, is the whole
 abbrev pub invariant-parts_value-loop-i : goal.invariant-parts_value-loop-i
 invariant-parts_value-loop-i l =
-    let named = parts_put l.description.decls l.description.names l.depth in
-    let values = map (shown l.description.decls l.description.names) l.values in
+    let named = parts_put l.terms.decls.now l.terms.names.now l.depth in
+    let values = map (shown l.terms.decls.now l.terms.names.now) l.values in
     named (drop l.i l.parts) (drop l.i values) (members l.members) ≡ named l.parts values no_members
