@@ -1,1 +1,4 @@
 pub mod CodePageLemmas
+pub mod TextLemmas
+pub mod RunLemmas
+pub mod NumeralLemmas

@@ -1,7 +1,7 @@
 -- The code pages: which code point (00 to FF) a byte stands for, and which byte stands for a code point.
 -- ASCII is the identity on all 256 bytes. EBCDIC is IBM code page 037, with its control codes: a
 -- bijection between the 256 bytes and the 256 code points.
-use Rattle.std.specs.Prelude.{ℕ, List, [], ◌∷◌, ◌==◌, unwrap_or, position, slice_index_or}
+use Rattle.std.specs.Prelude.{ℕ, List, [], ◌∷◌, ◌==◌, map, unwrap_or, position, slice_index_or}
 use Rattle.pads_code.specs.declared.Coding.{Coding}
 use Rattle.pads_code.specs.declared.Coding.TheVariants.{Ascii, Ebcdic}
 
@@ -34,3 +34,10 @@ point Ebcdic byte = slice_index_or page_037 byte byte
 unfoldable pub byte_of : Coding → ℕ → ℕ
 byte_of Ascii point = point
 byte_of Ebcdic point = unwrap_or (position (λ p. p == point) page_037) point
+
+-- the code points of bytes, and the bytes of code points
+abbrev pub points_of : Coding → List ℕ → List ℕ
+points_of coding bytes = map (point coding) bytes
+
+abbrev pub bytes_of : Coding → List ℕ → List ℕ
+bytes_of coding points = map (byte_of coding) points

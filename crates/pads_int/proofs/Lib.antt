@@ -1,4 +1,6 @@
-pub mod RunLemmas
 pub mod RangeLemmas
 pub mod ReadingLemmas
 pub mod SpellingLemmas
+pub mod TextLemmas
+pub mod CanonicalLemmas
+pub mod LawLemmas

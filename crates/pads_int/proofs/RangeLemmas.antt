@@ -1,6 +1,6 @@
 -- A number of 2^64 or more is no kind's, whatever its sign, so that it may be cut off there.
-use Rattle.std.proofs.Common.{◌≡◌, ℕ, zero, suc, ◌<◌, ◌≤◌, ◌^◌, Bool, true, false, min, ℤ, pos, negsuc, refl, sym, ap, ◌∙◌, arith, inl, inr}
-use Rattle.std.proofs.lemmas.Bool.{cases_lt, lt-ltb}
+use Rattle.std.proofs.Common.{◌≡◌, ℕ, zero, suc, ◌≤◌, ◌^◌, Bool, true, false, min, pos, negsuc, refl, ap, arith, inl, inr}
+use Rattle.std.proofs.lemmas.Bool.{cases_lt}
 use Rattle.std.proofs.lemmas.Int.{ints}
 use Rattle.pads_int.specs.declared.kind.Kind.{Kind}
 use Rattle.pads_int.specs.declared.kind.Kind.TheVariants.{I8, I16, I32, I64, U8, U16, U32, U64}
@@ -27,7 +27,7 @@ below U16 n h = grind (arith, ints)
 below U32 n h = grind (arith, ints)
 below U64 n h = grind (arith, ints)
 
-beyond : (kind : Kind) (negative : Bool) (n : ℕ) → 2 ^ 64 ≤ n → in_range kind (signed_number negative n) ≡ false
+pub beyond : (kind : Kind) (negative : Bool) (n : ℕ) → 2 ^ 64 ≤ n → in_range kind (signed_number negative n) ≡ false
 beyond kind false n h = above kind n h
 beyond kind true zero h = absurd (omega arith)
 beyond kind true (suc n) h = below kind n h

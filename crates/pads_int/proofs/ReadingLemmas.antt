@@ -1,24 +1,19 @@
 -- What the steps of the code make of the bytes is the reading of their points.
-use Rattle.std.proofs.Common.{◌≡◌, ◌≢◌, ℕ, ◌+◌, ◌<◌, ◌≤◌, ◌^◌, Bool, true, false, min, ℤ, pos, negsuc, int_lt, nat_lt, List, length, drop, take, refl, sym, ap, ◌∙◌, arith, nat_eq}
+use Rattle.std.proofs.Common.{◌≡◌, ℕ, ◌+◌, ◌^◌, true, false, min, ℤ, pos, negsuc, int_lt, nat_lt, List, length, drop, take, refl, sym, ◌∙◌, arith, nat_eq}
 use Rattle.std.specs.Char.{is_ascii_digit}
 use Rattle.std.specs.List.{prefix_len, take_while, list_all}
-use Rattle.std.proofs.lemmas.Bool.{ne_eqb, eq-eqb}
-use Rattle.std.proofs.lemmas.List.{length-map, drop-map}
+use Rattle.std.proofs.lemmas.Bool.{ne_eqb}
 use Rattle.std.proofs.lemmas.Int.{ints}
 use Rattle.std.proofs.lemmas.List.Folds.{list_all-map}
-use Rattle.pads_value.specs.declared.reading.Read.TheVariants.{Good, Soft, Hard}
+use Rattle.pads_value.specs.declared.reading.Read.TheVariants.{Soft, Hard}
 use Rattle.pads_value.specs.declared.cause.Cause.TheVariants as cause
 use Rattle.pads_code.specs.declared.Coding.{Coding}
-use Rattle.pads_code.specs.CodePage.{point}
+use Rattle.pads_code.specs.CodePage.{point, points_of}
+use Rattle.pads_code.proofs.TextLemmas.{length-points, points-drop}
 use Rattle.pads_int.specs.declared.kind.Kind.{Kind}
-use Rattle.pads_int.specs.Readings.{points_of, sign_size, is_negative, is_numeral, number, signed_number, ranged, run_reading, int_reading, int_fw_reading, field_reading, blank}
+use Rattle.pads_code.specs.Numerals.{is_numeral, number}
+use Rattle.pads_int.specs.Readings.{sign_size, is_negative, signed_number, ranged, run_reading, int_reading, int_fw_reading, field_reading, blank}
 use Rattle.pads_int.proofs.RangeLemmas.{ranged-min}
-
-pub length-points : (coding : Coding) (bytes : List ℕ) → length (points_of coding bytes) ≡ length bytes
-length-points coding bytes = length-map bytes (point coding)
-
-pub points-drop : (coding : Coding) (n : ℕ) (bytes : List ℕ) → drop n (points_of coding bytes) ≡ points_of coding (drop n bytes)
-points-drop coding n bytes = drop-map (point coding) n bytes
 
 pub numeral_some : (coding : Coding) (bytes : List ℕ) → nat_eq (length bytes) 0 ≡ false → list_all (λ b. is_ascii_digit (point coding b)) bytes ≡ is_numeral (points_of coding bytes)
 numeral_some coding bytes some = rw (length-points coding bytes, some, list_all-map is_ascii_digit (point coding) bytes) refl

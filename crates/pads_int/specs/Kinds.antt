@@ -1,6 +1,6 @@
 -- The eight kinds of integers with their usual ranges: a signed kind of b bits goes from -2^(b-1) to
 -- 2^(b-1) - 1, an unsigned one from 0 to 2^b - 1.
-use Rattle.std.specs.Prelude.{ℕ, ℤ, pos, negsuc, Bool, true, false, ◌&&◌, not, ◌-◌, ◌^◌, ◌≤ℤ◌, int_lt}
+use Rattle.std.specs.Prelude.{ℤ, pos, negsuc, Bool, true, false, ◌&&◌, not, ◌-◌, ◌^◌, ◌≤ℤ◌, int_lt}
 use Rattle.pads_int.specs.declared.kind.Kind.{Kind}
 use Rattle.pads_int.specs.declared.kind.Kind.TheVariants.{I8, I16, I32, I64, U8, U16, U32, U64}
 

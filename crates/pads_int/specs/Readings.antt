@@ -1,13 +1,14 @@
 -- What the text of an integer reads as, in the terms of the PADS manual's integer base types: an
 -- optional sign, `+` or for signed kinds `-`, and decimal digits. The forms are this project's formats'.
-use Rattle.std.specs.Prelude.{ℕ, ℤ, pos, negsuc, neg_ℤ, Bool, true, false, ◌&&◌, ◌||◌, not, ◌==◌, nat_lt, if◌then◌else◌, List, [], ◌∷◌, map, take, drop, length, fold, ◌+◌, ◌-◌, ◌*◌}
+use Rattle.std.specs.Prelude.{ℕ, ℤ, pos, negsuc, neg_ℤ, Bool, false, ◌&&◌, ◌||◌, ◌==◌, nat_lt, if◌then◌else◌, List, [], ◌∷◌, take, drop, length, ◌+◌}
 use Rattle.std.specs.Char.{is_ascii_digit}
-use Rattle.std.specs.List.{prefix_len, take_while, list_all}
+use Rattle.std.specs.List.{prefix_len, take_while}
 use Rattle.pads_value.specs.declared.reading.Read.{Read}
 use Rattle.pads_value.specs.declared.reading.Read.TheVariants.{Good, Soft, Hard}
 use Rattle.pads_value.specs.declared.cause.Cause.TheVariants as cause
 use Rattle.pads_code.specs.declared.Coding.{Coding}
-use Rattle.pads_code.specs.CodePage.{point}
+use Rattle.pads_code.specs.CodePage.{points_of}
+use Rattle.pads_code.specs.Numerals.{is_numeral, number}
 use Rattle.pads_int.specs.declared.kind.Kind.{Kind}
 use Rattle.pads_int.specs.Kinds.{is_signed, in_range}
 
@@ -21,10 +22,6 @@ minus = 45
 abbrev pub blank : ℕ
 blank = 32
 
--- the code points that bytes stand for
-abbrev pub points_of : Coding → List ℕ → List ℕ
-points_of coding bytes = map (point coding) bytes
-
 -- how many code points the sign in front takes: one or none
 abbrev pub sign_size : Kind → List ℕ → ℕ
 sign_size kind [] = 0
@@ -34,16 +31,8 @@ abbrev pub is_negative : Kind → List ℕ → Bool
 is_negative kind [] = false
 is_negative kind (p ∷ ps) = is_signed kind && (p == minus)
 
--- the decimal number of digits, of which those in front may be zeros
-abbrev pub number : List ℕ → ℕ
-number digits = fold (λ n digit. n * 10 + (digit - 48)) 0 digits
-
 abbrev pub signed_number : Bool → ℕ → ℤ
 signed_number negative n = if negative then neg_ℤ (pos n) else pos n
-
--- at least one digit, and nothing else
-abbrev pub is_numeral : List ℕ → Bool
-is_numeral points = not (length points == 0) && list_all is_ascii_digit points
 
 -- the number where the kind has it; else its bytes are taken and the cause is RANGE
 abbrev pub ranged : Kind → ℕ → ℤ → Read ℤ

@@ -1,12 +1,12 @@
 -- Which bytes spell an integer, by their form alone: a sign that the kind allows and at least one digit,
 -- whose number is the value and one of the kind's; in a field behind any number of blanks.
-use Rattle.std.specs.Prelude.{◌≡◌, ℕ, ℤ, pos, Bool, true, false, IsTrue, ◌<◌, ◌++◌, ◌∷◌, List, [], length, replicate}
-use Rattle.std.specs.Char.{is_ascii_digit}
-use Rattle.std.specs.List.{AllPass}
+use Rattle.std.specs.Prelude.{◌≡◌, ℕ, ℤ, pos, Bool, true, false, ◌++◌, ◌∷◌, List, [], length, replicate}
 use Rattle.pads_code.specs.declared.Coding.{Coding}
 use Rattle.pads_int.specs.declared.kind.Kind.{Kind}
 use Rattle.pads_int.specs.Kinds.{is_signed, in_range}
-use Rattle.pads_int.specs.Readings.{plus, minus, blank, points_of, number, signed_number}
+use Rattle.pads_code.specs.Numerals.{is_numeral, number}
+use Rattle.pads_int.specs.Readings.{plus, minus, blank, signed_number}
+use Rattle.pads_code.specs.CodePage.{points_of}
 
 -- the signs that a kind allows, each with whether it makes the number negative
 pub data IsSign (kind : Kind) : Bool → List ℕ → Type 0 where
@@ -20,8 +20,7 @@ pub record IsIntegerText (kind : Kind) (v : ℤ) (points : List ℕ) : Type 0 wh
   pub digits : List ℕ
   pub parts : points ≡ sign ++ digits
   pub allowed : IsSign kind negative sign
-  pub some : 0 < length digits
-  pub decimal : AllPass is_ascii_digit digits
+  pub numeral : is_numeral digits ≡ true
   pub value : v ≡ signed_number negative (number digits)
   pub ranged : in_range kind v ≡ true
 

@@ -2,8 +2,9 @@
 ghost use Rattle.std.specs.Prelude.{◌≡◌, ℕ, ◌<◌, ◌≤◌, ◌^◌, min, length, ◌==◌};
 ghost use Rattle.std.specs.Char.{is_ascii_digit};
 ghost use Rattle.std.specs.List.{prefix_len, take_while, list_all};
-ghost use Rattle.pads_code.specs.CodePage.{point};
-ghost use Rattle.pads_int.specs.Readings.{blank, points_of, sign_size, is_negative, is_numeral as points_are_numeral, number, signed_number};
+ghost use Rattle.pads_code.specs.CodePage.{point, points_of};
+ghost use Rattle.pads_code.specs.Numerals.{is_numeral as points_are_numeral, number};
+ghost use Rattle.pads_int.specs.Readings.{blank, sign_size, is_negative, signed_number};
 
 use crate::Kind;
 use pads_code::{Coding, decode};

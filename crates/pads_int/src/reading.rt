@@ -1,5 +1,6 @@
 ghost use Rattle.std.specs.Prelude.{◌≡◌, ◌≤◌, ◌^◌};
-ghost use Rattle.pads_int.specs.Readings.{points_of, ranged as number_or_range, signed_number, field_reading, int_reading, int_fw_reading};
+ghost use Rattle.pads_int.specs.Readings.{ranged as number_or_range, signed_number, field_reading, int_reading, int_fw_reading};
+ghost use Rattle.pads_code.specs.CodePage.{points_of};
 
 use crate::Kind;
 use crate::digits::{

@@ -2,7 +2,7 @@ use Rattle.std.proofs.Common.{arith, nat_eq, rules, ◌∙◌}
 use Rattle.std.proofs.lemmas.Bool.{ne_eqb}
 use Rattle.pads_code.specs.CodePage.{point}
 use Rattle.pads_int.specs.Readings.{blank}
-use Rattle.pads_int.proofs.RunLemmas.{run_ends, run_is_all}
+use Rattle.pads_code.proofs.RunLemmas.{run_ends, run_is_all}
 use Rattle.pads_int.proofs.digits.blank_run.Goals as goal
 
 pub returns-then-decode-ne32-clause-run : goal.returns-then-decode-ne32-clause-run

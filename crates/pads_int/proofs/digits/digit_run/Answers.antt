@@ -1,7 +1,7 @@
 use Rattle.std.proofs.Common.{arith, rules}
 use Rattle.std.specs.Char.{is_ascii_digit}
 use Rattle.pads_code.specs.CodePage.{point}
-use Rattle.pads_int.proofs.RunLemmas.{run_ends, run_is_all}
+use Rattle.pads_code.proofs.RunLemmas.{run_ends, run_is_all}
 use Rattle.pads_int.proofs.digits.digit_run.Goals as goal
 
 pub returns-then-not-is_ascii_digit-clause-run : goal.returns-then-not-is_ascii_digit-clause-run

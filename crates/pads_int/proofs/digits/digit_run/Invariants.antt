@@ -1,8 +1,6 @@
-use Rattle.std.proofs.Common.{nat_eq}
 use Rattle.std.specs.Char.{is_ascii_digit}
 use Rattle.pads_code.specs.CodePage.{point}
-use Rattle.pads_int.specs.Readings.{blank}
-use Rattle.pads_int.proofs.RunLemmas.{PassBelow}
+use Rattle.pads_code.proofs.RunLemmas.{PassBelow}
 use Rattle.pads_int.proofs.digits.digit_run.Given as goal
 
 abbrev pub invariant-loop-place : goal.invariant-loop-place

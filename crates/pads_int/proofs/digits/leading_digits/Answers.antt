@@ -1,8 +1,6 @@
-use Rattle.std.proofs.Common.{rules, ◌∙◌, sym, ap, take}
-use Rattle.std.specs.Char.{is_ascii_digit}
+use Rattle.std.proofs.Common.{◌∙◌, sym, ap, take}
 use Rattle.std.proofs.lemmas.List.{take-map}
-use Rattle.pads_code.specs.CodePage.{point}
-use Rattle.pads_int.specs.Readings.{points_of}
+use Rattle.pads_code.specs.CodePage.{point, points_of}
 use Rattle.pads_int.proofs.digits.leading_digits.Goals as goal
 
 pub returns-clause-run : goal.returns-clause-run

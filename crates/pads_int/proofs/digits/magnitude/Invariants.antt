@@ -1,5 +1,6 @@
 use Rattle.std.proofs.Common.{◌≡◌, ◌^◌, min, take}
-use Rattle.pads_int.specs.Readings.{points_of, number}
+use Rattle.pads_code.specs.Numerals.{number}
+use Rattle.pads_code.specs.CodePage.{points_of}
 use Rattle.pads_int.proofs.digits.magnitude.Given as goal
 
 abbrev pub invariant-loop-byte : goal.invariant-loop-byte

@@ -1,4 +1,4 @@
-use Rattle.std.proofs.Common.{rules, arith, ◌∙◌, ap, ℤ}
+use Rattle.std.proofs.Common.{arith, ◌∙◌}
 use Rattle.std.proofs.lemmas.Int.{to_z-of_z, ints}
 use Rattle.pads_int.proofs.ReadingLemmas.{fw_without_width, fw_short, fw_field}
 use Rattle.pads_int.proofs.reading.read_int_fw.Goals as goal

@@ -1,7 +1,6 @@
-use Rattle.std.proofs.Common.{rules, arith, ◌∙◌, ap, map}
+use Rattle.std.proofs.Common.{arith, ◌∙◌, ap, map}
 use Rattle.pads_code.specs.CodePage.{byte_of}
 use Rattle.std.proofs.lemmas.Int.{to_z-of_z}
-use Rattle.pads_int.specs.Spellings.{int_spelling}
 use Rattle.pads_int.proofs.SpellingLemmas.{spelled, not_spelled}
 use Rattle.pads_int.proofs.spelling.spell_int.Goals as goal
 

@@ -1,8 +1,7 @@
-use Rattle.std.proofs.Common.{rules, arith, ◌≡◌, ◌∙◌, ap, ℤ, length}
-use Rattle.std.specs.Int.RustNames.{unsigned_abs}
+use Rattle.std.proofs.Common.{arith, ◌≡◌, ◌∙◌, ap, length}
 use Rattle.std.specs.Fmt.{signed_decimal}
 use Rattle.std.proofs.lemmas.Int.{to_z-of_z}
-use Rattle.pads_int.proofs.SpellingLemmas.{no_field, not_in_field, no_room, sign_within, spelled_in_field}
+use Rattle.pads_int.proofs.SpellingLemmas.{no_field, not_in_field, no_room, spelled_in_field}
 use Rattle.pads_int.proofs.spelling.spell_int_fw.Goals as goal
 
 pub returns-then-not-is_field_width : goal.returns-then-not-is_field_width

@@ -1,5 +1,5 @@
--- The longest run of points that pass a test, as a loop over the bytes finds it.
-use Rattle.std.proofs.Common.{◌≡◌, ℕ, ◌+◌, ◌<◌, ◌≤◌, Bool, true, false, List, map, length, get_or, refl, sym, ap, ◌∙◌, arith, below_more}
+-- The longest run of points that pass a test, as a loop over the bytes of a text finds it.
+use Rattle.std.proofs.Common.{◌≡◌, ℕ, ◌+◌, ◌<◌, Bool, true, false, List, map, length, get_or, sym, arith, below_more}
 use Rattle.std.specs.List.{prefix_len}
 use Rattle.std.proofs.lemmas.List.{length-map, get_or-map}
 use Rattle.std.proofs.lemmas.List.Sums.{prefix_len_is}

@@ -1,0 +1,11 @@
+pub mod StringLemmas
+pub mod ClassLemmas
+pub mod AddressLemmas
+pub mod ChoiceLemmas
+pub mod BinaryLemmas
+pub mod DottedLemmas
+pub mod StringLaws
+pub mod FieldLaws
+pub mod BinaryLaws
+pub mod ChoiceLaws
+pub mod AddressLaws

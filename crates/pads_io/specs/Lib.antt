@@ -1,0 +1,5 @@
+-- The meanings that this crate's contracts cite.
+pub mod Faults
+pub mod Transfer
+pub mod InMemory
+pub mod Named

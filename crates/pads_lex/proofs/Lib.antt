@@ -1,0 +1,16 @@
+pub mod NumberLemmas
+pub mod GapLemmas
+pub mod ByteLemmas
+pub mod LiteralLemmas
+pub mod RunLemmas
+pub mod CloseLemmas
+pub mod TableLemmas
+pub mod LiteralLaws
+pub mod SpelledLemmas
+pub mod LongestLaws
+pub mod SameLaws
+pub mod StepLaws
+pub mod ReadLaws
+pub mod FaultLaws
+pub mod TokensLemmas
+pub mod CutLaws
