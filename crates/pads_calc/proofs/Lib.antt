@@ -1,0 +1,12 @@
+pub mod Bindings
+pub mod Calls
+pub mod Cases
+pub mod Choices
+pub mod CountRolls
+pub mod Elements
+pub mod Lists
+pub mod Positions
+pub mod Rolls
+pub mod Runs
+pub mod Scans
+pub mod Turns

@@ -1,0 +1,52 @@
+-- What a search reads as, place by place.
+use Rattle.std.proofs.Common.{◌≡◌, ℕ, zero, suc, ◌+◌, ◌-◌, ◌<◌, ◌≤◌, ◌∙◌, nat_lt, Bool, true, false, if◌then◌else◌, List, length, refl, sym, ap, arith, add-one}
+use Rattle.std.proofs.lemmas.Bool.{ltb-false}
+use Rattle.pads_value.specs.declared.cause.Cause.TheVariants as cause
+use Rattle.pads_value.specs.Header.{with_cause}
+use Rattle.pads_expr.specs.Value.{Pairs}
+use Rattle.pads_calc.specs.declared.reading.Reading.{Reading}
+use Rattle.pads_calc.specs.Readings.{Reader, fails, is_ok, blame}
+use Rattle.pads_calc.specs.Wrappers.{found_at, scan, scan_from}
+
+pub found-here : (origin i : ℕ) (r : Reading) → found_at origin i i r ≡ r
+found-here origin i r =
+    let same : nat_lt i i ≡ false = grind arith in
+    ap (λ (moved : Bool). if moved then record r { pd = with_cause cause.Skipped (origin + i) r.pd } else r) same
+
+module _ (origin : ℕ) (inner : Reader) (env : Pairs) (i : ℕ) where
+  pub scan-none : (j : ℕ) → scan_from origin zero inner env i j ≡ fails origin (blame (inner env i)) i
+  unfolding scan_from
+  scan-none j = refl
+
+  pub scan-step : (places j : ℕ) → scan_from origin (suc places) inner env i j
+      ≡ (if is_ok (inner env j) then found_at origin i j (inner env j) else scan_from origin places inner env i (j + 1))
+  unfolding scan_from
+  scan-step places j = refl
+
+  pub scan-found : (end j : ℕ) → j < end → is_ok (inner env j) ≡ true → scan_from origin (end - j) inner env i j ≡ found_at origin i j (inner env j)
+  scan-found end j more ok =
+      let places : end - j ≡ suc (end - (j + 1)) = omega arith in
+      rw places (scan-step (end - (j + 1)) j ∙ ap (λ (found : Bool). if found then found_at origin i j (inner env j) else scan_from origin (end - (j + 1)) inner env i (j + 1)) ok)
+
+  pub scan-next : (end j : ℕ) → j < end → is_ok (inner env j) ≡ false → scan_from origin (end - j) inner env i j ≡ scan_from origin (end - (j + 1)) inner env i (j + 1)
+  scan-next end j more bad =
+      let places : end - j ≡ suc (end - (j + 1)) = omega arith in
+      rw places (scan-step (end - (j + 1)) j ∙ ap (λ (found : Bool). if found then found_at origin i j (inner env j) else scan_from origin (end - (j + 1)) inner env i (j + 1)) bad)
+
+  pub scan-over : (end j : ℕ) → end ≤ j → scan_from origin (end - j) inner env i j ≡ fails origin (blame (inner env i)) i
+  scan-over end j over =
+      let places : end - j ≡ zero = omega arith in
+      rw places (scan-none j)
+
+  pub scan-here : (bytes : List ℕ) → is_ok (inner env i) ≡ true → scan origin bytes inner env i ≡ inner env i
+  scan-here bytes ok =
+      scan-step (length bytes - i) i
+      ∙ ap (λ (found : Bool). if found then found_at origin i i (inner env i) else scan_from origin (length bytes - i) inner env i (i + 1)) ok
+      ∙ found-here origin i (inner env i)
+
+  pub scan-on : (bytes : List ℕ) → i ≤ length bytes → is_ok (inner env i) ≡ false →
+      scan origin bytes inner env i ≡ scan_from origin (length bytes + 1 - (i + 1)) inner env i (i + 1)
+  scan-on bytes within bad =
+      let places : length bytes + 1 - (i + 1) ≡ length bytes - i = omega arith in
+      rw places (scan-step (length bytes - i) i
+      ∙ ap (λ (found : Bool). if found then found_at origin i i (inner env i) else scan_from origin (length bytes - i) inner env i (i + 1)) bad)

@@ -1,0 +1,12 @@
+pub mod Arguments
+pub mod Arrays
+pub mod Calculus
+pub mod Choices
+pub mod Counts
+pub mod Leaves
+pub mod Places
+pub mod Readings
+pub mod Rows
+pub mod Scopes
+pub mod Structs
+pub mod Wrappers

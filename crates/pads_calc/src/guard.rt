@@ -1,0 +1,34 @@
+ghost use Rattle.std.specs.Prelude.{◌≡◌, IfOk, OnOk};
+ghost use Rattle.pads_calc.specs.Structs.{bind as bound_by};
+ghost use Rattle.pads_calc.specs.Wrappers.{guard_of};
+
+use crate::Reading;
+use crate::args::is_true_of;
+use pads_expr::{Env, Expr};
+use pads_value::{Memory, Val};
+use std::alloc::Global;
+
+/// A reading under a constraint, which is asked of a clean reading alone.
+pub fn guarded(reading: Reading, binder: u16, condition: &Expr, env: &mut Env) -> Result<Reading, Memory>
+    ensures guarded { IfOk result (λ r. r ≡ guard_of binder condition.now env.old.pairs reading) }
+    ensures place { IfOk result (λ r. r.place ≡ reading.place) }
+    ensures env { OnOk result (env.new.pairs ≡ env.old.pairs) }
+{
+    if !reading.is_ok() {
+        return Ok(reading);
+    }
+    let Reading { value, pd, place } = reading;
+    let (truth, value) = is_true_of(condition, binder, value, env)?;
+    let reading = Reading { value, pd, place };
+    if truth { Ok(reading) } else { Ok(reading.constrained()) }
+}
+
+/// Binds a part's value in the environment of the later parts, where the part has a name.
+pub fn bind_part(alloc: Global, name: Option<u16>, value: &Val, env: &mut Env) -> Result<(), Memory>
+    ensures bound { OnOk result (env.new.pairs ≡ bound_by name value.now env.old.pairs) }
+{
+    match name {
+        None => Ok(()),
+        Some(name) => env.bind(name, value.copy(alloc)?),
+    }
+}

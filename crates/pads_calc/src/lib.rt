@@ -1,0 +1,25 @@
+//! The calculus of data descriptions: its terms and modules, and what they mean.
+#![tactic(auto)]
+
+mod args;
+mod choice;
+mod decl;
+mod guard;
+mod module;
+mod reading;
+mod record;
+mod run;
+mod term;
+mod turn;
+
+pub use args::{argument, arguments, bound, is_true, is_true_of};
+pub use choice::chosen;
+pub use decl::{Decl, Decls, NameIds, Shape};
+pub use guard::{bind_part, guarded};
+pub use module::Module;
+pub use pads_dispatch::{Arg, Args, Base};
+pub use reading::Reading;
+pub use record::Record;
+pub use run::{Run, is_last};
+pub use term::{Arm, Arms, Case, Cases, Exprs, Key, Part, Parts, Result2, Seq, Term};
+pub use turn::{Ending, Turn, is_full, short_of, size_at};

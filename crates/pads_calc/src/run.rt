@@ -1,0 +1,91 @@
+ghost use Rattle.std.specs.Prelude.{◌≡◌, ◌≤◌, ◌^◌, [], ◌∷◌, ◌++◌, None, IfOk, OnOk};
+ghost use Rattle.std.specs.Option.{option_copied};
+ghost use Rattle.pads_calc.specs.Arrays.{soft, is_last as is_last_of};
+ghost use Rattle.pads_calc.specs.Readings.{node};
+ghost use Rattle.pads_value.specs.declared.value.Val.TheVariants as val;
+
+use crate::Reading;
+use crate::args::is_true_of;
+use pads_expr::{Env, Expr};
+use pads_value::{Cause, Items, Memory, Own, Pds, Val, Vals};
+use std::alloc::Global;
+
+/// Readings that follow one another, as a struct or an array keeps them.
+#[derive(Debug, Drop)]
+pub struct Run {
+    pub values: Vals,
+    pub pds: Pds,
+    /// Where the last one ended, or where the first is to begin.
+    pub place: u64,
+}
+
+impl Run {
+    /// No reading yet.
+    pub fn new(alloc: Global, place: u64) -> Run
+        ensures empty { result ≡ record { values = []; pds = []; place = place } }
+    {
+        Run {
+            values: Items::new(alloc),
+            pds: Items::new(alloc),
+            place,
+        }
+    }
+
+    /// One more reading.
+    pub fn push(&mut self, reading: Reading) -> Result<(), Memory>
+        ensures pushed { OnOk result (self.new ≡ record { values = self.old.values ++ reading.value ∷ []; pds = self.old.pds ++ reading.pd ∷ []; place = reading.place }) }
+    {
+        let Reading { value, pd, place } = reading;
+        self.values.push(value)?;
+        self.pds.push(pd)?;
+        self.place = place;
+        Ok(())
+    }
+
+    /// The struct that they make.
+    pub fn into_struct(self, origin: u64, begin: u64) -> Reading
+        requires origin { origin ≤ 2 ^ 62 }
+        requires begin { begin ≤ 2 ^ 62 }
+        requires place { self.place ≤ 2 ^ 62 }
+        ensures node { result ≡ node origin None (val.Tuple self.values) begin self.place self.pds }
+    {
+        let Run { values, pds, place } = self;
+        Reading::node(origin, None, Val::Tuple(values), begin, place, pds)
+    }
+
+    /// The array that they make, with a cause of its own or without.
+    pub fn into_array(self, origin: u64, own: Option<Cause>, begin: u64) -> Reading
+        requires origin { origin ≤ 2 ^ 62 }
+        requires begin { begin ≤ 2 ^ 62 }
+        requires place { self.place ≤ 2 ^ 62 }
+        ensures node { result ≡ node origin (soft own) (val.Array self.values) begin self.place self.pds }
+    {
+        let Run { values, pds, place } = self;
+        let own = own.map(|cause| Own {
+            cause,
+            fails: false,
+        });
+        Reading::node(origin, own, Val::Array(values), begin, place, pds)
+    }
+}
+
+/// Whether the latest element is the last one, by a condition over the elements so far. Gives the
+/// elements back.
+pub fn is_last(last: Option<&Expr>, elements_name: u16, elements: Run, env: &mut Env) -> Result<(bool, Run), Memory>
+    ensures last { IfOk result (λ answer. answer.0 ≡ is_last_of (option_copied last.entry) elements_name elements.values env.old.pairs) }
+    ensures elements { IfOk result (λ answer. answer.1 ≡ elements) }
+    ensures env { OnOk result (env.new.pairs ≡ env.old.pairs) }
+{
+    let Some(condition) = last else {
+        return Ok((false, elements));
+    };
+    if elements.values.is_empty() {
+        return Ok((false, elements));
+    }
+    let Run { values, pds, place } = elements;
+    let (truth, value) = is_true_of(condition, elements_name, Val::Array(values), env)?;
+    let Val::Array(values) = value else {
+        unreachable!()
+    };
+    Ok((truth, Run { values, pds, place }))
+}

@@ -1,0 +1,88 @@
+ghost use Rattle.std.specs.Prelude.{◌≡◌};
+ghost use Rattle.std.specs.Option.{option_map, option_copied};
+ghost use Rattle.pads_calc.specs.Arguments.{arg_told};
+ghost use Rattle.pads_calc.specs.Arrays.{size_of_arg, size_at as size_of, is_full as is_full_at, below_size, turn_of};
+ghost use Rattle.pads_expr.specs.Seen.{seen};
+
+use crate::Reading;
+use pads_expr::{Env, Expr, Res, eval};
+use pads_value::{Cause, Class};
+
+/// Whether an array ends before the next element.
+#[derive(Clone, Copy, Debug)]
+pub enum Ending {
+    GoesOn,
+    /// It ends, with a cause of its own or without.
+    Ends(Option<Cause>),
+}
+
+/// What comes of an element, and of the separator before it.
+#[derive(Debug, Drop)]
+pub enum Turn {
+    /// The array ends with this cause. Neither the turn's bytes nor its element are kept.
+    Undone(Cause),
+    /// The array has this element.
+    Kept(Reading),
+}
+
+/// A number of elements that an expression is worth, if it is one.
+fn size_of_worth(found: Option<Res>) -> Option<u128>
+    ensures size { result ≡ size_of_arg (arg_told (option_map seen found.entry)) }
+{
+    match found {
+        Some(Res::Num(number)) => {
+            if number < 0 {
+                None
+            } else {
+                Some(number as u128)
+            }
+        }
+        _ => None,
+    }
+}
+
+/// The size that an array is to have, or that none is asked for; none where the expression has no value
+/// that is a size.
+pub fn size_at(size: Option<&Expr>, env: &Env) -> Option<Option<u128>>
+    ensures size { result ≡ size_of (option_copied size.entry) env.now.pairs }
+{
+    match size {
+        None => Some(None),
+        Some(e) => Some(Some(size_of_worth(eval(e, env))?)),
+    }
+}
+
+/// Whether so many elements reach the size.
+pub fn is_full(size: Option<u128>, count: u64) -> bool
+    ensures full { result ≡ is_full_at size count }
+{
+    match size {
+        None => false,
+        Some(size) => size <= u128::from(count),
+    }
+}
+
+/// The cause of an array that ends before its size is reached.
+pub fn short_of(size: Option<u128>) -> Option<Cause>
+    ensures cause { result ≡ below_size size }
+{
+    match size {
+        None => None,
+        Some(_) => Some(Cause::ArraySize),
+    }
+}
+
+impl Turn {
+    /// What comes of an element that was read at `begin`, in a turn that began at `from`.
+    pub fn of(is_first: bool, from: u64, begin: u64, element: Reading) -> Turn
+        ensures turn { result ≡ turn_of is_first from begin element }
+    {
+        if element.pd.class == Class::Fail && element.place == begin {
+            return Turn::Undone(Cause::ArrayElem);
+        }
+        if !is_first && element.place == from {
+            return Turn::Undone(Cause::ArrayStall);
+        }
+        Turn::Kept(element)
+    }
+}

@@ -1,0 +1,5 @@
+pub mod BaseLaws
+pub mod Classes
+pub mod Lifts
+pub mod Takes
+pub mod Values

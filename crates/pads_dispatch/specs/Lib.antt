@@ -1,0 +1,9 @@
+pub mod Applied
+pub mod Conditions
+pub mod Kinds
+pub mod Labels
+pub mod Readings
+pub mod Seen
+pub mod Sizes
+pub mod Spellings
+pub mod Texts

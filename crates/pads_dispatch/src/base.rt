@@ -1,0 +1,41 @@
+use pads_bases::{Labels, Order};
+use pads_code::Coding;
+use pads_int::Kind;
+use pads_value::{Bytes, Items};
+
+/// A base type of the language, without its arguments.
+#[derive(Debug, Drop)]
+pub enum Base {
+    /// An integer in decimal digits, as many as there are. No argument.
+    Int(Kind, Coding),
+    /// An integer in a field. Its argument is the field's width in bytes.
+    IntFw(Kind, Coding),
+    /// A binary integer. Its argument is the number of its bytes; without one it has its kind's size.
+    Bin(Kind, Order),
+    /// A text up to a stop character or the record's end. Its argument is the stop character, as a text
+    /// of one code point.
+    Until(Coding),
+    /// A text up to the record's end. No argument.
+    UntilEor(Coding),
+    /// A text in a field. Its argument is the field's width in bytes.
+    Fixed(Coding),
+    /// The longest text of characters of a class. Its argument is the class text, such as `A-Za-z`.
+    Class(Coding),
+    /// A text of one character. No argument.
+    Char(Coding),
+    /// An IP address of version 4, as its 32-bit number. No argument.
+    Ip(Coding),
+    /// One of these labels, by its spelling. No argument.
+    Enum(Coding, Labels),
+}
+
+/// What an argument of a base type or of a declaration stands for.
+#[derive(Debug, Drop)]
+pub enum Arg {
+    Num(i128),
+    /// A text of code points.
+    Text(Bytes),
+}
+
+/// Arguments in their order.
+pub type Args = Items<Arg>;

@@ -1,0 +1,14 @@
+//! Base types: one reading and one spelling for all of them.
+#![tactic(auto)]
+
+mod applied;
+mod base;
+mod kinds;
+mod laws;
+mod read;
+mod spell;
+
+pub use base::{Arg, Args, Base};
+pub use laws::bases_read_what_they_spell;
+pub use read::read_base;
+pub use spell::spell_base;
