@@ -1,9 +1,10 @@
 -- What the counts of a term say of the terms in it.
-use Rattle.std.proofs.Common.{◌≡◌, ◌∙◌, sym, ap, refl, ℕ, List, [], ◌∷◌, map, length, Bool, true, false, ◌&&◌, nat_le, Option, None, Some}
+use Rattle.std.proofs.Common.{◌≡◌, ◌∙◌, sym, ap, refl, ℕ, zero, suc, List, [], ◌∷◌, map, length, slice_get, Bool, true, false, ◌&&◌, nat_le, Option, None, Some}
 use Rattle.std.specs.List.{list_all}
 use Rattle.std.proofs.lemmas.List.{length-map}
 use Rattle.std.proofs.lemmas.List.Folds.{list_all-map}
 use Rattle.pads_expr.specs.declared.expr.Expr.{Expr}
+use Rattle.pads_calc.specs.declared.decl.Decl.{Decl}
 use Rattle.pads_calc.specs.declared.term.Arm.{Arm, fold-Arm, fold_out-Arm}
 use Rattle.pads_calc.specs.declared.term.Case.{Case, fold-Case, fold_out-Case}
 use Rattle.pads_calc.specs.declared.term.Part.{Part, fold-Part, fold_out-Part}
@@ -11,7 +12,7 @@ use Rattle.pads_calc.specs.declared.term.Seq.{Seq, fold-Seq, fold_out-Seq}
 use Rattle.pads_calc.specs.declared.term.Term.{Term, Term-F, fold-Term, fold-roll-Term, roll-Term, map-Term}
 use Rattle.pads_calc.specs.declared.term.Term.TheShapes.{former-Seq-sep}
 use Rattle.pads_calc.specs.declared.term.Term.TheVariants as term
-use Rattle.pads_calc.specs.Counts.{counts_fit, few, most, fits, all_fit, if_there, term_counts, arm_counts, case_counts, part_counts, seq_counts}
+use Rattle.pads_calc.specs.Counts.{counts_fit, option_counts, decl_counts, module_counts, few, most, fits, all_fit, if_there, term_counts, arm_counts, case_counts, part_counts, seq_counts}
 
 abbrev of_arm : Arm → Bool
 of_arm = fold-Arm Bool Bool Bool Bool Bool term_counts arm_counts case_counts part_counts seq_counts
@@ -35,10 +36,6 @@ of_arm-is arm = fold_out-Arm Bool Bool Bool Bool Bool term_counts arm_counts cas
 
 of_case-is : (case : Case) → of_case case ≡ counts_fit case.arm.term
 of_case-is case = fold_out-Case Bool Bool Bool Bool Bool term_counts arm_counts case_counts part_counts seq_counts case ∙ of_arm-is case.arm
-
-abbrev pub option_counts : Option Term → Bool
-option_counts None = true
-option_counts (Some t) = counts_fit t
 
 sep-counts : (o : Option Term) → if_there ((former-Seq-sep).map Term Bool counts_fit o) ≡ option_counts o
 sep-counts None = refl
@@ -108,3 +105,23 @@ few-cases e cases h = both-left _ _ (sym (counts-Switch e cases) ∙ h)
 
 pub fit-cases : (e : Expr) (cases : List Case) → counts_fit (term.Switch e cases) ≡ true → list_all (λ case. counts_fit case.arm.term) cases ≡ true
 fit-cases e cases h = both-right (few cases) _ (sym (counts-Switch e cases) ∙ h)
+
+pub fit-elem : (s : Seq) → counts_fit (term.Seq s) ≡ true → counts_fit s.elem ≡ true
+fit-elem s h = both-left (counts_fit s.elem) (option_counts s.sep) (both-left (counts_fit s.elem && option_counts s.sep) (option_counts s.stop) (sym (counts-Seq s) ∙ h))
+
+pub fit-sep : (s : Seq) → counts_fit (term.Seq s) ≡ true → option_counts s.sep ≡ true
+fit-sep s h = both-right (counts_fit s.elem) (option_counts s.sep) (both-left (counts_fit s.elem && option_counts s.sep) (option_counts s.stop) (sym (counts-Seq s) ∙ h))
+
+pub fit-stop : (s : Seq) → counts_fit (term.Seq s) ≡ true → option_counts s.stop ≡ true
+fit-stop s h = both-right (counts_fit s.elem && option_counts s.sep) (option_counts s.stop) (sym (counts-Seq s) ∙ h)
+
+-- what holds of all items holds of the one that is found
+pub all-there : {A : Type 0} (f : A → Bool) (xs : List A) (n : ℕ) (x : A) → list_all f xs ≡ true → slice_get xs n ≡ Some x → f x ≡ true
+all-there f [] n x all there = cc
+all-there f (y ∷ xs) zero x all there = let e : x ≡ y = cc in ap f e ∙ both-left (f y) (list_all f xs) all
+all-there f (y ∷ xs) (suc n) x all there = all-there f xs n x (both-right (f y) (list_all f xs) all) there
+
+pub fit-body : (decls : List Decl) (n : ℕ) (decl : Decl) → module_counts decls ≡ true → slice_get decls n ≡ Some decl → counts_fit decl.body ≡ true
+fit-body decls n decl fits there =
+    both-right (few decl.params) (counts_fit decl.body)
+    (all-there decl_counts decls n decl (both-right (few decls) (list_all decl_counts decls) fits) there)

@@ -1,6 +1,7 @@
 -- The elements of an array: what is kept of those so far, and what the rest adds.
 use Rattle.std.proofs.Common.{◌≡◌, ℕ, zero, suc, ◌+◌, ◌-◌, ◌<◌, ◌≤◌, ◌∙◌, List, [], ◌∷◌, ◌++◌, length, Option, None, Some, Bool, true, false, refl, sym, ap, subst, arith, length-append}
 use Rattle.pads_value.specs.declared.cause.Cause.{Cause}
+use Rattle.pads_value.specs.declared.cause.Cause.TheVariants as cause
 use Rattle.pads_value.specs.declared.descriptor.Pd.{Pd}
 use Rattle.pads_value.specs.declared.value.Val.{Val}
 use Rattle.pads_value.specs.declared.value.Val.TheVariants as val
@@ -10,8 +11,8 @@ use Rattle.pads_calc.specs.declared.turn.Ending.{Ending}
 use Rattle.pads_calc.specs.declared.turn.Ending.TheVariants as ending
 use Rattle.pads_calc.specs.declared.turn.Turn.{Turn}
 use Rattle.pads_calc.specs.declared.turn.Turn.TheVariants as turn
-use Rattle.pads_calc.specs.Arrays.{SeqReader, Elements, elements, no_more, unless_ended, and_then, ending_at, turn_from, is_empty, array_of, soft, turns_from}
-use Rattle.pads_calc.specs.Readings.{node, values, pds, end_of}
+use Rattle.pads_calc.specs.Arrays.{SeqReader, Elements, elements, no_more, unless_ended, and_then, ending_at, turn_from, is_empty, array_of, soft, turns_from, size_at, seq_of}
+use Rattle.pads_calc.specs.Readings.{node, fails, values, pds, end_of}
 use Rattle.pads_calc.proofs.Runs.{Follows, follows-start, follows-push, append-none}
 use Rattle.pads_calc.proofs.Turns.{elements-next}
 
@@ -70,3 +71,10 @@ pub gathers-start : (bytes : List ℕ) (s : SeqReader) (size : Option ℕ) (env 
 gathers-start bytes s size env i =
     let all : turns_from bytes i - 0 ≡ turns_from bytes i = omega arith in
     rw all (record { own_is = refl; follows = follows-start _ i })
+
+pub seq-unsized : (origin : ℕ) (bytes : List ℕ) (s : SeqReader) (env : Pairs) (i : ℕ) → size_at s.size env ≡ None → seq_of origin bytes s env i ≡ fails origin cause.ArrayBound i
+seq-unsized origin bytes s env i none = rw none refl
+
+pub seq-sized : (origin : ℕ) (bytes : List ℕ) (s : SeqReader) (env : Pairs) (i : ℕ) (size : Option ℕ) → size_at s.size env ≡ Some size →
+    seq_of origin bytes s env i ≡ array_of origin (elements bytes s size env (turns_from bytes i) [] i) i
+seq-sized origin bytes s env i size there = rw there refl

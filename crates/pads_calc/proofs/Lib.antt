@@ -9,4 +9,5 @@ pub mod Positions
 pub mod Rolls
 pub mod Runs
 pub mod Scans
+pub mod Sizes
 pub mod Turns

@@ -57,6 +57,10 @@ seq_counts s = s.elem && if_there s.sep && if_there s.stop
 unfoldable pub counts_fit : Term → Bool
 counts_fit = fold-Term Bool Bool Bool Bool Bool term_counts arm_counts case_counts part_counts seq_counts
 
+abbrev pub option_counts : Option Term → Bool
+option_counts None = true
+option_counts (Some t) = counts_fit t
+
 abbrev pub decl_counts : Decl → Bool
 decl_counts decl = few decl.params && counts_fit decl.body
 

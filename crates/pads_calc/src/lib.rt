@@ -20,6 +20,6 @@ pub use module::Module;
 pub use pads_dispatch::{Arg, Args, Base};
 pub use reading::Reading;
 pub use record::Record;
-pub use run::{Run, is_last};
+pub use run::Run;
 pub use term::{Arm, Arms, Case, Cases, Exprs, Key, Part, Parts, Result2, Seq, Term};
 pub use turn::{Ending, Turn, is_full, short_of, size_at};

@@ -1,6 +1,6 @@
 ghost use Rattle.std.specs.Prelude.{◌≡◌, ◌≤◌, ◌^◌, [], ◌∷◌, ◌++◌, None, IfOk, OnOk};
 ghost use Rattle.std.specs.Option.{option_copied};
-ghost use Rattle.pads_calc.specs.Arrays.{soft, is_last as is_last_of};
+ghost use Rattle.pads_calc.specs.Arrays.{soft, is_empty as has_no_element, is_last as is_last_of};
 ghost use Rattle.pads_calc.specs.Readings.{node};
 ghost use Rattle.pads_value.specs.declared.value.Val.TheVariants as val;
 
@@ -9,6 +9,7 @@ use crate::args::is_true_of;
 use pads_expr::{Env, Expr};
 use pads_value::{Cause, Items, Memory, Own, Pds, Val, Vals};
 use std::alloc::Global;
+use std::mem;
 
 /// Readings that follow one another, as a struct or an array keeps them.
 #[derive(Debug, Drop)]
@@ -67,25 +68,32 @@ impl Run {
         });
         Reading::node(origin, own, Val::Array(values), begin, place, pds)
     }
-}
 
-/// Whether the latest element is the last one, by a condition over the elements so far. Gives the
-/// elements back.
-pub fn is_last(last: Option<&Expr>, elements_name: u16, elements: Run, env: &mut Env) -> Result<(bool, Run), Memory>
-    ensures last { IfOk result (λ answer. answer.0 ≡ is_last_of (option_copied last.entry) elements_name elements.values env.old.pairs) }
-    ensures elements { IfOk result (λ answer. answer.1 ≡ elements) }
-    ensures env { OnOk result (env.new.pairs ≡ env.old.pairs) }
-{
-    let Some(condition) = last else {
-        return Ok((false, elements));
-    };
-    if elements.values.is_empty() {
-        return Ok((false, elements));
+    /// Whether there is no reading yet.
+    pub fn is_empty(&self) -> bool
+        ensures empty { result ≡ has_no_element self.now.values }
+    {
+        matches!(self.values.as_slice(), [])
     }
-    let Run { values, pds, place } = elements;
-    let (truth, value) = is_true_of(condition, elements_name, Val::Array(values), env)?;
-    let Val::Array(values) = value else {
-        unreachable!()
-    };
-    Ok((truth, Run { values, pds, place }))
+
+    /// Whether the latest element is the last one, by a condition over the elements so far.
+    pub fn is_last(&mut self, alloc: Global, last: Option<&Expr>, elements_name: u16, env: &mut Env) -> Result<bool, Memory>
+        ensures last { IfOk result (λ answer. answer ≡ is_last_of (option_copied last.entry) elements_name self.old.values env.old.pairs) }
+        ensures kept { OnOk result (self.new ≡ self.old) }
+        ensures env { OnOk result (env.new.pairs ≡ env.old.pairs) }
+    {
+        let Some(condition) = last else {
+            return Ok(false);
+        };
+        if self.is_empty() {
+            return Ok(false);
+        }
+        let elements = mem::replace(&mut self.values, Items::new(alloc));
+        let (truth, value) = is_true_of(condition, elements_name, Val::Array(elements), env)?;
+        let Val::Array(elements) = value else {
+            unreachable!()
+        };
+        self.values = elements;
+        Ok(truth)
+    }
 }

@@ -2,3 +2,6 @@
 #![tactic(auto)]
 
 mod reader;
+mod row;
+
+pub use row::walk;
