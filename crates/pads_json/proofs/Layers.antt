@@ -1,0 +1,52 @@
+-- A value's JSON, layer by layer.
+use Rattle.std.proofs.Common.{◌≡◌, ◌∙◌, sym, ap, refl, ℕ, zero, suc, ◌<◌, false, List, [], ◌∷◌, ◌++◌, map, length, drop, get_or, arith}
+use Rattle.serde_json.specs.Data.{Data, Members}
+use Rattle.pads_value.specs.declared.value.Val.{Val, Val-F, map-Val, out-Val, fold_out-Val}
+use Rattle.pads_calc.specs.declared.decl.Decl.{Decl}
+use Rattle.pads_calc.specs.declared.term.Part.{Part}
+use Rattle.pads_calc.specs.declared.term.Term.{Term}
+use Rattle.pads_json.specs.Forms.{form_at}
+use Rattle.pads_json.specs.Shapes.{num_in, text_in}
+use Rattle.pads_json.specs.Values.{Shown, shown, value_step, in_form, layer, parts_put, put_named}
+
+pub num_mapped : {A B : Type 0} (f : A → B) (x : Val-F A) → num_in (map-Val A B f x) ≡ num_in x
+num_mapped f Val-F.Unit = refl
+num_mapped f Val-F.Missing = refl
+num_mapped f (Val-F.Num number) = refl
+num_mapped f (Val-F.Text text) = refl
+num_mapped f (Val-F.Enum label) = refl
+num_mapped f (Val-F.Tuple parts) = refl
+num_mapped f (Val-F.Branch number inner) = refl
+num_mapped f (Val-F.Array elements) = refl
+
+pub text_mapped : {A B : Type 0} (f : A → B) (x : Val-F A) → text_in (map-Val A B f x) ≡ text_in x
+text_mapped f Val-F.Unit = refl
+text_mapped f Val-F.Missing = refl
+text_mapped f (Val-F.Num number) = refl
+text_mapped f (Val-F.Text text) = refl
+text_mapped f (Val-F.Enum label) = refl
+text_mapped f (Val-F.Tuple parts) = refl
+text_mapped f (Val-F.Branch number inner) = refl
+text_mapped f (Val-F.Array elements) = refl
+
+pub shown_out : (decls : List Decl) (names : List (List ℕ)) (v : Val) (depth : ℕ) (t : Term)
+    → shown decls names v depth t ≡ in_form decls names (form_at decls false depth t) (layer decls names v)
+unfolding shown
+shown_out decls names v depth t = ap (λ (f : Shown). f depth t) (fold_out-Val Shown (value_step decls names) v)
+
+-- one more part is put in
+pub parts_next : (decls : List Decl) (names : List (List ℕ)) (depth : ℕ) (parts : List Part) (values : List Val) (i next : ℕ) (part other : Part) (value : Val) (members : Members)
+    → next ≡ suc i → i < length parts → i < length values → value ≡ get_or values i value
+    → parts_put decls names depth (drop next parts) (drop next (map (shown decls names) values))
+    (put_named names (get_or parts i part).name (shown decls names value depth (get_or parts i other).term) members)
+    ≡ parts_put decls names depth (drop i parts) (drop i (map (shown decls names) values)) members
+parts_next decls names depth parts values i next part other value members is_next p v is = rw is_next (at parts values i p v is)
+  where
+    at : (parts : List Part) (values : List Val) (i : ℕ) → i < length parts → i < length values → value ≡ get_or values i value
+        → parts_put decls names depth (drop (suc i) parts) (drop (suc i) (map (shown decls names) values))
+        (put_named names (get_or parts i part).name (shown decls names value depth (get_or parts i other).term) members)
+        ≡ parts_put decls names depth (drop i parts) (drop i (map (shown decls names) values)) members
+    at [] values i p v is = absurd (omega (arith, p))
+    at (x ∷ parts) [] i p v is = absurd (omega (arith, v))
+    at (x ∷ parts) (y ∷ values) zero p v is = rw is refl
+    at (x ∷ parts) (y ∷ values) (suc i) p v is = at parts values i (omega (arith, p)) (omega (arith, v)) is

@@ -1,0 +1,10 @@
+pub mod Faults
+pub mod Forms
+pub mod Lines
+pub mod Numbers
+pub mod Seen
+pub mod Shapes
+pub mod Slots
+pub mod Steps
+pub mod Terms
+pub mod Values

@@ -1,0 +1,14 @@
+//! The lines of JSON in which the program tells what records read as.
+#![tactic(auto)]
+
+mod faults;
+mod form;
+mod json;
+mod line;
+mod place;
+mod slot;
+mod terms;
+mod text;
+mod value;
+
+pub use line::record_line;
