@@ -1,0 +1,3 @@
+-- The meanings that this crate's contracts cite.
+pub mod Orders
+pub mod Endings

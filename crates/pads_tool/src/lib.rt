@@ -1,0 +1,15 @@
+//! The commands of `pads`: which words are an order, which descriptions are accepted, what a command
+//! writes, and how a run ends.
+#![tactic(auto)]
+
+mod ending;
+mod order;
+mod reading;
+mod status;
+mod word;
+mod words_of;
+
+pub use order::{Order, Usage};
+pub use reading::read_order;
+pub use status::Status;
+pub use word::{Word, Words};
