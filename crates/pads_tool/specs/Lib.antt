@@ -1,3 +1,5 @@
 -- The meanings that this crate's contracts cite.
 pub mod Orders
 pub mod Endings
+pub mod Descriptions
+pub mod Causes

@@ -2,7 +2,9 @@
 //! writes, and how a run ends.
 #![tactic(auto)]
 
+mod description;
 mod ending;
+mod files;
 mod order;
 mod reading;
 mod status;
