@@ -1,2 +1,4 @@
 -- The lemmas of this crate.
 pub mod Told
+pub mod Joined
+pub mod TokenSteps

@@ -3,3 +3,5 @@ pub mod Orders
 pub mod Endings
 pub mod Descriptions
 pub mod Causes
+pub mod NarrowTokens
+pub mod NarrowForm

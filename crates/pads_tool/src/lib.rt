@@ -5,9 +5,12 @@
 mod description;
 mod ending;
 mod files;
+mod form;
+mod narrow;
 mod order;
 mod reading;
 mod status;
+mod tokens;
 mod word;
 mod words_of;
 
