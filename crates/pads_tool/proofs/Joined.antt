@@ -1,5 +1,5 @@
 -- Items read so far, before those that are still to be read, if they can be read.
-use Rattle.std.proofs.Common.{◌≡◌, ℕ, List, [], ◌∷◌, ◌++◌, Option, None, Some, refl, ap, ◌∙◌, append_assoc, append-nil}
+use Rattle.std.proofs.Common.{◌≡◌, List, [], ◌∷◌, ◌++◌, Option, None, Some, refl, ap, ◌∙◌, append_assoc, append-nil}
 use Rattle.std.specs.Option.{option_map}
 
 module _ {X : Type 0} where

@@ -1,4 +1,6 @@
 -- The lemmas of this crate.
 pub mod Told
 pub mod Joined
+pub mod TakenApart
 pub mod TokenSteps
+pub mod PartSteps

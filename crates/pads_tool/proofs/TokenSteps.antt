@@ -1,11 +1,7 @@
 -- The tokens of a text, a byte at a time.
-use Rattle.std.proofs.Common.{◌≡◌, ℕ, zero, suc, ◌-◌, ◌<◌, ◌≤◌, List, [], ◌∷◌, ◌++◌, Option, None, Some, length, take, drop, get_or, refl, sym, ap, ◌∙◌, arith, rules}
+use Rattle.std.proofs.Common.{◌≡◌, ℕ, zero, suc, ◌-◌, ◌<◌, ◌≤◌, List, [], ◌∷◌, Some, length, take, drop, get_or, refl, sym, ap, arith}
 use Rattle.std.proofs.lemmas.List.{take_rest}
-use Rattle.std.specs.Option.{option_map}
-use Rattle.pads_tool.proofs.Joined.{joined, joined-more, joined-all}
-use Rattle.pads_tool.specs.declared.narrow.Token.{Token}
 use Rattle.pads_tool.specs.declared.narrow.Lead.{Lead}
-use Rattle.pads_tool.specs.declared.narrow.Lead.TheVariants as lead
 use Rattle.pads_tool.specs.NarrowTokens.{tokens_from, lead_of, more_of, led}
 
 -- a list that isn't empty, as a pattern takes it apart

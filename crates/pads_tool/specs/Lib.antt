@@ -5,3 +5,4 @@ pub mod Descriptions
 pub mod Causes
 pub mod NarrowTokens
 pub mod NarrowForm
+pub mod NarrowSteps

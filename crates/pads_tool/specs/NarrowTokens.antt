@@ -1,6 +1,6 @@
 -- The tokens of a description in narrow form: names, literal characters and the marks `{`, `}` and `;`, with blanks
 -- between them. At each place the longest token stands. Any other byte is none, so a text with one has no tokens.
-use Rattle.std.specs.Prelude.{ℕ, zero, suc, Bool, true, false, ◌&&◌, ◌||◌, ◌==◌, not, nat_le, if◌then◌else◌, List, [], ◌∷◌, Option, Some, None, length, take_while}
+use Rattle.std.specs.Prelude.{ℕ, zero, suc, Bool, ◌&&◌, ◌||◌, ◌==◌, not, nat_le, if◌then◌else◌, List, [], ◌∷◌, Option, Some, None, length, take_while}
 use Rattle.std.specs.Option.{option_map}
 use Rattle.pads_tool.specs.declared.narrow.Token.{Token}
 use Rattle.pads_tool.specs.declared.narrow.Token.TheVariants as token

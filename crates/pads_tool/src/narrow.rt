@@ -36,3 +36,12 @@ pub(crate) struct Narrow {
     pub(crate) name: Bytes,
     pub(crate) parts: Items<NarrowPart>,
 }
+
+/// What stands at the first of some tokens of a record.
+pub(crate) enum Step<'a> {
+    /// The end of the description.
+    End,
+    /// A part, and the tokens after it.
+    Part(NarrowPart, &'a [Token]),
+    Fault,
+}

@@ -1,4 +1,4 @@
-use Rattle.std.proofs.Common.{◌≡◌, ◌∙◌, sym, ap, arith}
+use Rattle.std.proofs.Common.{◌∙◌, sym, ap, arith}
 use Rattle.pads_tool.proofs.Joined.{joined, joined-more, joined-all}
 use Rattle.pads_tool.proofs.TokenSteps.{taken_apart, tokens-skipped, tokens-led, tokens-ended}
 use Rattle.pads_tool.proofs.tokens.tokens_of.Goals as goal
@@ -21,10 +21,10 @@ bytes-preserved c =
 pub returns-in-Fault : goal.returns-in-Fault
 returns-in-Fault c = record {
   tokens = ap (joined c.bytes.tokens) (sym (tokens-led _ _ _ _ _ _ (taken_apart _ c.in-len1-up.len_at_least) (omega arith) c.count_more-left.ensures.count (sym c.in-Fault.is ∙ c.in_ok-lead_at.ensures.lead)))
-    ∙ c.bytes.invariant
+      ∙ c.bytes.invariant;
 }
 
 pub returns : goal.returns
 returns c = record {
-  tokens = sym (joined-all c.bytes.tokens) ∙ ap (joined c.bytes.tokens) (sym (tokens-ended _ _ c.in_default.len_below)) ∙ c.bytes.invariant
+  tokens = sym (joined-all c.bytes.tokens) ∙ ap (joined c.bytes.tokens) (sym (tokens-ended _ _ c.in_default.len_below)) ∙ c.bytes.invariant;
 }
