@@ -1,0 +1,5 @@
+pub mod Filled
+pub mod Kinds
+pub mod Readings
+pub mod Spellings
+pub mod Texts
