@@ -1,0 +1,11 @@
+pub mod CuttingLemmas
+pub mod Examples
+pub mod ExtentLemmas
+pub mod Feeding
+pub mod Looking
+pub mod Owing
+pub mod Passing
+pub mod Runs
+pub mod Taking
+pub mod TextLemmas
+pub mod Tiling

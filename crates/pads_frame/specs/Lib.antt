@@ -1,0 +1,11 @@
+pub mod Next
+pub mod Placed
+pub mod Extents
+pub mod Feed
+pub mod Fits
+pub mod Cutters
+pub mod Cutting
+pub mod Laws
+pub mod Lending
+pub mod Looks
+pub mod State
