@@ -4,3 +4,4 @@ pub mod Joined
 pub mod TakenApart
 pub mod TokenSteps
 pub mod PartSteps
+pub mod Outputs

@@ -1,5 +1,6 @@
 -- The meanings that this crate's contracts cite.
 pub mod Orders
+pub mod Outputs
 pub mod Endings
 pub mod Descriptions
 pub mod Causes

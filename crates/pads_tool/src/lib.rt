@@ -2,12 +2,14 @@
 //! writes, and how a run ends.
 #![tactic(auto)]
 
+mod command;
 mod description;
 mod ending;
 mod files;
 mod form;
 mod narrow;
 mod order;
+mod output;
 mod reading;
 mod status;
 mod tokens;
