@@ -5,3 +5,6 @@ pub mod TakenApart
 pub mod TokenSteps
 pub mod PartSteps
 pub mod Outputs
+pub mod Growing
+pub mod Waiting
+pub mod Refilling

@@ -1,6 +1,8 @@
 -- The meanings that this crate's contracts cite.
 pub mod Orders
 pub mod Outputs
+pub mod Writing
+pub mod Driving
 pub mod Endings
 pub mod Descriptions
 pub mod Causes

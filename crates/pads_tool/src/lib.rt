@@ -4,6 +4,7 @@
 
 mod command;
 mod description;
+mod driving;
 mod ending;
 mod files;
 mod form;
@@ -11,6 +12,8 @@ mod narrow;
 mod order;
 mod output;
 mod reading;
+mod refill;
+mod sinks;
 mod status;
 mod tokens;
 mod word;

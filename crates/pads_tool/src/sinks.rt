@@ -1,0 +1,6 @@
+/// The sink that failed.
+#[derive(Clone, Copy, Debug, PartialEq, Eq)]
+pub(crate) enum SinkFault {
+    Out,
+    Notes,
+}
