@@ -8,3 +8,4 @@ pub mod Outputs
 pub mod Growing
 pub mod Waiting
 pub mod Refilling
+pub mod Progress

@@ -16,7 +16,7 @@ written_for-append line number (x ∷ xs) ys =
     ap (λ l. line number x ++ l) rest ∙ sym (append_assoc (line number x) (written_for line (number + 1) xs) (written_for line (number + 1 + length xs) ys))
     ∙ ap (λ n. line number x ++ written_for line (number + 1) xs ++ written_for line n ys) count
 
-&&-assoc : (a b c : Bool) → (a && (b && c)) ≡ ((a && b) && c)
+pub &&-assoc : (a b c : Bool) → (a && (b && c)) ≡ ((a && b) && c)
 &&-assoc true b c = refl
 &&-assoc false b c = refl
 

@@ -3,6 +3,7 @@ pub mod Orders
 pub mod Outputs
 pub mod Writing
 pub mod Driving
+pub mod Progress
 pub mod Endings
 pub mod Descriptions
 pub mod Causes

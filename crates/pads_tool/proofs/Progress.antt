@@ -1,0 +1,53 @@
+-- Progress over two stretches of time is progress.
+use Rattle.std.proofs.Common.{◌≡◌, ℕ, ◌+◌, ◌≤◌, Bool, true, false, ◌&&◌, Option, List, [], ◌∷◌, ◌++◌, length, take, refl, sym, ap, subst, ◌∙◌, append_assoc, append-nil, length-append, arith}
+use Rattle.std.specs.Io.KnownBytes.{Appends}
+use Rattle.std.proofs.KnownBytes.{Appends-nil, Appends-trans}
+use Rattle.pads_io.specs.Transfer.{AppendsPrefix}
+use Rattle.pads_value.specs.Cuts.{Cut}
+use Rattle.pads_frame.specs.State.{State, MayCome, reach, rest}
+use Rattle.pads_tool.specs.Outputs.{are_clean, output_of, written_for}
+use Rattle.pads_tool.specs.Writing.{Grows, GrowsPrefix}
+use Rattle.pads_tool.specs.Progress.{Moment, Progresses, Stops}
+use Rattle.pads_tool.proofs.Growing.{AppendsPrefix-after}
+use Rattle.pads_tool.proofs.Outputs.{written_for-append, are_clean-append, &&-assoc}
+
+module _ (out notes : ℕ → Cut → List ℕ) (clean : ℕ → Cut → Bool) where
+  grows-trans : (o o' o'' n n' n'' : Option (List ℕ)) (number next : ℕ) (xs ys : List Cut) → next ≡ number + length xs → Grows o o' n n' (output_of out notes clean number xs)
+      → Grows o' o'' n' n'' (output_of out notes clean next ys) → Grows o o'' n n'' (output_of out notes clean number (xs ++ ys))
+  grows-trans o o' o'' n n' n'' number next xs ys e p q = record {
+    out_grows = rw (written_for-append out number xs ys, ← e) (Appends-trans o o' o'' _ _ p.out_grows q.out_grows);
+    notes_grow = rw (written_for-append notes number xs ys, ← e) (Appends-trans n n' n'' _ _ p.notes_grow q.notes_grow)
+  }
+
+  grows-prefix : (o o' o'' n n' n'' : Option (List ℕ)) (number next : ℕ) (xs ys : List Cut) → next ≡ number + length xs → Grows o o' n n' (output_of out notes clean number xs)
+      → GrowsPrefix o' o'' n' n'' (output_of out notes clean next ys) → GrowsPrefix o o'' n n'' (output_of out notes clean number (xs ++ ys))
+  grows-prefix o o' o'' n n' n'' number next xs ys e p q = record {
+    out_grows = rw (written_for-append out number xs ys, ← e) (AppendsPrefix-after o o' o'' _ _ p.out_grows q.out_grows);
+    notes_grow = rw (written_for-append notes number xs ys, ← e) (AppendsPrefix-after n n' n'' _ _ p.notes_grow q.notes_grow)
+  }
+
+  pub progresses-trans : (o o' o'' n n' n'' : Option (List ℕ)) (a b c : Moment) (xs ys : List ℕ) → Progresses out notes clean o o' n n' a b xs
+      → Progresses out notes clean o' o'' n' n'' b c ys → Progresses out notes clean o o'' n n'' a c (xs ++ ys)
+  progresses-trans o o' o'' n n' n'' a b c xs ys p q = record {
+    frames = p.frames ++ q.frames;
+    owed = λ ended more may.
+        ap (λ l. a.waiting ++ rest ended a.framer l) (append_assoc xs ys more) ∙ p.owed ended (ys ++ more) (q.may ended more may)
+        ∙ ap (λ l. p.frames ++ l) (q.owed ended more may) ∙ sym (append_assoc p.frames q.frames (c.waiting ++ rest ended c.framer more));
+    may = λ ended more may. rw (append_assoc xs ys more) (p.may ended (ys ++ more) (q.may ended more may));
+    reaches = omega (arith, p.reaches, q.reaches, length-append xs ys);
+    later = omega (arith, p.later, q.later, length-append p.frames q.frames);
+    grown = grows-trans o o' o'' n n' n'' a.number b.number p.frames q.frames p.counted p.grown q.grown;
+    counted = omega (arith, p.counted, q.counted, length-append p.frames q.frames);
+    clean_is = q.clean_is ∙ rw (p.clean_is, p.counted, are_clean-append clean a.number p.frames q.frames) (sym (&&-assoc a.clean _ _))
+  }
+
+  pub stops-after : (o o' o'' n n' n'' : Option (List ℕ)) (a b : Moment) (xs ys : List ℕ) (MayFollow : Bool → List ℕ → Type 0)
+      → ((ended : Bool) (more : List ℕ) → MayFollow ended more → MayCome b.framer ended (ys ++ more)) → Progresses out notes clean o o' n n' a b xs
+      → Stops out notes clean o' o'' n' n'' b ys MayFollow → Stops out notes clean o o'' n n'' a (xs ++ ys) MayFollow
+  stops-after o o' o'' n n' n'' a b xs ys MayFollow may p q = record {
+    frames = p.frames ++ q.frames;
+    first = λ ended more follows. let (others, e) = q.first ended more follows in
+        (others, ap (λ l. a.waiting ++ rest ended a.framer l) (append_assoc xs ys more) ∙ p.owed ended (ys ++ more) (may ended more follows)
+        ∙ ap (λ l. p.frames ++ l) e ∙ sym (append_assoc p.frames q.frames others));
+    grown = grows-prefix o o' o'' n n' n'' a.number b.number p.frames q.frames p.counted p.grown q.grown
+  }
