@@ -9,3 +9,4 @@ pub mod Growing
 pub mod Waiting
 pub mod Refilling
 pub mod Progress
+pub mod Blame

@@ -5,6 +5,7 @@ use Rattle.std.proofs.KnownBytes.{Appends-nil, Appends-trans}
 use Rattle.pads_io.specs.Transfer.{AppendsPrefix}
 use Rattle.pads_value.specs.Cuts.{Cut}
 use Rattle.pads_frame.specs.State.{State, MayCome, reach, rest}
+use Rattle.pads_tool.specs.declared.output.Output.{Output}
 use Rattle.pads_tool.specs.Outputs.{are_clean, output_of, written_for}
 use Rattle.pads_tool.specs.Writing.{Grows, GrowsPrefix}
 use Rattle.pads_tool.specs.Progress.{Moment, Progresses, Stops}
@@ -51,3 +52,27 @@ module _ (out notes : ℕ → Cut → List ℕ) (clean : ℕ → Cut → Bool) w
         ∙ ap (λ l. p.frames ++ l) e ∙ sym (append_assoc p.frames q.frames others));
     grown = grows-prefix o o' o'' n n' n'' a.number b.number p.frames q.frames p.counted p.grown q.grown
   }
+
+  -- nothing was written
+  pub stops-unwritten : (o n : Option (List ℕ)) (m : Moment) → Stops out notes clean o o n n m [] (MayCome m.framer)
+  unfolding written_for
+  stops-unwritten o n m = record {
+    frames = [];
+    first = λ ended more may. (m.waiting ++ rest ended m.framer more, refl);
+    grown = record { out_grows = (0, Appends-nil o); notes_grow = (0, Appends-nil n) }
+  }
+
+  -- a prefix of the output for the frames that wait was written
+  pub stops-waiting : (o o' n n' : Option (List ℕ)) (m : Moment) (output : Output) → output ≡ output_of out notes clean m.number m.waiting → GrowsPrefix o o' n n' output
+      → Stops out notes clean o o' n n' m [] (MayCome m.framer)
+  stops-waiting o o' n n' m output e p = record {
+    frames = m.waiting;
+    first = λ ended more may. (rest ended m.framer more, refl);
+    grown = rw e at p
+  }
+
+-- a command that notes nothing leaves no notes
+pub written_for-nothing : (line : ℕ → Cut → List ℕ) (number : ℕ) (cuts : List Cut) → ((n : ℕ) (cut : Cut) → line n cut ≡ []) → written_for line number cuts ≡ []
+unfolding written_for
+written_for-nothing line number [] none = refl
+written_for-nothing line number (cut ∷ cuts) none = rw (none number cut, written_for-nothing line (number + 1) cuts none) refl

@@ -4,6 +4,8 @@ pub mod Outputs
 pub mod Writing
 pub mod Driving
 pub mod Progress
+pub mod Stopping
+pub mod Moments
 pub mod Endings
 pub mod Descriptions
 pub mod Causes

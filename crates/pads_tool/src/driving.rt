@@ -4,11 +4,11 @@ ghost use Rattle.pads_frame.specs.State.{reach, room};
 ghost use Rattle.pads_value.specs.Cuts.{cut_of_kept};
 ghost use Rattle.pads_tool.specs.Driving.{KeepsNext, Collects, IsWaiting, RefillGives};
 ghost use Rattle.pads_tool.specs.Writing.{Grows, GrowsPrefix};
-ghost use Rattle.pads_tool.specs.declared.sinks.SinkFault.TheVariants as sink_fault;
+ghost use Rattle.pads_tool.specs.Stopping.{HasSinkCause};
 
 use crate::output::Output;
 use crate::refill::Refill;
-use crate::sinks::SinkFault;
+use crate::stop::Stop;
 use pads_frame::Framer;
 use pads_io::{Sink, Source, write_all};
 use pads_value::{Frames, Kept, Memory};
@@ -19,23 +19,20 @@ pub(crate) fn write_output<K: Sink, E: Sink>(
     output: &Output,
     out: &mut K,
     notes: &mut E,
-) -> Result<(), SinkFault>
+) -> Result<(), Stop>
     ensures ok { OnOk result (Grows (K.written out.old) (K.written out.new) (E.written notes.old) (E.written notes.new) output.now) }
     ensures err { OnErr result (GrowsPrefix (K.written out.old) (K.written out.new) (E.written notes.old) (E.written notes.new) output.now) }
-    ensures out_fault { result ≡ Err sink_fault.Out → Rose (K.faults out.old) (K.faults out.new) }
-    ensures notes_fault { result ≡ Err sink_fault.Notes → Rose (E.faults notes.old) (E.faults notes.new) }
-    ensures notes_wanted { result ≡ Err sink_fault.Notes → output.now.notes ≢ [] }
-    ensures out_later { K.faults out.old ≤ K.faults out.new }
-    ensures notes_later { E.faults notes.old ≤ E.faults notes.new }
+    ensures cause { HasSinkCause (K.faults out.old) (K.faults out.new) (E.faults notes.old) (E.faults notes.new)
+        (output.now.notes ≡ []) result }
 {
     let Ok(()) = write_all(out, output.out.as_slice()) else {
-        return Err(SinkFault::Out);
+        return Err(Stop::Out);
     };
     if output.notes.is_empty() {
         return Ok(());
     }
     let Ok(()) = write_all(notes, output.notes.as_slice()) else {
-        return Err(SinkFault::Notes);
+        return Err(Stop::Notes);
     };
     Ok(())
 }
@@ -129,4 +126,16 @@ pub(crate) fn refill<S: Source>(source: &mut S, framer: &mut Framer, piece: &mut
         Ok(fed) if fed.took < count as u64 => Refill::TooLong,
         Ok(_) => Refill::More,
     }
+}
+
+/// Where the reading of an input stands.
+#[derive(Drop)]
+pub(crate) struct Reading {
+    pub(crate) framer: Framer,
+    /// The frames that wait to be read.
+    pub(crate) batch: Batch,
+    /// The number of the next record.
+    pub(crate) number: u64,
+    /// Whether all records so far are clean.
+    pub(crate) clean: bool,
 }

@@ -7,14 +7,17 @@ mod description;
 mod driving;
 mod ending;
 mod files;
+mod flush;
 mod form;
 mod narrow;
 mod order;
 mod output;
+mod pump;
 mod reading;
 mod refill;
-mod sinks;
+
 mod status;
+mod stop;
 mod tokens;
 mod word;
 mod words_of;
