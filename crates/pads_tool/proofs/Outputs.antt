@@ -33,7 +33,7 @@ written_for-one : (line : ℕ → Cut → List ℕ) (number : ℕ) (cut : Cut) �
 unfolding written_for
 written_for-one line number cut = append-nil (line number cut)
 
-&&-true : (a : Bool) → (a && true) ≡ a
+pub &&-true : (a : Bool) → (a && true) ≡ a
 &&-true true = refl
 &&-true false = refl
 

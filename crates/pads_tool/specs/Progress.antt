@@ -1,6 +1,6 @@
 -- How far the reading of an input has come, from one moment to a later one. At each moment the framer stands in a state,
 -- some frames wait to be read, and some were read, whose number is that of the next record.
-use Rattle.std.specs.Prelude.{◌≡◌, ℕ, ◌+◌, ◌≤◌, Bool, ◌&&◌, Option, List, [], ◌++◌, length}
+use Rattle.std.specs.Prelude.{◌≡◌, ℕ, ◌+◌, ◌≤◌, Bool, ◌&&◌, Option, List, ◌++◌, length}
 use Rattle.pads_value.specs.Cuts.{Cut}
 use Rattle.pads_frame.specs.State.{State, MayCome, reach, rest}
 use Rattle.pads_tool.specs.Outputs.{are_clean, output_of}

@@ -15,7 +15,6 @@ mod output;
 mod pump;
 mod reading;
 mod refill;
-
 mod status;
 mod stop;
 mod tokens;

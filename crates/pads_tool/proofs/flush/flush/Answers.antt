@@ -1,6 +1,3 @@
-use Rattle.std.proofs.Common.{◌≡◌, ◌∙◌, ap, map}
-use Rattle.pads_value.specs.Cuts.{cut_of_kept}
-use Rattle.pads_tool.specs.Outputs.{output_of}
 use Rattle.pads_tool.proofs.Progress.{stops-unwritten, stops-waiting, written_for-nothing}
 use Rattle.pads_tool.proofs.Blame.{cause-weaker}
 use Rattle.pads_tool.proofs.flush.flush.Goals as goal

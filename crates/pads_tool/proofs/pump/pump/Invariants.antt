@@ -1,6 +1,5 @@
 use Rattle.std.proofs.Common.{◌≡◌, ℕ, ◌+◌, ◌-◌, ◌^◌, ◌≤◌, Bool, [], Option, List, length}
 use Rattle.pads_value.specs.Cuts.{Cut}
-use Rattle.pads_frame.specs.State.{reach}
 use Rattle.pads_tool.specs.Progress.{Moment, Progresses}
 use Rattle.pads_tool.specs.Moments.{moment_of}
 use Rattle.pads_tool.proofs.pump.pump.Given as goal
@@ -18,7 +17,7 @@ invariant-batches g l =
     let k = g.K.Sink in
     let e = g.E.Sink in
     Pumped (command.out l.command) (command.notes l.command) (command.is_clean l.command) (k.written l.initial.out) (k.written l.out) (e.written l.initial.notes) (e.written l.notes)
-      (moment_of l.initial.reading) (moment_of l.reading) (k.faults l.initial.out) (k.faults l.out) (e.faults l.initial.notes) (e.faults l.notes)
+    (moment_of l.initial.reading) (moment_of l.reading) (k.faults l.initial.out) (k.faults l.out) (e.faults l.initial.notes) (e.faults l.notes)
 
 abbrev pub decreases-batches : goal.decreases-batches
 decreases-batches g l = (2 ^ 62 + length l.reading.batch.frames) - l.reading.framer.first
