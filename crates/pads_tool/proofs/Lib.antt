@@ -10,3 +10,4 @@ pub mod Waiting
 pub mod Refilling
 pub mod Progress
 pub mod Blame
+pub mod ReadSteps

@@ -1,8 +1,9 @@
 -- Progress over two stretches of time is progress.
-use Rattle.std.proofs.Common.{◌≡◌, ℕ, ◌+◌, Bool, Option, List, [], ◌∷◌, ◌++◌, length, refl, sym, ap, ◌∙◌, append_assoc, length-append, arith}
+use Rattle.std.proofs.Common.{◌≡◌, ℕ, ◌+◌, Bool, false, Option, List, [], ◌∷◌, ◌++◌, length, refl, sym, ap, ◌∙◌, append_assoc, length-append, arith}
+use Rattle.std.proofs.lemmas.Bool.{true≢false}
 use Rattle.std.proofs.KnownBytes.{Appends-nil, Appends-trans}
 use Rattle.pads_value.specs.Cuts.{Cut}
-use Rattle.pads_frame.specs.State.{MayCome, rest}
+use Rattle.pads_frame.specs.State.{MayCome, reach, rest}
 use Rattle.pads_tool.specs.declared.output.Output.{Output}
 use Rattle.pads_tool.specs.Outputs.{are_clean, output_of, written_for}
 use Rattle.pads_tool.specs.Writing.{Grows, GrowsPrefix}
@@ -89,6 +90,22 @@ module _ (out notes : ℕ → Cut → List ℕ) (clean : ℕ → Cut → Bool) w
         counted = omega (arith, number);
         clean_is = clean_same ∙ sym (&&-true a.clean);
       }
+
+  -- the framer took bytes, or learned of the end
+  pub progresses-framer : (o n : Option (List ℕ)) (a b : Moment) (bytes : List ℕ) → b.number ≡ a.number → b.clean ≡ a.clean → b.waiting ≡ a.waiting → a.framer.ended ≡ false
+      → ((ended : Bool) (more : List ℕ) → rest ended b.framer more ≡ rest ended a.framer (bytes ++ more)) → reach b.framer ≡ reach a.framer + length bytes
+      → b.framer.first ≡ a.framer.first → Progresses out notes clean o o n n a b bytes
+  unfolding written_for are_clean
+  progresses-framer o n a b bytes number clean_same waiting still owed reaches first = record {
+    frames = [];
+    owed = λ ended more may. rw (owed ended more, waiting) refl;
+    may = λ ended more may e. absurd (true≢false (sym e ∙ still));
+    reaches = reaches;
+    later = rw waiting (omega (arith, first));
+    grown = record { out_grows = Appends-nil o; notes_grow = Appends-nil n };
+    counted = omega (arith, number);
+    clean_is = clean_same ∙ sym (&&-true a.clean);
+  }
 
   -- nothing was written
   pub stops-unwritten : (o n : Option (List ℕ)) (m : Moment) → Stops out notes clean o o n n m [] (MayCome m.framer)

@@ -6,6 +6,7 @@ pub mod Driving
 pub mod Progress
 pub mod Stopping
 pub mod Moments
+pub mod Ends
 pub mod Endings
 pub mod Descriptions
 pub mod Causes

@@ -15,6 +15,7 @@ mod output;
 mod pump;
 mod reading;
 mod refill;
+mod source;
 mod status;
 mod stop;
 mod tokens;
