@@ -1,10 +1,10 @@
 -- What a framer owes that wants more bytes.
-use Rattle.std.proofs.Common.{◌≡◌, ℕ, Bool, true, false, nat_lt, List, [], ◌∷◌, length, refl, ap, ◌∙◌, append-nil, arith}
+use Rattle.std.proofs.Common.{◌≡◌, ℕ, Bool, true, false, nat_lt, List, [], ◌∷◌, length, refl, ap, ◌∙◌, append-nil, arith, sym}
 use borrow.Author.Tests.{ltb-false}
 use Rattle.pads_frame.specs.declared.discipline.Discipline.{Discipline}
 use Rattle.pads_frame.specs.Cutting.{cuts}
 use Rattle.pads_frame.specs.Next.{Waits}
-use Rattle.pads_frame.specs.State.{State, closes, closes_in, rest, text_of}
+use Rattle.pads_frame.specs.State.{State, MayCome, closes, closes_in, rest, text_of}
 use Rattle.pads_tool.specs.Driving.{IsWaiting}
 
 some-closes : (b : ℕ) (bytes : List ℕ) → nat_lt 0 (length (b ∷ bytes)) ≡ false → ⊥
@@ -24,3 +24,7 @@ waiting old new w = record {
   none = w.owed new.ended [] ∙ ap (λ ended. rest ended old []) w.input.ended ∙ none-owed old w.none;
   free = w.free;
 }
+
+-- what may come depends on the end of the input alone
+pub same_end : (a b : State) → b.ended ≡ a.ended → (ended : Bool) (more : List ℕ) → MayCome a ended more → MayCome b ended more
+same_end a b e ended more may h = may (sym e ∙ h)

@@ -7,6 +7,7 @@ pub mod Progress
 pub mod Stopping
 pub mod Moments
 pub mod Ends
+pub mod Drives
 pub mod Endings
 pub mod Descriptions
 pub mod Causes

@@ -4,9 +4,12 @@
 
 mod command;
 mod description;
+mod drive;
 mod driving;
+mod ended;
 mod ending;
 mod files;
+mod finish;
 mod flush;
 mod form;
 mod narrow;

@@ -1,11 +1,8 @@
 use Rattle.std.proofs.Common.{◌≡◌, ℕ, Bool, List, ◌∙◌, [], sym, refl, ap, arith}
 use Rattle.pads_frame.specs.State.{State, MayCome}
 use Rattle.pads_tool.proofs.Progress.{progresses-same, progresses-collected, progresses-trans, stops-unwritten, stops-after, stops-when}
+use Rattle.pads_tool.proofs.Waiting.{same_end}
 use Rattle.pads_tool.proofs.pump.pump.Goals as goal
-
--- what may come depends on the end of the input alone
-same_end : (a b : State) → b.ended ≡ a.ended → (ended : Bool) (more : List ℕ) → MayCome a ended more → MayCome b ended more
-same_end a b e ended more may h = may (sym e ∙ h)
 
 pub batches-init : goal.batches-init
 batches-init g c = record { progress = progresses-same _ _ _ _ _ _; ended = refl; out_later = omega arith; notes_later = omega arith }
