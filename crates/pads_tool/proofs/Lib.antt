@@ -11,3 +11,4 @@ pub mod Refilling
 pub mod Progress
 pub mod Blame
 pub mod ReadSteps
+pub mod Driven

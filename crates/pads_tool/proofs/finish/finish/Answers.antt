@@ -12,4 +12,4 @@ returns-in-Err-flush-clause-err g c =
     let start = c.args.reading.now.framer in
     let last = c.pump.new.reading.framer in
     stops-after _ _ _ _ _ _ _ _ _ _ _ [] [] (MayCome start) (same_end start last c.in_default.ensures.ended) c.in_default.ensures.ok
-      (stops-when _ _ _ _ _ _ _ _ [] (MayCome last) (MayCome start) (same_end start last c.in_default.ensures.ended) c.in-Err-flush.ensures.err)
+    (stops-when _ _ _ _ _ _ _ _ [] (MayCome last) (MayCome start) (same_end start last c.in_default.ensures.ended) c.in-Err-flush.ensures.err)

@@ -1,4 +1,4 @@
-use Rattle.std.proofs.Common.{◌≡◌, ℕ, Bool, List, ◌∙◌, [], sym, refl, ap, arith}
+use Rattle.std.proofs.Common.{◌∙◌, [], refl, ap, arith}
 use Rattle.pads_frame.specs.State.{State, MayCome}
 use Rattle.pads_tool.proofs.Progress.{progresses-same, progresses-collected, progresses-trans, stops-unwritten, stops-after, stops-when}
 use Rattle.pads_tool.proofs.Waiting.{same_end}
