@@ -11,6 +11,8 @@ pub mod Drives
 pub mod Endings
 pub mod Descriptions
 pub mod Causes
+pub mod Opening
+pub mod Closing
 pub mod NarrowTokens
 pub mod NarrowForm
 pub mod NarrowSteps

@@ -2,6 +2,7 @@
 //! writes, and how a run ends.
 #![tactic(auto)]
 
+mod close;
 mod command;
 mod description;
 mod drive;
@@ -13,6 +14,7 @@ mod finish;
 mod flush;
 mod form;
 mod narrow;
+mod open;
 mod order;
 mod output;
 mod pump;
