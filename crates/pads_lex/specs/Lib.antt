@@ -1,0 +1,9 @@
+pub mod Bytes
+pub mod Cut
+pub mod Gaps
+pub mod Literals
+pub mod Numbers
+pub mod Runs
+pub mod Spelling
+pub mod Steps
+pub mod Words

@@ -1,0 +1,19 @@
+//! The tokens of a description, a path or a filter.
+//!
+//! [`lex`] cuts a text into its tokens, or says where the text first breaks the rules of tokens and
+//! how. The rules stand in `specs/Cut.antt`, row by row; between tokens stand blanks and comments.
+#![tactic(auto)]
+
+mod byte;
+mod fault;
+mod gap;
+mod literal;
+mod number;
+mod reading;
+mod run;
+mod step;
+mod token;
+mod words;
+
+pub use fault::{LexFault, LexKind};
+pub use token::{Token, TokenKind, Tokens};
