@@ -3,8 +3,8 @@ use Rattle.std.proofs.Common.{◌≡◌, Bool, true, false, ◌||◌, ◌&&◌, 
 use Rattle.pads_grammar.specs.declared.kind.Kind.{Kind}
 use Rattle.pads_grammar.specs.Kinds.{Tokens, is, peek}
 use Rattle.pads_grammar.specs.Grammar.{Rule, Split, Maybe, Applied, Outcome, then_read, Apart}
-use Rattle.pads_grammar.specs.Laws.{head, Found, Fault, Told, Lawful, Inhabited}
-use Rattle.pads_grammar.proofs.Parts.{or-left, or-right, or-cases, same_peek, same_head, next_head}
+use Rattle.pads_grammar.specs.Laws.{Found, Fault, Told, Lawful, Inhabited}
+use Rattle.pads_grammar.proofs.Parts.{or-left, or-right, or-cases, front_peek, next_peek}
 
 -- What is derived is not empty.
 abbrev pub NotEmpty : {A : Type 0} → Rule A → Type 0
@@ -25,13 +25,13 @@ module _ {A B : Type 0} (p : Tokens → Outcome A) (P : Rule A) (q : Tokens → 
       front = f.front ++ g.front;
       whole = f.whole ∙ (ap (λ xs. f.front ++ xs) g.whole ∙ sym (append_assoc f.front g.front read.1));
       derived = record { front = f.front; back = g.front; whole = refl; first = f.derived; second = g.derived };
-      stays = λ more e. pair_stays f.front g.front more a (f.stays (g.front ++ more) (next_head g.front read.1 more mid g.whole e))
+      stays = λ more e. pair_stays f.front g.front more a (f.stays (g.front ++ more) (next_peek g.front read.1 more mid g.whole e))
           ∙ ap (λ r. then_read r (λ b rest. Ok ((a, b), rest))) (g.stays more e);
     }
   second_told ts a mid f (Err rest) g = record {
       front = f.front ++ g.front;
       whole = f.whole ∙ (ap (λ xs. f.front ++ xs) g.whole ∙ sym (append_assoc f.front g.front rest));
-      stays = λ more e. pair_stays f.front g.front more a (f.stays (g.front ++ more) (next_head g.front rest more mid g.whole e))
+      stays = λ more e. pair_stays f.front g.front more a (f.stays (g.front ++ more) (next_peek g.front rest more mid g.whole e))
           ∙ ap (λ r. then_read r (λ b rest. Ok ((a, b), rest))) (g.stays more e);
       value = (a, g.value);
       back = g.back;
@@ -94,8 +94,8 @@ module _ {A : Type 0} (goes : Kind → Bool) (p : Tokens → Outcome A) (P : Rul
   either_second : (ts : Tokens) → goes (peek ts) ≡ false → either_read ts ≡ q ts
   either_second ts h = rw h refl
 
-  peek_stays : (b : Bool) (ts front rest more : Tokens) → goes (peek ts) ≡ b → ts ≡ front ++ rest → head more ≡ head rest → goes (peek (front ++ more)) ≡ b
-  peek_stays b ts front rest more h w e = ap goes (same_peek ts (front ++ more) (next_head front rest more ts w e)) ∙ h
+  peek_stays : (b : Bool) (ts front rest more : Tokens) → goes (peek ts) ≡ b → ts ≡ front ++ rest → peek more ≡ peek rest → goes (peek (front ++ more)) ≡ b
+  peek_stays b ts front rest more h w e = ap goes (next_peek front rest more ts w e) ∙ h
 
   left_told : (ts : Tokens) → goes (peek ts) ≡ true → (r : Outcome A) → Told p P ts r → Told either_read Either ts r
   left_told ts h (Ok read) f = record {
@@ -147,8 +147,8 @@ module _ {A : Type 0} (goes : Kind → Bool) (p : Tokens → Outcome A) (P : Rul
   abbrev optional_read : Tokens → Outcome (Option A)
   optional_read ts = cond (goes (peek ts)) (then_read (p ts) (λ a rest. Ok (Some a, rest))) (Ok (None, ts))
 
-  optional_stays : (b : Bool) (ts front rest more : Tokens) → goes (peek ts) ≡ b → ts ≡ front ++ rest → head more ≡ head rest → goes (peek (front ++ more)) ≡ b
-  optional_stays b ts front rest more h w e = ap goes (same_peek ts (front ++ more) (next_head front rest more ts w e)) ∙ h
+  optional_stays : (b : Bool) (ts front rest more : Tokens) → goes (peek ts) ≡ b → ts ≡ front ++ rest → peek more ≡ peek rest → goes (peek (front ++ more)) ≡ b
+  optional_stays b ts front rest more h w e = ap goes (next_peek front rest more ts w e) ∙ h
 
   some_stays : (ts : Tokens) (r : Outcome A) → goes (peek ts) ≡ true → p ts ≡ r → optional_read ts ≡ then_read r (λ a rest. Ok (Some a, rest))
   some_stays ts r h e = rw h (rw e refl)

@@ -1,2 +1,5 @@
 pub mod Parts
 pub mod Compositions
+pub mod Repetitions
+pub mod Separated
+pub mod Grammars

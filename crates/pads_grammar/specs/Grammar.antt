@@ -157,7 +157,7 @@ Apart I F = (j : Kind) → I j ≡ true → F j ≡ false
 
 -- One token decides at each place, where the grammar is followed by a token of these kinds.
 abbrev pub Decides : {A : Type 0} → Grammar A → (Kind → Bool) → Type 0
-Decides (token k take) F = Unit {0}
+Decides (token k take) F = is k kind.End ≡ false
 Decides (pair g h) F = Decides g (ahead h F) × Decides h F
 Decides (apply f g) F = Decides g F
 Decides (either g h) F = Decides g F × Decides h F × (nullable g ≡ false) × Apart (begins g) (ahead h F)

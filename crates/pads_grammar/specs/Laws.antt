@@ -1,28 +1,23 @@
 -- What a reader owes to a rule. What it reads is derived; what is derived is read, where one of the
 -- kinds of F follows; where it stops at a fault, the tokens before the fault begin a derived list, and
--- no token at that place goes on: whatever stands behind the first token of the fault, the fault stays.
-use Rattle.std.specs.Prelude.{◌≡◌, Bool, true, Option, Some, None, Ok, Err, List, [], ◌∷◌, ◌++◌}
-use Rattle.pads_lex.specs.declared.token.Token.{Token}
+-- no token of that kind goes on there, whatever stands behind it.
+use Rattle.std.specs.Prelude.{◌≡◌, Bool, true, Ok, Err, ◌++◌}
 use Rattle.pads_grammar.specs.declared.kind.Kind.{Kind}
 use Rattle.pads_grammar.specs.Kinds.{Tokens, peek}
 use Rattle.pads_grammar.specs.Grammar.{Rule, Outcome}
 
-abbrev pub head : Tokens → Option Token
-head [] = None
-head (t ∷ ts) = Some t
-
--- The front was read as a, and would be, whatever stands behind the next token.
+-- The front was read as a, and would be, whatever stands there from the next token on, if it is of the same kind.
 pub record Found {A : Type 0} (p : Tokens → Outcome A) (P : Rule A) (ts : Tokens) (a : A) (rest : Tokens) : Type 0 where
   pub front : Tokens
   pub whole : ts ≡ front ++ rest
   pub derived : P a front
-  pub stays : (more : Tokens) → head more ≡ head rest → p (front ++ more) ≡ Ok (a, more)
+  pub stays : (more : Tokens) → peek more ≡ peek rest → p (front ++ more) ≡ Ok (a, more)
 
--- The front begins a derived list, and the next token is at fault, whatever stands behind it.
+-- The front begins a derived list, and the next token is at fault, and each of its kind, whatever stands behind it.
 pub record Fault {A : Type 0} (p : Tokens → Outcome A) (P : Rule A) (ts rest : Tokens) : Type 0 where
   pub front : Tokens
   pub whole : ts ≡ front ++ rest
-  pub stays : (more : Tokens) → head more ≡ head rest → p (front ++ more) ≡ Err more
+  pub stays : (more : Tokens) → peek more ≡ peek rest → p (front ++ more) ≡ Err more
   pub value : A
   pub back : Tokens
   pub completed : P value (front ++ back)
