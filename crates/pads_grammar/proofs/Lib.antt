@@ -3,3 +3,4 @@ pub mod Compositions
 pub mod Repetitions
 pub mod Separated
 pub mod Grammars
+pub mod WholeLaws

@@ -1,3 +1,4 @@
 pub mod Kinds
 pub mod Grammar
 pub mod Laws
+pub mod Whole
