@@ -4,3 +4,4 @@ pub mod Repetitions
 pub mod Separated
 pub mod Grammars
 pub mod WholeLaws
+pub mod Leaves

@@ -1,5 +1,5 @@
 -- The kinds of tokens: what the grammar decides by.
-use Rattle.std.specs.Prelude.{◌≡◌, ℕ, ℤ, pos, negsuc, Bool, true, List, [], ◌∷◌, refl}
+use Rattle.std.specs.Prelude.{◌≡◌, ℕ, ℤ, pos, negsuc, Bool, true, false, List, [], ◌∷◌, refl}
 use denote.Enum.Bare.{sameb}
 use Rattle.pads_lex.specs.declared.token.Token.{Token}
 use Rattle.pads_lex.specs.declared.token.TokenKind.{TokenKind}
@@ -85,6 +85,11 @@ Tokens = List Token
 abbrev pub peek : Tokens → Kind
 peek [] = kind.End
 peek (t ∷ ts) = kind_of t.kind
+
+-- Whether there is a token, of that kind.
+abbrev pub starts_with : Kind → Tokens → Bool
+starts_with k [] = false
+starts_with k (t ∷ ts) = is k (kind_of t.kind)
 
 -- All kinds, each once.
 abbrev pub all_kinds : List Kind

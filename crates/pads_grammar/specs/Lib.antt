@@ -2,3 +2,4 @@ pub mod Kinds
 pub mod Grammar
 pub mod Laws
 pub mod Whole
+pub mod Reads

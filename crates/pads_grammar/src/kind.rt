@@ -1,5 +1,5 @@
 ghost use Rattle.std.specs.Prelude.{◌≡◌};
-ghost use Rattle.pads_grammar.specs.Kinds.{kind_of, kind_of_number};
+ghost use Rattle.pads_grammar.specs.Kinds.{is, kind_of, kind_of_number};
 
 use pads_lex::TokenKind;
 
@@ -135,6 +135,13 @@ impl Kind {
             TokenKind::Text(_) => Kind::Text,
             TokenKind::End => Kind::End,
         }
+    }
+
+    /// Whether both are the same kind.
+    pub fn is(self, other: Kind) -> bool
+        ensures same { result ≡ is self other }
+    {
+        self == other
     }
 
     fn of_number(number: i128) -> Kind
