@@ -1,0 +1,6 @@
+//! The grammar of expressions.
+#![tactic(auto)]
+
+mod leaf;
+
+pub use leaf::{name};
