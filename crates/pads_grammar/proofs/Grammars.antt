@@ -32,11 +32,11 @@ back_nil : (xs ys : Tokens) → [] ≡ xs ++ ys → ys ≡ []
 back_nil [] ys h = sym h
 back_nil (x ∷ xs) ys h = cc
 
-and_false : (b c : Bool) → (b && c) ≡ false → (b ≡ false) ⊎ (c ≡ false)
+pub and_false : (b c : Bool) → (b && c) ≡ false → (b ≡ false) ⊎ (c ≡ false)
 and_false true c h = inr h
 and_false false c h = inl refl
 
-or_false : (b c : Bool) → (b || c) ≡ false → (b ≡ false) × (c ≡ false)
+pub or_false : (b c : Bool) → (b || c) ≡ false → (b ≡ false) × (c ≡ false)
 or_false true c h = cc
 or_false false c h = (refl, h)
 

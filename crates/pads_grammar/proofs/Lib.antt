@@ -5,3 +5,4 @@ pub mod Separated
 pub mod Grammars
 pub mod WholeLaws
 pub mod Leaves
+pub mod Loops

@@ -1,0 +1,144 @@
+-- The grammar of expressions.
+--
+--   expr  = and { "||" and }            level 6
+--   and   = eq { "&&" eq }              level 5
+--   eq    = rel { ("==" | "!=") rel }   level 4
+--   rel   = sum { ("<" | "<=" | ">" | ">=") sum }   level 3
+--   sum   = prod { ("+" | "-") prod }   level 2
+--   prod  = unary { ("*" | "/" | "%") unary }       level 1
+--   unary = ("-" | "!") unary | post
+--   post  = atom { "." Name | "[" expr "]" }
+--   atom  = Number | word | "true" | "false" | Name | "(" expr ")"
+--         | "Pis" "(" expr "," Name ")" | "Plen" "(" expr ")"
+--         | "Pforall" "(" Name "Pin" "[" expr ".." expr "]" ":" expr ")"
+--
+-- Each sign, bracket, index and each of the last three forms is one level of nesting. Where no level is
+-- left, the alternatives that open one are not there.
+use Rattle.std.specs.Prelude.{◌≡◌, refl, ℕ, zero, suc, Bool, true, false, Option, Some, None, List}
+use Rattle.pads_grammar.specs.declared.kind.Kind.TheVariants as kind
+use Rattle.pads_grammar.specs.Grammar.{Grammar, token, pair, apply, either, many, ◌&◌, ◌<*◌, ◌*>◌, ◌or◌}
+use Rattle.pads_ast.specs.Chains.{chain, post}
+use Rattle.pads_ast.specs.declared.expr.Expr.{Expr}
+use Rattle.pads_ast.specs.declared.expr.Expr.TheVariants as expr_form
+use Rattle.pads_ast.specs.declared.expr.Link.{Link}
+use Rattle.pads_ast.specs.declared.expr.Step.{Step}
+use Rattle.pads_ast.specs.declared.expr.Step.TheVariants as step_form
+use Rattle.pads_ast.specs.declared.expr.BinaryOperator.{BinaryOperator}
+use Rattle.pads_ast.specs.declared.expr.BinaryOperator.TheVariants as binary
+use Rattle.pads_ast.specs.declared.expr.UnaryOperator.{UnaryOperator}
+use Rattle.pads_ast.specs.declared.expr.UnaryOperator.TheVariants as unary_form
+use Rattle.pads_ast.specs.declared.name.Name.{Name}
+use Rattle.pads_syntax_expr.specs.Leaves.{mark, name, word, number_of}
+
+-- The operators of a level, counted from 0, which is that of products.
+abbrev pub operators : ℕ → Grammar BinaryOperator
+operators zero = token kind.Star (λ _. binary.Times) or token kind.Slash (λ _. binary.Divide) or token kind.Percent (λ _. binary.Remainder)
+operators (suc zero) = token kind.Plus (λ _. binary.Plus) or token kind.Minus (λ _. binary.Minus)
+operators (suc (suc zero)) = token kind.LessThan (λ _. binary.LessThan) or token kind.AtMost (λ _. binary.AtMost) or token kind.GreaterThan (λ _. binary.GreaterThan) or token kind.AtLeast (λ _. binary.AtLeast)
+operators (suc (suc (suc zero))) = token kind.EqualTo (λ _. binary.EqualTo) or token kind.NotEqualTo (λ _. binary.NotEqualTo)
+operators (suc (suc (suc (suc zero)))) = token kind.And (λ _. binary.And)
+operators (suc (suc (suc (suc (suc k))))) = token kind.Or (λ _. binary.Or)
+
+abbrev pub link : Grammar BinaryOperator → Grammar Expr → Grammar (Link Expr)
+link operator part = apply (λ both. record { operator = both.0; operand = both.1 }) (operator & part)
+
+-- Parts of one level, joined by its operators.
+abbrev pub chained : Grammar Expr → Grammar BinaryOperator → Grammar Expr
+chained part operator = apply (λ both. chain both.0 both.1) (part & many (link operator part))
+
+-- Level 0 is a unary expression.
+abbrev pub level : ℕ → Grammar Expr → Grammar Expr
+level zero unary = unary
+level (suc k) unary = chained (level k unary) (operators k)
+
+-- Sign and operand.
+abbrev pub sign : Grammar (UnaryOperator × ℕ)
+sign = token kind.Minus (λ t. (unary_form.Minus, t.begin)) or token kind.Not (λ t. (unary_form.Not, t.begin))
+
+abbrev pub signed : Grammar Expr → Grammar Expr
+signed operand = apply (λ both. expr_form.Unary both.0.0 both.0.1 both.1) (sign & operand)
+
+abbrev pub field : Grammar (Step Expr)
+field = apply step_form.Name (mark kind.Dot *> name)
+
+abbrev pub index : Grammar Expr → Grammar (Step Expr)
+index inner = apply (λ both. step_form.Index both.0 both.1) ((mark kind.OpenBracket & inner) <* mark kind.CloseBracket)
+
+-- An atom that opens no level.
+abbrev pub plain : Grammar Expr
+plain = token kind.Number (λ t. expr_form.Number (number_of t.kind) t.begin)
+    or apply expr_form.Word word
+    or token kind.True (λ t. expr_form.Truth true t.begin)
+    or token kind.False (λ t. expr_form.Truth false t.begin)
+    or apply expr_form.Name name
+
+abbrev pub paren : Grammar Expr → Grammar Expr
+paren inner = apply (λ both. expr_form.Paren both.0 both.1) ((mark kind.OpenParen & inner) <* mark kind.CloseParen)
+
+abbrev pub pis : Grammar Expr → Grammar Expr
+pis inner = apply (λ all. expr_form.Pis all.0.0 all.0.1 all.1)
+    (((((mark kind.Pis <* mark kind.OpenParen) & inner) <* mark kind.Comma) & name) <* mark kind.CloseParen)
+
+abbrev pub plen : Grammar Expr → Grammar Expr
+plen inner = apply (λ both. expr_form.Plen both.0 both.1)
+    (((mark kind.Plen <* mark kind.OpenParen) & inner) <* mark kind.CloseParen)
+
+-- `[low .. high]`
+abbrev pub range : Grammar Expr → Grammar (Expr × Expr)
+range inner = ((((mark kind.OpenBracket *> inner) <* mark kind.DotDot) & inner) <* mark kind.CloseBracket)
+
+abbrev pub pforall : Grammar Expr → Grammar Expr
+pforall inner = apply (λ all. expr_form.Pforall all.0.0.0 all.0.0.1 all.0.1.0 all.0.1.1 all.1)
+    ((((((mark kind.Pforall <* mark kind.OpenParen) & name) <* mark kind.Pin) & range inner) <* mark kind.Colon) & inner <* mark kind.CloseParen)
+
+-- An atom and a step where a level is left for what stands inside.
+abbrev pub nested_atom : Grammar Expr → Grammar Expr
+nested_atom inner = paren inner or pis inner or plen inner or pforall inner or plain
+
+abbrev pub nested_step : Grammar Expr → Grammar (Step Expr)
+nested_step inner = index inner or field
+
+abbrev pub posts : Grammar Expr → Grammar (Step Expr) → Grammar Expr
+posts atom step = apply (λ both. post both.0 both.1) (atom & many step)
+
+-- A unary expression with at most that many levels of nesting.
+unfoldable pub unary : ℕ → Grammar Expr
+unary zero = posts plain field
+unary (suc depth) = signed (unary depth) or posts (nested_atom (level 6 (unary depth))) (nested_step (level 6 (unary depth)))
+
+-- An expression with at most that many levels of nesting.
+abbrev pub expr : ℕ → Grammar Expr
+expr depth = level 6 (unary depth)
+
+-- The number of levels left inside of what opens one: None where none is left to open.
+abbrev pub below : ℕ → Option ℕ
+below zero = None
+below (suc depth) = Some depth
+
+abbrev pub atom : Option ℕ → Grammar Expr
+atom None = plain
+atom (Some inner) = nested_atom (expr inner)
+
+abbrev pub step : Option ℕ → Grammar (Step Expr)
+step None = field
+step (Some inner) = nested_step (expr inner)
+
+abbrev pub posted : Option ℕ → Grammar Expr
+posted inner = posts (atom inner) (step inner)
+
+abbrev pub unary_above : Option ℕ → Grammar Expr
+unary_above None = posted None
+unary_above (Some inner) = signed (unary inner) or posted (Some inner)
+
+pub unary_is : (depth : ℕ) → unary depth ≡ unary_above (below depth)
+unfolding unary
+unary_is zero = refl
+unary_is (suc depth) = refl
+
+abbrev pub level_above : Option ℕ → Grammar Expr → Grammar Expr
+level_above None unary = unary
+level_above (Some k) unary = chained (level k unary) (operators k)
+
+pub level_is : (k : ℕ) (unary : Grammar Expr) → level k unary ≡ level_above (below k) unary
+level_is zero unary = refl
+level_is (suc k) unary = refl
