@@ -1,6 +1,6 @@
 -- The grammar of expressions.
 --
---   expr  = and { "||" and }            level 6
+--   expr  = and { "||" and }            any
 --   and   = eq { "&&" eq }              level 5
 --   eq    = rel { ("==" | "!=") rel }   level 4
 --   rel   = sum { ("<" | "<=" | ">" | ">=") sum }   level 3
@@ -28,16 +28,19 @@ use Rattle.pads_ast.specs.declared.expr.BinaryOperator.TheVariants as binary
 use Rattle.pads_ast.specs.declared.expr.UnaryOperator.{UnaryOperator}
 use Rattle.pads_ast.specs.declared.expr.UnaryOperator.TheVariants as unary_form
 use Rattle.pads_ast.specs.declared.name.Name.{Name}
+use Rattle.pads_syntax_expr.specs.declared.level.Level.{Level}
+use Rattle.pads_syntax_expr.specs.declared.level.Level.TheVariants as level_form
 use Rattle.pads_syntax_expr.specs.Leaves.{mark, name, word, number_of}
 
--- The operators of a level, counted from 0, which is that of products.
-abbrev pub operators : ℕ → Grammar BinaryOperator
-operators zero = token kind.Star (λ _. binary.Times) or token kind.Slash (λ _. binary.Divide) or token kind.Percent (λ _. binary.Remainder)
-operators (suc zero) = token kind.Plus (λ _. binary.Plus) or token kind.Minus (λ _. binary.Minus)
-operators (suc (suc zero)) = token kind.LessThan (λ _. binary.LessThan) or token kind.AtMost (λ _. binary.AtMost) or token kind.GreaterThan (λ _. binary.GreaterThan) or token kind.AtLeast (λ _. binary.AtLeast)
-operators (suc (suc (suc zero))) = token kind.EqualTo (λ _. binary.EqualTo) or token kind.NotEqualTo (λ _. binary.NotEqualTo)
-operators (suc (suc (suc (suc zero)))) = token kind.And (λ _. binary.And)
-operators (suc (suc (suc (suc (suc k))))) = token kind.Or (λ _. binary.Or)
+-- The operators of a level. A unary expression has none; it is given those of products, which is not used.
+abbrev pub operators : Level → Grammar BinaryOperator
+operators level_form.Unary = token kind.Star (λ _. binary.Times) or token kind.Slash (λ _. binary.Divide) or token kind.Percent (λ _. binary.Remainder)
+operators level_form.Prod = token kind.Star (λ _. binary.Times) or token kind.Slash (λ _. binary.Divide) or token kind.Percent (λ _. binary.Remainder)
+operators level_form.Sum = token kind.Plus (λ _. binary.Plus) or token kind.Minus (λ _. binary.Minus)
+operators level_form.Rel = token kind.LessThan (λ _. binary.LessThan) or token kind.AtMost (λ _. binary.AtMost) or token kind.GreaterThan (λ _. binary.GreaterThan) or token kind.AtLeast (λ _. binary.AtLeast)
+operators level_form.Eq = token kind.EqualTo (λ _. binary.EqualTo) or token kind.NotEqualTo (λ _. binary.NotEqualTo)
+operators level_form.And = token kind.And (λ _. binary.And)
+operators level_form.Or = token kind.Or (λ _. binary.Or)
 
 abbrev pub link : Grammar BinaryOperator → Grammar Expr → Grammar (Link Expr)
 link operator part = apply (λ both. record { operator = both.0; operand = both.1 }) (operator & part)
@@ -46,10 +49,33 @@ link operator part = apply (λ both. record { operator = both.0; operand = both.
 abbrev pub chained : Grammar Expr → Grammar BinaryOperator → Grammar Expr
 chained part operator = apply (λ both. chain both.0 both.1) (part & many (link operator part))
 
--- Level 0 is a unary expression.
-abbrev pub level : ℕ → Grammar Expr → Grammar Expr
-level zero unary = unary
-level (suc k) unary = chained (level k unary) (operators k)
+-- The six levels over unary expressions.
+abbrev pub prod : Grammar Expr → Grammar Expr
+prod unary = chained unary (operators level_form.Prod)
+
+abbrev pub sum : Grammar Expr → Grammar Expr
+sum unary = chained (prod unary) (operators level_form.Sum)
+
+abbrev pub rel : Grammar Expr → Grammar Expr
+rel unary = chained (sum unary) (operators level_form.Rel)
+
+abbrev pub eq : Grammar Expr → Grammar Expr
+eq unary = chained (rel unary) (operators level_form.Eq)
+
+abbrev pub both : Grammar Expr → Grammar Expr
+both unary = chained (eq unary) (operators level_form.And)
+
+abbrev pub any : Grammar Expr → Grammar Expr
+any unary = chained (both unary) (operators level_form.Or)
+
+abbrev pub level : Level → Grammar Expr → Grammar Expr
+level level_form.Unary unary = unary
+level level_form.Prod unary = prod unary
+level level_form.Sum unary = sum unary
+level level_form.Rel unary = rel unary
+level level_form.Eq unary = eq unary
+level level_form.And unary = both unary
+level level_form.Or unary = any unary
 
 -- Sign and operand.
 abbrev pub sign : Grammar (UnaryOperator × ℕ)
@@ -104,11 +130,11 @@ posts atom step = apply (λ both. post both.0 both.1) (atom & many step)
 -- A unary expression with at most that many levels of nesting.
 unfoldable pub unary : ℕ → Grammar Expr
 unary zero = posts plain field
-unary (suc depth) = signed (unary depth) or posts (nested_atom (level 6 (unary depth))) (nested_step (level 6 (unary depth)))
+unary (suc depth) = signed (unary depth) or posts (nested_atom (any (unary depth))) (nested_step (any (unary depth)))
 
 -- An expression with at most that many levels of nesting.
 abbrev pub expr : ℕ → Grammar Expr
-expr depth = level 6 (unary depth)
+expr depth = any (unary depth)
 
 -- The number of levels left inside of what opens one: None where none is left to open.
 abbrev pub below : ℕ → Option ℕ
@@ -135,10 +161,35 @@ unfolding unary
 unary_is zero = refl
 unary_is (suc depth) = refl
 
-abbrev pub level_above : Option ℕ → Grammar Expr → Grammar Expr
-level_above None unary = unary
-level_above (Some k) unary = chained (level k unary) (operators k)
+-- The level of the parts of a level.
+abbrev pub part : Level → Option Level
+part level_form.Unary = None
+part level_form.Prod = Some level_form.Unary
+part level_form.Sum = Some level_form.Prod
+part level_form.Rel = Some level_form.Sum
+part level_form.Eq = Some level_form.Rel
+part level_form.And = Some level_form.Eq
+part level_form.Or = Some level_form.And
 
-pub level_is : (k : ℕ) (unary : Grammar Expr) → level k unary ≡ level_above (below k) unary
-level_is zero unary = refl
-level_is (suc k) unary = refl
+abbrev pub level_over : Level → Option Level → Grammar Expr → Grammar Expr
+level_over k None unary = unary
+level_over k (Some below) unary = chained (level below unary) (operators k)
+
+pub level_is : (k : Level) (unary : Grammar Expr) → level k unary ≡ level_over k (part k) unary
+level_is level_form.Unary unary = refl
+level_is level_form.Prod unary = refl
+level_is level_form.Sum unary = refl
+level_is level_form.Rel unary = refl
+level_is level_form.Eq unary = refl
+level_is level_form.And unary = refl
+level_is level_form.Or unary = refl
+
+-- The height of a level over unary expressions.
+abbrev pub rank : Level → ℕ
+rank level_form.Unary = 0
+rank level_form.Prod = 1
+rank level_form.Sum = 2
+rank level_form.Rel = 3
+rank level_form.Eq = 4
+rank level_form.And = 5
+rank level_form.Or = 6

@@ -2,5 +2,8 @@
 #![tactic(auto)]
 
 mod leaf;
+mod level;
+mod operator;
 
-pub use leaf::{name};
+pub use leaf::{name, word};
+pub use level::Level;
