@@ -6,3 +6,6 @@ pub mod Grammars
 pub mod WholeLaws
 pub mod Leaves
 pub mod Loops
+pub mod Disjoint
+pub mod ListLoops
+pub mod RestLoops

@@ -3,3 +3,4 @@ pub mod Grammar
 pub mod Laws
 pub mod Whole
 pub mod Reads
+pub mod Lists

@@ -14,9 +14,10 @@
 --
 -- Each sign, bracket, index and each of the last three forms is one level of nesting. Where no level is
 -- left, the alternatives that open one are not there.
-use Rattle.std.specs.Prelude.{◌≡◌, refl, ℕ, zero, suc, Bool, true, false, Option, Some, None, List}
+use Rattle.std.specs.Prelude.{◌≡◌, refl, ℕ, zero, suc, Bool, true, false, ◌||◌, Option, Some, None, List}
+use Rattle.pads_grammar.specs.declared.kind.Kind.{Kind}
 use Rattle.pads_grammar.specs.declared.kind.Kind.TheVariants as kind
-use Rattle.pads_grammar.specs.Grammar.{Grammar, token, pair, apply, either, many, ◌&◌, ◌<*◌, ◌*>◌, ◌or◌}
+use Rattle.pads_grammar.specs.Grammar.{Grammar, begins, token, pair, apply, either, many, ◌&◌, ◌<*◌, ◌*>◌, ◌or◌}
 use Rattle.pads_ast.specs.Chains.{chain, post}
 use Rattle.pads_ast.specs.declared.expr.Expr.{Expr}
 use Rattle.pads_ast.specs.declared.expr.Expr.TheVariants as expr_form
@@ -30,7 +31,7 @@ use Rattle.pads_ast.specs.declared.expr.UnaryOperator.TheVariants as unary_form
 use Rattle.pads_ast.specs.declared.name.Name.{Name}
 use Rattle.pads_syntax_expr.specs.declared.level.Level.{Level}
 use Rattle.pads_syntax_expr.specs.declared.level.Level.TheVariants as level_form
-use Rattle.pads_syntax_expr.specs.Leaves.{mark, name, word, number_of}
+use Rattle.pads_syntax_expr.specs.Leaves.{mark, name, word, number}
 
 -- The operators of a level. A unary expression has none; it is given those of products, which is not used.
 abbrev pub operators : Level → Grammar BinaryOperator
@@ -92,7 +93,7 @@ index inner = apply (λ both. step_form.Index both.0 both.1) ((mark kind.OpenBra
 
 -- An atom that opens no level.
 abbrev pub plain : Grammar Expr
-plain = token kind.Number (λ t. expr_form.Number (number_of t.kind) t.begin)
+plain = apply (λ found. expr_form.Number found.0 found.1) number
     or apply expr_form.Word word
     or token kind.True (λ t. expr_form.Truth true t.begin)
     or token kind.False (λ t. expr_form.Truth false t.begin)
@@ -101,21 +102,30 @@ plain = token kind.Number (λ t. expr_form.Number (number_of t.kind) t.begin)
 abbrev pub paren : Grammar Expr → Grammar Expr
 paren inner = apply (λ both. expr_form.Paren both.0 both.1) ((mark kind.OpenParen & inner) <* mark kind.CloseParen)
 
+-- A keyword and the bracket behind it.
+abbrev pub opened : Kind → Grammar ℕ
+opened keyword = mark keyword <* mark kind.OpenParen
+
+-- What stands behind the value of a `Pis`.
+abbrev pub branch_name : Grammar Name
+branch_name = (mark kind.Comma *> name) <* mark kind.CloseParen
+
 abbrev pub pis : Grammar Expr → Grammar Expr
-pis inner = apply (λ all. expr_form.Pis all.0.0 all.0.1 all.1)
-    (((((mark kind.Pis <* mark kind.OpenParen) & inner) <* mark kind.Comma) & name) <* mark kind.CloseParen)
+pis inner = apply (λ all. expr_form.Pis all.0.0 all.0.1 all.1) (opened kind.Pis & inner & branch_name)
 
 abbrev pub plen : Grammar Expr → Grammar Expr
-plen inner = apply (λ both. expr_form.Plen both.0 both.1)
-    (((mark kind.Plen <* mark kind.OpenParen) & inner) <* mark kind.CloseParen)
+plen inner = apply (λ both. expr_form.Plen both.0 both.1) ((opened kind.Plen & inner) <* mark kind.CloseParen)
 
--- `[low .. high]`
-abbrev pub range : Grammar Expr → Grammar (Expr × Expr)
-range inner = ((((mark kind.OpenBracket *> inner) <* mark kind.DotDot) & inner) <* mark kind.CloseBracket)
+-- What stands before the bounds of a `Pforall`, between them and behind them.
+abbrev pub quantifier : Grammar (ℕ × Name)
+quantifier = ((opened kind.Pforall & name) <* mark kind.Pin) <* mark kind.OpenBracket
+
+abbrev pub body : Grammar Expr → Grammar Expr
+body inner = ((mark kind.CloseBracket *> mark kind.Colon) *> inner) <* mark kind.CloseParen
 
 abbrev pub pforall : Grammar Expr → Grammar Expr
-pforall inner = apply (λ all. expr_form.Pforall all.0.0.0 all.0.0.1 all.0.1.0 all.0.1.1 all.1)
-    ((((((mark kind.Pforall <* mark kind.OpenParen) & name) <* mark kind.Pin) & range inner) <* mark kind.Colon) & inner <* mark kind.CloseParen)
+pforall inner = apply (λ all. expr_form.Pforall all.0.0.0.0 all.0.0.0.1 all.0.0.1 all.0.1 all.1)
+    (((quantifier & inner) <* mark kind.DotDot) & inner & body inner)
 
 -- An atom and a step where a level is left for what stands inside.
 abbrev pub nested_atom : Grammar Expr → Grammar Expr
@@ -135,6 +145,10 @@ unary (suc depth) = signed (unary depth) or posts (nested_atom (any (unary depth
 -- An expression with at most that many levels of nesting.
 abbrev pub expr : ℕ → Grammar Expr
 expr depth = any (unary depth)
+
+-- What begins an expression in which a level may be opened.
+abbrev pub begins_expr : Kind → Bool
+begins_expr j = begins sign j || begins (nested_atom (posts plain field)) j
 
 -- The number of levels left inside of what opens one: None where none is left to open.
 abbrev pub below : ℕ → Option ℕ

@@ -31,6 +31,9 @@ mark k = token k (λ t. t.begin)
 abbrev pub name : Grammar Name
 name = token kind.Name (λ t. record { text = text_of t.kind; at = t.begin })
 
+abbrev pub number : Grammar (ℕ × ℕ)
+number = token kind.Number (λ t. (number_of t.kind, t.begin))
+
 -- word = Char | Text
 abbrev pub word : Grammar Word
 word = either (token kind.Char (λ t. word_form.Char (point_of t.kind) t.begin))

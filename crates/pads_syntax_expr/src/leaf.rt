@@ -4,7 +4,7 @@ ghost use Rattle.pads_grammar.specs.Grammar.{reads, token, apply};
 ghost use Rattle.pads_grammar.specs.Reads.{Reads};
 ghost use Rattle.pads_ast.specs.declared.name.Word.TheVariants as word_form;
 ghost use Rattle.pads_ast.specs.declared.expr.Expr.TheVariants as expr_form;
-ghost use Rattle.pads_syntax_expr.specs.Leaves.{name, word, point_of, text_of, number_of};
+ghost use Rattle.pads_syntax_expr.specs.Leaves.{name, number, word, point_of, text_of};
 ghost use Rattle.pads_syntax_expr.specs.Expressions.{plain};
 
 use pads_ast::{Expr, Name, Number, Word};
@@ -73,20 +73,25 @@ pub fn word(alloc: Global, cursor: &mut Cursor<'_>) -> Reading<Word>
     }
 }
 
+/// A number and its place.
 #[tactic(auto, using(pads_grammar::proofs::Leaves::leaves))]
-fn number(cursor: &mut Cursor<'_>) -> Reading<Expr>
-    ensures reads { Reads (reads (token kind.Number (λ t. expr_form.Number (number_of t.kind) t.begin)) cursor.old) result cursor.new }
+pub fn number(cursor: &mut Cursor<'_>) -> Reading<(Number, u64)>
+    ensures reads { Reads (reads number cursor.old) result cursor.new }
 {
     match cursor.take(Kind::Number) {
         Some(token) => match &token.kind {
-            TokenKind::Number(value) if *value >= 0 => Ok(Expr::Number {
-                value: Number::new(*value),
-                at: token.begin,
-            }),
+            TokenKind::Number(value) if *value >= 0 => Ok((Number::new(*value), token.begin)),
             _ => Err(Refusal::Fault(Unexpected)),
         },
         None => Err(Refusal::Fault(Unexpected)),
     }
+}
+
+fn number_expr(cursor: &mut Cursor<'_>) -> Reading<Expr>
+    ensures reads { Reads (reads (apply (λ found. expr_form.Number found.0 found.1) number) cursor.old) result cursor.new }
+{
+    let (value, at) = number(cursor)?;
+    Ok(Expr::Number { value, at })
 }
 
 fn truth(cursor: &mut Cursor<'_>) -> Reading<Expr>
@@ -121,7 +126,7 @@ pub fn plain(alloc: Global, cursor: &mut Cursor<'_>) -> Reading<Expr>
 {
     let next = cursor.peek();
     if Kind::Number.is(next) {
-        number(cursor)
+        number_expr(cursor)
     } else if Kind::Char.is(next) || Kind::Text.is(next) {
         word_expr(alloc, cursor)
     } else if Kind::True.is(next) {
