@@ -4,7 +4,10 @@ use Rattle.std.specs.List.{list_all}
 use Rattle.std.proofs.lemmas.List.{length-map}
 use Rattle.std.proofs.lemmas.List.Folds.{list_all-map}
 use Rattle.pads_expr.specs.declared.expr.Expr.{Expr}
+use Rattle.pads_dispatch.specs.declared.base.Base.{Base}
+use Rattle.pads_dispatch.specs.Labels.{labels_fit}
 use Rattle.pads_calc.specs.declared.decl.Decl.{Decl}
+use Rattle.pads_calc.specs.declared.term.Result2.{Result2}
 use Rattle.pads_calc.specs.declared.term.Arm.{Arm, fold-Arm, fold_out-Arm}
 use Rattle.pads_calc.specs.declared.term.Case.{Case, fold-Case, fold_out-Case}
 use Rattle.pads_calc.specs.declared.term.Part.{Part, fold-Part, fold_out-Part}
@@ -125,3 +128,30 @@ pub fit-body : (decls : List Decl) (n : ℕ) (decl : Decl) → module_counts dec
 fit-body decls n decl fits there =
     both-right (few decl.params) (counts_fit decl.body)
     (all-there decl_counts decls n decl (both-right (few decls) (list_all decl_counts decls) fits) there)
+
+pub counts-Unit : counts_fit term.Unit ≡ true
+counts-Unit = ap counts_fit (sym term.rolls-Unit) ∙ counts-roll Term-F.Unit
+
+pub counts-Base : (base : Base) (args : List Expr) → counts_fit (term.Base base args) ≡ labels_fit base
+counts-Base base args = ap counts_fit (sym (term.rolls-Base base args)) ∙ counts-roll (Term-F.Base base args)
+
+pub fit-base : (base : Base) (args : List Expr) → counts_fit (term.Base base args) ≡ true → labels_fit base ≡ true
+fit-base base args h = sym (counts-Base base args) ∙ h
+
+pub counts-Lit : (literal : List ℕ) → counts_fit (term.Lit literal) ≡ true
+counts-Lit literal = ap counts_fit (sym (term.rolls-Lit literal)) ∙ counts-roll (Term-F.Lit literal)
+
+pub counts-Eor : counts_fit term.Eor ≡ true
+counts-Eor = ap counts_fit (sym term.rolls-Eor) ∙ counts-roll Term-F.Eor
+
+pub counts-Call : (number : ℕ) (args : List Expr) → counts_fit (term.Call number args) ≡ true
+counts-Call number args = ap counts_fit (sym (term.rolls-Call number args)) ∙ counts-roll (Term-F.Call number args)
+
+pub counts-Compute : (e : Expr) (form : Result2) → counts_fit (term.Compute e form) ≡ true
+counts-Compute e form = ap counts_fit (sym (term.rolls-Compute e form)) ∙ counts-roll (Term-F.Compute e form)
+
+-- every form's counts
+pub ruleset count_rules = (
+  counts-Unit, counts-Base, counts-Lit, counts-Eor, counts-Struct, counts-Alt, counts-Switch, counts-Guard, counts-Seq, counts-Call,
+  counts-Compute, counts-Absorb, counts-Scan,
+)

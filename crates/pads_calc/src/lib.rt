@@ -3,6 +3,7 @@
 
 mod args;
 mod choice;
+mod counts;
 mod decl;
 mod guard;
 mod module;
@@ -16,7 +17,7 @@ pub use args::{argument, arguments, bound, is_true, is_true_of};
 pub use choice::chosen;
 pub use decl::{Decl, Decls, NameIds, Shape};
 pub use guard::{bind_part, guarded};
-pub use module::Module;
+pub use module::{IllFormed, Module};
 pub use pads_dispatch::{Arg, Args, Base};
 pub use reading::Reading;
 pub use record::Record;

@@ -1,8 +1,9 @@
-ghost use Rattle.std.specs.Prelude.{◌≡◌, ◌≤◌, ◌+◌, ◌^◌, length, drop, IfOk};
+ghost use Rattle.std.specs.Prelude.{◌≡◌, ◌≤◌, ◌+◌, ◌^◌, true, length, drop, IfOk};
 ghost use Rattle.std.specs.Option.{option_map};
 ghost use Rattle.pads_calc.specs.Leaves.{unit_of, lit_of, eor_of, at_end, base_node, base_of, computed_told, compute_of};
 ghost use Rattle.pads_calc.specs.Arguments.{arguments as arguments_of};
 ghost use Rattle.pads_calc.specs.Places.{EndsWithin};
+ghost use Rattle.pads_dispatch.specs.Labels.{labels_fit};
 ghost use Rattle.pads_dispatch.specs.Sizes.{taken};
 ghost use Rattle.pads_expr.specs.Seen.{seen};
 ghost use Rattle.pads_expr.specs.Value.{value};
@@ -93,7 +94,8 @@ impl<'a> Record<'a> {
 
     /// A base type, where all of its arguments have a value.
     fn base_at(&self, alloc: Global, base: &Base, args: Option<Args>, place: u64) -> Result<Reading, Memory>
-        requires { place ≤ length self.now.bytes.now }
+        requires labels { labels_fit base.now ≡ true }
+        requires place { place ≤ length self.now.bytes.now }
         ensures base { IfOk result (λ r. r ≡ base_of self.now.origin self.now.bytes.now base.now args place) }
         ensures within { IfOk result (λ r. EndsWithin self.now.bytes.now place r) }
     {
@@ -108,7 +110,8 @@ impl<'a> Record<'a> {
 
     /// A base type with its arguments.
     pub fn base(&self, alloc: Global, base: &Base, args: &[Expr], env: &Env, place: u64) -> Result<Reading, Memory>
-        requires { place ≤ length self.now.bytes.now }
+        requires labels { labels_fit base.now ≡ true }
+        requires place { place ≤ length self.now.bytes.now }
         ensures base { IfOk result (λ r. r ≡ base_of self.now.origin self.now.bytes.now base.now (arguments_of args.now env.now.pairs) place) }
         ensures within { IfOk result (λ r. EndsWithin self.now.bytes.now place r) }
     {

@@ -1,3 +1,6 @@
+ghost use Rattle.std.specs.Prelude.{◌≡◌};
+ghost use Rattle.pads_dispatch.specs.Labels.{labels_fit as labels_fit_of};
+
 use pads_bases::{Labels, Order};
 use pads_code::Coding;
 use pads_int::Kind;
@@ -39,3 +42,16 @@ pub enum Arg {
 
 /// Arguments in their order.
 pub type Args = Items<Arg>;
+
+/// The most labels of a base type: their numbers are of 16 bits.
+const MOST_LABELS: u64 = 65_535;
+
+/// Whether a base type has no more labels than 16 bits number.
+pub fn labels_fit(base: &Base) -> bool
+    ensures fit { result ≡ labels_fit_of base.now }
+{
+    match base {
+        Base::Enum(_, labels) => labels.len() <= MOST_LABELS,
+        _ => true,
+    }
+}

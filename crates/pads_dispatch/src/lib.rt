@@ -7,8 +7,10 @@ mod kinds;
 mod laws;
 mod read;
 mod spell;
+#[cfg(test)]
+mod tests;
 
-pub use base::{Arg, Args, Base};
+pub use base::{Arg, Args, Base, labels_fit};
 pub use laws::bases_read_what_they_spell;
 pub use read::read_base;
 pub use spell::spell_base;
