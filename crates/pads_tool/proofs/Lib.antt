@@ -12,3 +12,5 @@ pub mod Progress
 pub mod Blame
 pub mod ReadSteps
 pub mod Driven
+pub mod NarrowModules
+pub mod Statuses

@@ -16,3 +16,6 @@ pub mod Closing
 pub mod NarrowTokens
 pub mod NarrowForm
 pub mod NarrowSteps
+pub mod NarrowModule
+pub mod Describing
+pub mod Running

@@ -1,5 +1,5 @@
 -- From the words of the command line to an accepted description.
-use Rattle.std.specs.Prelude.{◌≡◌, ℕ, nat_le, if◌then◌else◌, List, Option, Some, None, Result, Ok, Err, IfSome, length}
+use Rattle.std.specs.Prelude.{◌≡◌, ◌≢◌, ℕ, nat_le, if◌then◌else◌, List, Option, Some, None, Result, Ok, Err, IfSome, length}
 use Rattle.pads_io.specs.Faults.{Rose}
 use Rattle.pads_tool.specs.declared.description.TheConstants.{LONGEST_DESCRIPTION}
 use Rattle.pads_tool.specs.declared.ending.Ending.{Ending}
@@ -20,7 +20,7 @@ OpenGives words content before now (Err ending.Usage) = order_of words ≡ None
 OpenGives words content before now (Err (ending.Refused verdict)) =
     (name : List ℕ) × (order_of words ≡ Some (order.Parse name)) × IfSome (content name) (λ bytes. accepted bytes ≡ None)
 OpenGives words content before now (Err ending.FileFault) = (name : List ℕ) × (order_of words ≡ Some (order.Parse name)) × Rose before now
-OpenGives words content before now (Err ending.Memory) = Unit {0}
+OpenGives words content before now (Err ending.Memory) = order_of words ≢ None
 OpenGives words content before now (Err ending.Done) = ⊥
 OpenGives words content before now (Err ending.Dirty) = ⊥
 OpenGives words content before now (Err ending.ReadFault) = ⊥

@@ -1,4 +1,4 @@
-ghost use Rattle.std.specs.Prelude.{◌≡◌, ◌<◌, suc, length, IfOk, IfSome};
+ghost use Rattle.std.specs.Prelude.{◌≡◌, ◌<◌, ◌≤◌, suc, length, IfOk, IfSome};
 ghost use Rattle.std.specs.List.{list_any};
 ghost use Rattle.std.specs.Option.{option_map};
 ghost use Rattle.pads_tool.specs.NarrowSteps.{stepped, IsShorter, named, after_semicolon, after_close, from_char, from_type};
@@ -12,6 +12,7 @@ use std::alloc::Global;
 /// The description in narrow form that a text is; `None` where it is none.
 pub(crate) fn read_narrow(alloc: Global, text: &[u8]) -> Result<Option<Narrow>, Memory>
     ensures narrow { IfOk result (λ narrow. narrow ≡ narrow_of text.now) }
+    ensures few { IfOk result (λ narrow. IfSome narrow (λ n. length n.parts ≤ 4096)) }
 {
     match tokens_of(alloc, text)? {
         None => Ok(None),
@@ -21,6 +22,7 @@ pub(crate) fn read_narrow(alloc: Global, text: &[u8]) -> Result<Option<Narrow>, 
 
 fn form(alloc: Global, tokens: &[Token]) -> Result<Option<Narrow>, Memory>
     ensures form { IfOk result (λ narrow. narrow ≡ form_of tokens.now) }
+    ensures few { IfOk result (λ narrow. IfSome narrow (λ n. length n.parts ≤ 4096)) }
 {
     let [
         Token::Name(word),
@@ -46,6 +48,7 @@ fn form(alloc: Global, tokens: &[Token]) -> Result<Option<Narrow>, Memory>
 
 fn record(alloc: Global, name: &[u8], parts: Items<NarrowPart>) -> Result<Option<Narrow>, Memory>
     ensures record { IfOk result (λ narrow. narrow ≡ record_of name.now parts) }
+    ensures few { IfOk result (λ narrow. IfSome narrow (λ n. length n.parts ≤ 4096)) }
 {
     if parts.len() <= MOST_PARTS && are_distinct(parts.as_slice()) {
         let name = Bytes::from_slice(alloc, name)?;

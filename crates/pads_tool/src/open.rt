@@ -1,4 +1,4 @@
-ghost use Rattle.std.specs.Prelude.{◌≡◌, ◌≤◌};
+ghost use Rattle.std.specs.Prelude.{◌≡◌, ◌≤◌, length, IfOk};
 ghost use Rattle.pads_tool.specs.Opening.{OpenGives};
 
 use crate::description::Described;
@@ -16,6 +16,7 @@ use std::alloc::Global;
 /// The description that the words of the command line ask for, or how the run ends without it.
 pub(crate) fn open<F: Files>(alloc: Global, words: &Words, files: &mut F) -> Result<Narrow, Ending>
     ensures gives { OpenGives words.now (F.content files.old) (F.faults files.old) (F.faults files.new) result }
+    ensures few { IfOk result (λ narrow. length narrow.parts ≤ 4096) }
     ensures later { F.faults files.old ≤ F.faults files.new }
     ensures stays { F.content files.new ≡ F.content files.old }
 {
