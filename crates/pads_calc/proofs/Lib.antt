@@ -4,10 +4,13 @@ pub mod Cases
 pub mod Choices
 pub mod CountRolls
 pub mod Elements
+pub mod ExprRolls
 pub mod Lists
 pub mod Positions
 pub mod Rolls
 pub mod Runs
 pub mod Scans
+pub mod ScopeRolls
 pub mod Sizes
+pub mod TermRolls
 pub mod Turns

@@ -30,7 +30,7 @@ sep-mapped : {A B : Type 0} (f : A → B) (o : Option A) → (former-Seq-sep).ma
 sep-mapped f None = refl
 sep-mapped f (Some x) = refl
 
-mapped : {A B : Type 0} (f g : A → B) → ((x : A) → f x ≡ g x) → (xs : List A) → map f xs ≡ map g xs
+pub mapped : {A B : Type 0} (f g : A → B) → ((x : A) → f x ≡ g x) → (xs : List A) → map f xs ≡ map g xs
 mapped f g same xs = ap (λ h. map h xs) (λ i x. same x i)
 
 module _ (origin : ℕ) (bytes : List ℕ) (call : Caller) where

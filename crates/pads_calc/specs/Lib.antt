@@ -1,5 +1,6 @@
 pub mod Arguments
 pub mod Arrays
+pub mod Bound
 pub mod Calculus
 pub mod Choices
 pub mod Counts

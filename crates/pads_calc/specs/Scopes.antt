@@ -7,10 +7,10 @@ use Rattle.std.specs.List.{list_all, list_any}
 use Rattle.pads_expr.specs.declared.expr.Expr.{Expr, Expr-F, fold-Expr}
 use Rattle.pads_calc.specs.declared.decl.Decl.{Decl}
 use Rattle.pads_calc.specs.declared.decl.Shape.{Shape}
-use Rattle.pads_calc.specs.declared.term.Arm.{Arm-F}
-use Rattle.pads_calc.specs.declared.term.Case.{Case-F}
-use Rattle.pads_calc.specs.declared.term.Part.{Part-F}
-use Rattle.pads_calc.specs.declared.term.Seq.{Seq-F}
+use Rattle.pads_calc.specs.declared.term.Arm.{Arm, Arm-F}
+use Rattle.pads_calc.specs.declared.term.Case.{Case, Case-F}
+use Rattle.pads_calc.specs.declared.term.Part.{Part, Part-F}
+use Rattle.pads_calc.specs.declared.term.Seq.{Seq, Seq-F}
 use Rattle.pads_calc.specs.declared.term.Term.{Term, Term-F, fold-Term}
 
 -- whether something is well formed where these names are bound
@@ -114,6 +114,26 @@ unfoldable pub in_scope : ℕ → List ℕ → Term → InScope
 in_scope names arities =
     fold-Term InScope InScope InScope Binding InScope (term_scope names arities) (arm_scope names arities) (case_scope names arities)
     (part_scope names arities) (seq_scope names arities)
+
+-- the same of the parts of a term
+module _ (names : ℕ) (arities : List ℕ) where
+  abbrev pub arm_in : Arm → InScope
+  arm_in arm scope = nat_lt arm.name names && in_scope names arities arm.term scope
+
+  abbrev pub case_in : Case → InScope
+  case_in case scope = nat_lt case.arm.name names && in_scope names arities case.arm.term scope
+
+  abbrev pub binding_of : Part → Binding
+  binding_of part = record { name = part.name; term = in_scope names arities part.term }
+
+  abbrev pub option_term_in : Option Term → InScope
+  option_term_in None scope = true
+  option_term_in (Some term) scope = in_scope names arities term scope
+
+  abbrev pub seq_in : Seq → InScope
+  seq_in s scope =
+      in_scope names arities s.elem scope && option_term_in s.sep scope && option_term_in s.stop scope && nat_lt s.elts names
+      && option_in_scope names s.size scope && option_in_scope names s.last (s.elts ∷ scope)
 
 abbrev pub arities_of : List Decl → List ℕ
 arities_of decls = map (λ decl. length decl.params) decls

@@ -2,6 +2,7 @@
 #![tactic(auto)]
 
 mod args;
+mod checking;
 mod choice;
 mod counts;
 mod decl;
@@ -10,6 +11,7 @@ mod module;
 mod reading;
 mod record;
 mod run;
+mod scope;
 mod term;
 mod turn;
 

@@ -75,7 +75,7 @@ run-takes kind points =
     let digits : List ℕ = take_while is_ascii_digit (drop sign points) in
     let v : ℤ = signed_number (is_negative kind points) (number digits) in
     let run : length digits ≤ length (drop sign points) =
-        omega (arith, length-prefix_len is_ascii_digit (drop sign points), prefix_len-le-length is_ascii_digit (drop sign points)) in
+    omega (arith, length-prefix_len is_ascii_digit (drop sign points), prefix_len-le-length is_ascii_digit (drop sign points)) in
     either-takes (length points) (nat_eq (length digits) 0) (Hard cause.Invalid) (ranged kind (sign + length digits) v)
     (λ _. omega arith)
     (λ _. omega (arith, run, sign-fits kind points, length-drop sign points, ranged-takes kind (sign + length digits) v))
@@ -134,7 +134,7 @@ unfolding class_reading
 class-takes coding text bytes =
     let run : List ℕ = take_while (has_point text) (points_of coding bytes) in
     let short : length run ≤ length bytes =
-        omega (arith, length-prefix_len (has_point text) (points_of coding bytes), prefix_len-le-length (has_point text) (points_of coding bytes), length-points coding bytes) in
+    omega (arith, length-prefix_len (has_point text) (points_of coding bytes), prefix_len-le-length (has_point text) (points_of coding bytes), length-points coding bytes) in
     either-takes (length bytes) (not (is_class text)) (Hard cause.BadParam) (if nat_eq (length run) 0 then Hard cause.Invalid else Good (length run) run)
     (λ _. omega arith)
     (λ _. either-takes (length bytes) (nat_eq (length run) 0) (Hard cause.Invalid) (Good (length run) run) (λ _. omega arith) (λ _. short))

@@ -95,5 +95,7 @@ unfolding label_of
 is-Enum v n e = sym (roll-out-Val v) ∙ ap roll-Val (in-Enum (out-Val v) n e) ∙ val.rolls-Enum n
 
 pub ruleset numbers = (number_of-Num, text_of-Num, label_of-Num)
+
 pub ruleset texts = (number_of-Text, text_of-Text, label_of-Text)
+
 pub ruleset labels = (number_of-Enum, text_of-Enum, label_of-Enum)

@@ -9,9 +9,7 @@ ghost use Rattle.pads_dispatch.specs.Sizes.{taken};
 use crate::applied::{Applied, with_args};
 use crate::kinds::range_of;
 use crate::{Arg, Args, Base};
-use pads_bases::{
-    read_bin, read_char, read_class, read_enum, read_fixed, read_ip, read_until,
-};
+use pads_bases::{read_bin, read_char, read_class, read_enum, read_fixed, read_ip, read_until};
 use pads_int::{read_int, read_int_fw};
 use pads_value::{Bytes, Cause, Memory, Read, Val};
 use std::alloc::Global;
@@ -69,7 +67,12 @@ fn read_applied(alloc: Global, whole: Applied<'_>, bytes: &[u8]) -> Result<Read<
 
 /// The reading of a base type; arguments of a wrong number or sort are bad ones.
 #[tactic(auto, unfolding(crate::specs::Readings::base_reading))]
-fn read_or_refuse(alloc: Global, base: &Base, args: &[Arg], bytes: &[u8]) -> Result<Read<Val>, Memory>
+fn read_or_refuse(
+    alloc: Global,
+    base: &Base,
+    args: &[Arg],
+    bytes: &[u8],
+) -> Result<Read<Val>, Memory>
     requires labels { labels_fit base.now ≡ true }
     ensures reading { IfOk result (λ read. read ≡ base_reading base.now args.now bytes.now) }
 {

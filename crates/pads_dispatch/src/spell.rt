@@ -22,7 +22,10 @@ use std::alloc::Global;
 const WIDEST: i128 = 16_777_216;
 
 /// The bytes of a short spelling.
-fn owned<const N: usize>(alloc: Global, spelled: Option<ArrayVec<u8, N>>) -> Result<Option<Bytes>, Memory>
+fn owned<const N: usize>(
+    alloc: Global,
+    spelled: Option<ArrayVec<u8, N>>,
+) -> Result<Option<Bytes>, Memory>
     ensures same { IfOk result (λ s. s ≡ option_map (λ short. short.items) spelled.entry) }
 {
     match spelled {
@@ -32,7 +35,12 @@ fn owned<const N: usize>(alloc: Global, spelled: Option<ArrayVec<u8, N>>) -> Res
 }
 
 /// The bytes of a text where it is one of the base type's.
-fn text_if(alloc: Global, is_one: bool, coding: Coding, text: &[u8]) -> Result<Option<Bytes>, Memory>
+fn text_if(
+    alloc: Global,
+    is_one: bool,
+    coding: Coding,
+    text: &[u8],
+) -> Result<Option<Bytes>, Memory>
     ensures text { IfOk result (λ s. s ≡ (if is_one then Some (bytes_of coding text.now) else None)) }
 {
     if is_one {
@@ -44,7 +52,12 @@ fn text_if(alloc: Global, is_one: bool, coding: Coding, text: &[u8]) -> Result<O
 
 /// The bytes of a text in a field of its width.
 #[tactic(auto, unfolding(pads_bases::specs::Strings::fixed_spelling))]
-fn spell_fixed(alloc: Global, coding: Coding, width: i128, text: &[u8]) -> Result<Option<Bytes>, Memory>
+fn spell_fixed(
+    alloc: Global,
+    coding: Coding,
+    width: i128,
+    text: &[u8],
+) -> Result<Option<Bytes>, Memory>
     ensures spelling { IfOk result (λ s. s ≡ fixed_spelling coding width text.now) }
 {
     if width != text.len() as i128 {
@@ -81,7 +94,12 @@ fn is_class_text(class: &[u8], text: &[u8]) -> bool
 
 /// The bytes of a label's spelling.
 #[tactic(auto, unfolding(pads_bases::specs::Enums::enum_spelling))]
-fn spell_enum(alloc: Global, coding: Coding, labels: &Labels, label: u16) -> Result<Option<Bytes>, Memory>
+fn spell_enum(
+    alloc: Global,
+    coding: Coding,
+    labels: &Labels,
+    label: u16,
+) -> Result<Option<Bytes>, Memory>
     ensures spelling { IfOk result (λ s. s ≡ enum_spelling coding labels.now label) }
 {
     match labels.get(label.into()) {

@@ -1,4 +1,4 @@
-//! Direct cases through the dispatch: what each base type reads and how it spells.
+//! Direct cases through the dispatch, as tables: what each base type reads and how it spells.
 use crate::{Arg, Args, Base, labels_fit, read_base, spell_base};
 use pads_bases::{Label, Labels, Order};
 use pads_code::Coding;
@@ -10,28 +10,178 @@ use std::test::Fail;
 
 const ASCII: Coding = Coding::Ascii;
 
-/// No argument.
-fn no_args(alloc: Global) -> Args {
-    Items::new(alloc)
+const BAD: Read<Content> = Read::Hard(Cause::BadParam);
+
+/// What an argument or a value holds.
+#[derive(Clone, Copy)]
+enum Content<'a> {
+    Nothing,
+    Num(i128),
+    Text(&'a [u8]),
 }
 
-/// One number.
-fn number(alloc: Global, number: i128) -> Result<Args, Memory> {
+fn args_of(alloc: Global, content: Content<'_>) -> Result<Args, Memory> {
     let mut args = Items::new(alloc);
-    args.push(Arg::Num(number))?;
+    match content {
+        Content::Nothing => {}
+        Content::Num(number) => args.push(Arg::Num(number))?,
+        Content::Text(text) => args.push(Arg::Text(Bytes::from_slice(alloc, text)?))?,
+    }
     Ok(args)
 }
 
-/// One text.
-fn text(alloc: Global, points: &[u8]) -> Result<Args, Memory> {
-    let mut args = Items::new(alloc);
-    args.push(Arg::Text(Bytes::from_slice(alloc, points)?))?;
-    Ok(args)
+fn value_of(alloc: Global, content: Content<'_>) -> Result<Val, Memory> {
+    Ok(match content {
+        Content::Nothing => Val::Unit,
+        Content::Num(number) => Val::Num(number),
+        Content::Text(text) => Val::Text(Bytes::from_slice(alloc, text)?),
+    })
 }
 
-/// A text as a value.
-fn text_value(alloc: Global, points: &[u8]) -> Result<Val, Memory> {
-    Ok(Val::Text(Bytes::from_slice(alloc, points)?))
+/// The reading is the wanted one.
+fn assert_read(
+    rt: &impl Abort,
+    alloc: Global,
+    read: Read<Val>,
+    wanted: Read<Content>,
+) -> Result<(), Memory> {
+    match (read, wanted) {
+        (Read::Good(size, value), Read::Good(wanted_size, content)) => {
+            assert_eq!(rt; size, wanted_size);
+            assert!(rt; value.same(&value_of(alloc, content)?));
+        }
+        (Read::Soft(size, cause), Read::Soft(wanted_size, wanted_cause)) => {
+            assert_eq!(rt; size, wanted_size);
+            assert_eq!(rt; cause, wanted_cause);
+        }
+        (Read::Hard(cause), Read::Hard(wanted_cause)) => assert_eq!(rt; cause, wanted_cause),
+        _ => assert!(rt; false),
+    }
+    Ok(())
+}
+
+/// The base type with this argument reads so.
+fn assert_reads(
+    rt: &impl Abort,
+    alloc: Global,
+    base: &Base,
+    arg: Content<'_>,
+    bytes: &[u8],
+    wanted: Read<Content>,
+) -> Result<(), Memory> {
+    let args = args_of(alloc, arg)?;
+    if labels_fit(base) {
+        let read = read_base(alloc, base, &args, bytes)?;
+        assert_read(rt, alloc, read, wanted)
+    } else {
+        Ok(assert!(rt; false))
+    }
+}
+
+/// The base type with this argument spells the value so.
+fn assert_spells(
+    rt: &impl Abort,
+    alloc: Global,
+    base: &Base,
+    arg: Content<'_>,
+    value: &Val,
+    wanted: Option<&[u8]>,
+) -> Result<(), Memory> {
+    let args = args_of(alloc, arg)?;
+    match (spell_base(alloc, base, &args, value)?, wanted) {
+        (Some(spelled), Some(wanted)) => assert!(rt; spelled.as_slice() == wanted),
+        (None, None) => {}
+        _ => assert!(rt; false),
+    }
+    Ok(())
+}
+
+#[test]
+fn numbers_are_read(rt: HostRuntime) -> Result<(), Fail> {
+    let nothing = Content::Nothing;
+    let int = Base::Int(Kind::I8, Coding::Ebcdic);
+    let field = Base::IntFw(Kind::U16, ASCII);
+    let high = Base::Bin(Kind::I16, Order::High);
+    let ip = Base::Ip(ASCII);
+    let cases: [(&Base, Content, &[u8], Read<Content>); 12] = [
+        (&int, nothing, b"\x60\xf1", Read::Good(2, Content::Num(-1))),
+        (&int, nothing, b"\xf9\xf9\xf9", Read::Soft(3, Cause::Range)),
+        (&int, Content::Num(1), b"\xf1", BAD),
+        (
+            &field,
+            Content::Num(4),
+            b"  12",
+            Read::Good(4, Content::Num(12)),
+        ),
+        (&field, nothing, b"  12", BAD),
+        (
+            &high,
+            nothing,
+            b"\x80\x00",
+            Read::Good(2, Content::Num(-32768)),
+        ),
+        (
+            &high,
+            Content::Num(1),
+            b"\x80",
+            Read::Good(1, Content::Num(-128)),
+        ),
+        (&high, Content::Num(0), b"\x80", BAD),
+        (&high, Content::Num(9), b"\x80", BAD),
+        (&high, nothing, b"\x80", Read::Hard(Cause::Width)),
+        (&ip, nothing, b"1.2.3.256", Read::Hard(Cause::Invalid)),
+        (&ip, nothing, b"0.0.1.0 ", Read::Good(7, Content::Num(256))),
+    ];
+    for (base, arg, bytes, wanted) in cases {
+        assert_reads(&rt, rt.alloc(), base, arg, bytes, wanted)?;
+    }
+    Ok(())
+}
+
+#[test]
+fn texts_are_read(rt: HostRuntime) -> Result<(), Fail> {
+    let class = Base::Class(ASCII);
+    let until = Base::Until(ASCII);
+    let fixed = Base::Fixed(ASCII);
+    let rest = Base::UntilEor(ASCII);
+    let ab = Read::Good(2, Content::Text(b"AB"));
+    let cases: [(&Base, Content, &[u8], Read<Content>); 10] = [
+        (&class, Content::Text(b"A-C"), b"ABD", ab),
+        (&class, Content::Text(b"C-A"), b"ABD", BAD),
+        (&class, Content::Num(1), b"ABD", BAD),
+        (&until, Content::Text(b"|"), b"AB|c", ab),
+        (&until, Content::Text(b"||"), b"AB|c", BAD),
+        (&until, Content::Text(b""), b"AB|c", BAD),
+        (&fixed, Content::Num(2), b"ABD", ab),
+        (&fixed, Content::Text(b"|"), b"ABD", BAD),
+        (&rest, Content::Nothing, b"AB", ab),
+        (&rest, Content::Text(b"|"), b"AB", BAD),
+    ];
+    for (base, arg, bytes, wanted) in cases {
+        assert_reads(&rt, rt.alloc(), base, arg, bytes, wanted)?;
+    }
+    Ok(())
+}
+
+#[test]
+fn values_are_spelled(rt: HostRuntime) -> Result<(), Fail> {
+    let nothing = Content::Nothing;
+    let int = Base::Int(Kind::I8, Coding::Ebcdic);
+    let fixed = Base::Fixed(ASCII);
+    let class = Base::Class(ASCII);
+    let cases: [(&Base, Content, Content, Option<&[u8]>); 6] = [
+        (&int, nothing, Content::Num(-1), Some(b"\x60\xf1")),
+        (&int, nothing, Content::Num(128), None),
+        (&int, nothing, Content::Text(b"1"), None),
+        (&fixed, Content::Num(2), Content::Text(b"AB"), Some(b"AB")),
+        (&fixed, Content::Num(3), Content::Text(b"AB"), None),
+        (&class, Content::Text(b"B-C"), Content::Text(b"AB"), None),
+    ];
+    for (base, arg, content, wanted) in cases {
+        let value = value_of(rt.alloc(), content)?;
+        assert_spells(&rt, rt.alloc(), base, arg, &value, wanted)?;
+    }
+    Ok(())
 }
 
 fn label(alloc: Global, name: &[u8], spelling: &[u8]) -> Result<Label, Memory> {
@@ -41,176 +191,22 @@ fn label(alloc: Global, name: &[u8], spelling: &[u8]) -> Result<Label, Memory> {
     })
 }
 
-/// The labels `A` and `B`, spelled `a` and `ab`.
-fn letters(alloc: Global) -> Result<Base, Memory> {
-    let mut labels: Labels = Items::new(alloc);
-    labels.push(label(alloc, b"A", b"a")?)?;
-    labels.push(label(alloc, b"B", b"ab")?)?;
-    Ok(Base::Enum(ASCII, labels))
-}
-
-/// What the base reads is this value over so many bytes.
-fn assert_good(
-    rt: &impl Abort,
-    alloc: Global,
-    base: &Base,
-    args: &Args,
-    bytes: &[u8],
-    size: u64,
-    wanted: &Val,
-) -> Result<(), Memory> {
-    if !labels_fit(base) {
-        return Ok(assert!(rt; false));
-    }
-    match read_base(alloc, base, args, bytes)? {
-        Read::Good(taken, value) => {
-            assert_eq!(rt; taken, size);
-            assert!(rt; value.same(wanted));
-        }
-        _ => assert!(rt; false),
-    }
-    Ok(())
-}
-
-/// The base fails with this cause, over so many bytes; over none it is hard.
-fn assert_fault(
-    rt: &impl Abort,
-    alloc: Global,
-    base: &Base,
-    args: &Args,
-    bytes: &[u8],
-    size: u64,
-    wanted: Cause,
-) -> Result<(), Memory> {
-    if !labels_fit(base) {
-        return Ok(assert!(rt; false));
-    }
-    match read_base(alloc, base, args, bytes)? {
-        Read::Hard(cause) => {
-            assert_eq!(rt; size, 0);
-            assert_eq!(rt; cause, wanted);
-        }
-        Read::Soft(taken, cause) => {
-            assert_eq!(rt; taken, size);
-            assert_eq!(rt; cause, wanted);
-        }
-        Read::Good(_, _) => assert!(rt; false),
-    }
-    Ok(())
-}
-
-/// The base spells the value so.
-fn assert_spelled(
-    rt: &impl Abort,
-    alloc: Global,
-    base: &Base,
-    args: &Args,
-    value: &Val,
-    wanted: &[u8],
-) -> Result<(), Memory> {
-    match spell_base(alloc, base, args, value)? {
-        Some(spelled) => assert!(rt; spelled.as_slice() == wanted),
-        None => assert!(rt; false),
-    }
-    Ok(())
-}
-
-/// The base has no spelling of the value.
-fn assert_unspelled(
-    rt: &impl Abort,
-    alloc: Global,
-    base: &Base,
-    args: &Args,
-    value: &Val,
-) -> Result<(), Memory> {
-    assert!(rt; spell_base(alloc, base, args, value)?.is_none());
-    Ok(())
-}
-
 #[test]
-fn integers_are_read_and_spelled(rt: HostRuntime) -> Result<(), Fail> {
-    let al = rt.alloc();
-    let int = Base::Int(Kind::I8, Coding::Ebcdic);
-    let none = no_args(al);
-    let least = Val::Num(-128);
-    assert_good(&rt, al, &int, &none, b"\x60\xf1\xf2\xf8", 4, &least)?;
-    assert_spelled(&rt, al, &int, &none, &least, b"\x60\xf1\xf2\xf8")?;
-    assert_fault(&rt, al, &int, &none, b"\xf9\xf9\xf9", 3, Cause::Range)?;
-    assert_unspelled(&rt, al, &int, &none, &Val::Num(999))?;
-    let field = Base::IntFw(Kind::U16, ASCII);
-    let four = number(al, 4)?;
-    assert_good(&rt, al, &field, &four, b"  12x", 4, &Val::Num(12))?;
-    assert_spelled(&rt, al, &field, &four, &Val::Num(12), b"0012")?;
-    Ok(())
-}
-
-#[test]
-fn binary_integers_have_their_kinds_size_or_another(rt: HostRuntime) -> Result<(), Fail> {
-    let al = rt.alloc();
-    let high = Base::Bin(Kind::I16, Order::High);
-    let none = no_args(al);
-    let least = Val::Num(-32768);
-    assert_good(&rt, al, &high, &none, b"\x80\x00\x01", 2, &least)?;
-    assert_spelled(&rt, al, &high, &none, &least, b"\x80\x00")?;
-    assert_good(&rt, al, &high, &number(al, 1)?, b"\x80\x00", 1, &Val::Num(-128))?;
-    assert_fault(&rt, al, &high, &number(al, 0)?, b"\x80", 0, Cause::BadParam)?;
-    assert_fault(&rt, al, &high, &number(al, 9)?, b"\x80", 0, Cause::BadParam)?;
-    let low = Base::Bin(Kind::U32, Order::Low);
-    assert_good(&rt, al, &low, &none, b"\x01\x02\x00\x00", 4, &Val::Num(513))?;
-    Ok(())
-}
-
-#[test]
-fn texts_are_read_and_spelled(rt: HostRuntime) -> Result<(), Fail> {
-    let al = rt.alloc();
-    let none = no_args(al);
-    let bar = text(al, b"|")?;
-    let ab = text_value(al, b"AB")?;
-    assert_good(&rt, al, &Base::Until(ASCII), &bar, b"AB|c", 2, &ab)?;
-    assert_good(&rt, al, &Base::UntilEor(ASCII), &none, b"AB", 2, &ab)?;
-    assert_good(&rt, al, &Base::Fixed(ASCII), &number(al, 2)?, b"ABD", 2, &ab)?;
-    assert_unspelled(&rt, al, &Base::Fixed(ASCII), &number(al, 3)?, &ab)?;
-    let class = Base::Class(ASCII);
-    assert_good(&rt, al, &class, &text(al, b"A-C")?, b"ABD", 2, &ab)?;
-    assert_fault(&rt, al, &class, &text(al, b"C-A")?, b"ABD", 0, Cause::BadParam)?;
-    assert_spelled(&rt, al, &class, &text(al, b"A-C")?, &ab, b"AB")?;
-    assert_unspelled(&rt, al, &class, &text(al, b"B-C")?, &ab)?;
-    assert_good(&rt, al, &Base::Char(ASCII), &none, b"x", 1, &text_value(al, b"x")?)?;
-    assert_unspelled(&rt, al, &Base::Char(ASCII), &none, &ab)?;
-    Ok(())
-}
-
-#[test]
-fn addresses_and_labels_are_read_and_spelled(rt: HostRuntime) -> Result<(), Fail> {
-    let al = rt.alloc();
-    let none = no_args(al);
-    let ip = Base::Ip(ASCII);
-    let host = Val::Num(3481821489);
-    assert_good(&rt, al, &ip, &none, b"207.136.97.49 ", 13, &host)?;
-    assert_spelled(&rt, al, &ip, &none, &host, b"207.136.97.49")?;
-    assert_fault(&rt, al, &ip, &none, b"1.2.3.256", 0, Cause::Invalid)?;
-    let letters = letters(al)?;
-    assert_good(&rt, al, &letters, &none, b"abc", 2, &Val::Enum(1))?;
-    assert_fault(&rt, al, &letters, &none, b"c", 0, Cause::Enum)?;
-    assert_spelled(&rt, al, &letters, &none, &Val::Enum(1), b"ab")?;
-    assert_unspelled(&rt, al, &letters, &none, &Val::Enum(2))?;
-    assert_unspelled(&rt, al, &letters, &none, &host)?;
-    Ok(())
-}
-
-#[test]
-fn arguments_of_a_wrong_number_or_sort_are_bad(rt: HostRuntime) -> Result<(), Fail> {
-    let al = rt.alloc();
-    let (none, one, bar) = (no_args(al), number(al, 1)?, text(al, b"|")?);
-    let int = Base::Int(Kind::I8, ASCII);
-    assert_fault(&rt, al, &int, &one, b"1", 0, Cause::BadParam)?;
-    assert_unspelled(&rt, al, &int, &one, &Val::Num(1))?;
-    assert_fault(&rt, al, &Base::IntFw(Kind::I8, ASCII), &none, b"1", 0, Cause::BadParam)?;
-    assert_fault(&rt, al, &Base::Fixed(ASCII), &bar, b"1", 0, Cause::BadParam)?;
-    assert_fault(&rt, al, &Base::Class(ASCII), &one, b"1", 0, Cause::BadParam)?;
-    assert_fault(&rt, al, &Base::UntilEor(ASCII), &bar, b"1", 0, Cause::BadParam)?;
-    let until = Base::Until(ASCII);
-    assert_fault(&rt, al, &until, &text(al, b"")?, b"1", 0, Cause::BadParam)?;
-    assert_fault(&rt, al, &until, &text(al, b"||")?, b"1", 0, Cause::BadParam)?;
+fn labels_go_by_their_spelling(rt: HostRuntime) -> Result<(), Fail> {
+    let mut labels: Labels = Items::new(rt.alloc());
+    labels.push(label(rt.alloc(), b"A", b"a")?)?;
+    labels.push(label(rt.alloc(), b"B", b"ab")?)?;
+    let letters = Base::Enum(ASCII, labels);
+    let none = Content::Nothing;
+    assert_spells(&rt, rt.alloc(), &letters, none, &Val::Enum(1), Some(b"ab"))?;
+    assert_spells(&rt, rt.alloc(), &letters, none, &Val::Enum(2), None)?;
+    assert_reads(
+        &rt,
+        rt.alloc(),
+        &letters,
+        none,
+        b"c",
+        Read::Hard(Cause::Enum),
+    )?;
     Ok(())
 }

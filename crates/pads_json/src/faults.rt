@@ -90,15 +90,7 @@ pub(crate) fn with_faults<'m>(
     match form_at(terms, true, depth, term) {
         None => Ok(faults),
         Some(form) => {
-            let faults = with_kids(
-                terms,
-                alloc,
-                faults,
-                pd.kids.as_slice(),
-                place,
-                value,
-                form,
-            )?;
+            let faults = with_kids(terms, alloc, faults, pd.kids.as_slice(), place, value, form)?;
             Ok(faults)
         }
     }
@@ -120,15 +112,7 @@ fn with_kids<'m>(
     let mut faults = faults;
     for i in 0..kids.len() {
         let slot = slot_at(terms, form.term, value, i as u64);
-        faults = with_kid(
-            terms,
-            alloc,
-            faults,
-            &kids[i],
-            place,
-            form.depth,
-            slot,
-        )?;
+        faults = with_kid(terms, alloc, faults, &kids[i], place, form.depth, slot)?;
     }
     Ok(faults)
 }
@@ -151,14 +135,7 @@ fn with_kid<'m>(
         Some(slot) => {
             let below = Place::Below(&*place, slot.step);
             with_faults(
-                terms,
-                alloc,
-                faults,
-                kid,
-                &below,
-                slot.value,
-                depth,
-                slot.term,
+                terms, alloc, faults, kid, &below, slot.value, depth, slot.term,
             )
         }
     }

@@ -12,3 +12,6 @@ mod text;
 mod value;
 
 pub use line::record_line;
+
+#[cfg(test)]
+mod tests;

@@ -7,8 +7,8 @@ ghost use Rattle.pads_json.specs.Seen.{seen, things};
 use crate::faults::{span_json, with_faults, with_own_at};
 use crate::json::{Json, Members, Things};
 use crate::place::Place;
-use crate::value::value as value_json;
 use crate::terms::Terms;
+use crate::value::value as value_json;
 use pads_calc::{Module, Shape, Term};
 use pads_value::{Bytes, Class, Items, Memory, Pd, Row, Val};
 use std::alloc::Global;
@@ -84,7 +84,12 @@ fn with_body<'m>(
 }
 
 /// All faults of a row.
-fn row_faults<'m>(terms: &Terms<'m>, alloc: Global, row: &'m Row, body: &'m Term) -> Result<Things, Memory>
+fn row_faults<'m>(
+    terms: &Terms<'m>,
+    alloc: Global,
+    row: &'m Row,
+    body: &'m Term,
+) -> Result<Things, Memory>
     ensures faults { IfOk result (λ all. things all ≡ row_faults_of terms.now.decls.now terms.now.names.now body.now row.now.value row.now.pd) }
 {
     let faults = with_own_at(alloc, Things::new(alloc), ".", &row.pd)?;
@@ -122,7 +127,12 @@ fn row_members(
 }
 
 /// The object of a record line.
-fn row_json<'m>(terms: &Terms<'m>, alloc: Global, row: &'m Row, body: &'m Term) -> Result<Json, Memory>
+fn row_json<'m>(
+    terms: &Terms<'m>,
+    alloc: Global,
+    row: &'m Row,
+    body: &'m Term,
+) -> Result<Json, Memory>
     ensures json { IfOk result (λ json. seen json ≡ row_data terms.now.decls.now terms.now.names.now body.now row.now) }
 {
     let class = Json::word(alloc, class_name(row.pd.class))?;
@@ -133,7 +143,7 @@ fn row_json<'m>(terms: &Terms<'m>, alloc: Global, row: &'m Row, body: &'m Term) 
 }
 
 /// The line of a row, by the declarations, the names and the shape of its module.
-fn line(alloc: Global, terms: &Terms<'_>, shape: Shape, row: &Row) -> Result<Bytes, Memory>
+pub(crate) fn line(alloc: Global, terms: &Terms<'_>, shape: Shape, row: &Row) -> Result<Bytes, Memory>
     ensures line { IfOk result (λ line. line ≡ line_told terms.now.decls.now terms.now.names.now shape row.now) }
 {
     let body = body(alloc, shape, row.number);

@@ -117,12 +117,7 @@ pub(crate) fn slot_at<'m>(
     ensures slot { option_map slot_seen result ≡ slot_of terms.now.names.now term.now (option_copied value.entry) number }
 {
     match term {
-        Term::Struct(parts) => part_slot(
-            terms,
-            number,
-            part_of(value, number),
-            parts.get(number),
-        ),
+        Term::Struct(parts) => part_slot(terms, number, part_of(value, number), parts.get(number)),
         Term::Alt(_) | Term::Switch(_, _) => branch_slot(terms, term, value, number),
         Term::Seq(seq) => Some(Slot {
             step: Step::Element(number),

@@ -6,8 +6,8 @@ ghost use Rattle.pads_json.specs.Values.{shown, number_told, text_told, base_tol
 use crate::form::form_at;
 use crate::json::{Json, Members, Things};
 use crate::slot::{arm_at, name_at};
-use crate::text::of_points;
 use crate::terms::Terms;
+use crate::text::of_points;
 use pads_calc::{Base, Part, Result2, Term};
 use pads_value::{Memory, Val};
 use std::alloc::Global;
@@ -191,13 +191,7 @@ fn array_value<'m>(
     ensures value { IfOk result (λ json. seen json ≡ array_told terms.now.decls.now terms.now.names.now depth elem.now val.now) }
 {
     match val {
-        Val::Array(elements) => elements_value(
-            terms,
-            alloc,
-            elements.as_slice(),
-            depth,
-            elem,
-        ),
+        Val::Array(elements) => elements_value(terms, alloc, elements.as_slice(), depth, elem),
         _ => Ok(Json::null()),
     }
 }

@@ -17,7 +17,7 @@ use Rattle.pads_calc.specs.declared.turn.Turn.TheVariants as turn
 use Rattle.pads_calc.specs.Counts.{counts_fit}
 use Rattle.pads_calc.specs.Readings.{is_ok}
 use Rattle.pads_calc.proofs.Rolls.{read-Unit, read-Base, read-Lit, read-Eor, read-Struct, read-Alt, read-Switch, read-Guard, read-Seq, read-Call, read-Compute, read-Absorb, read-Scan}
-use Rattle.pads_calc.proofs.CountRolls.{counts-Guard, counts-Absorb, counts-Scan, few-parts, fit-parts, few-arms, fit-arms, few-cases, fit-cases, fit-elem, fit-sep, fit-stop, fit-body, fit-base, all-there}
+use Rattle.pads_calc.proofs.CountRolls.{counts-Base, counts-Guard, counts-Absorb, counts-Scan, few-parts, fit-parts, few-arms, fit-arms, few-cases, fit-cases, fit-elem, fit-sep, fit-stop, fit-body, all-there}
 use Rattle.pads_calc.proofs.Calls.{call-deep, call-unargued, call-undeclared, call-found}
 use Rattle.pads_calc.proofs.Scans.{scan-here, scan-on, scan-found, scan-next, scan-over}
 use Rattle.pads_calc.proofs.Runs.{follows-push, parts-next, extends-bind}
@@ -29,7 +29,9 @@ use Rattle.pads_walk.proofs.Weights.{weight, weight-call}
 use Rattle.pads_walk.proofs.reader.Reader.+reader.Goals as goal
 
 pub read-base-requires : goal.read-base-requires
-read-base-requires t c = record { labels = fit-base c.in-Base.base c.in-Base.args (rw c.in-Base.is at c.requires.counted); place = c.requires.within }
+read-base-requires t c =
+    let fits : counts_fit (term.Base c.in-Base.base c.in-Base.args) ≡ true = rw c.in-Base.is at c.requires.counted in
+    record { labels = sym (counts-Base c.in-Base.base c.in-Base.args) ∙ fits; place = c.requires.within }
 
 pub read-read_struct-requires : goal.read-read_struct-requires
 read-read_struct-requires t c =
