@@ -135,9 +135,6 @@ counts-Unit = ap counts_fit (sym term.rolls-Unit) ∙ counts-roll Term-F.Unit
 pub counts-Base : (base : Base) (args : List Expr) → counts_fit (term.Base base args) ≡ labels_fit base
 counts-Base base args = ap counts_fit (sym (term.rolls-Base base args)) ∙ counts-roll (Term-F.Base base args)
 
-pub fit-base : (base : Base) (args : List Expr) → counts_fit (term.Base base args) ≡ true → labels_fit base ≡ true
-fit-base base args h = sym (counts-Base base args) ∙ h
-
 pub counts-Lit : (literal : List ℕ) → counts_fit (term.Lit literal) ≡ true
 counts-Lit literal = ap counts_fit (sym (term.rolls-Lit literal)) ∙ counts-roll (Term-F.Lit literal)
 
