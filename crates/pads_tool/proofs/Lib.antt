@@ -13,4 +13,5 @@ pub mod Blame
 pub mod ReadSteps
 pub mod Driven
 pub mod NarrowModules
+pub mod NarrowScopes
 pub mod Statuses

@@ -1,5 +1,5 @@
 -- The module of a description in narrow form, step by step.
-use Rattle.std.proofs.Common.{◌≡◌, ◌∙◌, sym, ap, refl, ℕ, ◌+◌, ◌<◌, ◌≤◌, ◌&&◌, Bool, true, List, [], ◌∷◌, ◌++◌, length, length-append, append_assoc, append-nil, Option, None, Some, MatchOption, arith}
+use Rattle.std.proofs.Common.{◌≡◌, ◌∙◌, sym, ap, refl, ℕ, suc, ◌+◌, ◌<◌, ◌≤◌, ◌&&◌, Bool, true, List, [], ◌∷◌, ◌++◌, length, length-append, append_assoc, append-nil, Option, None, Some, MatchOption, arith}
 use Rattle.std.specs.List.{list_all}
 use Rattle.std.proofs.lemmas.Bool.{le-leb}
 use Rattle.pads_value.specs.Names.{NumbersName}
@@ -7,6 +7,7 @@ use Rattle.pads_code.specs.declared.Coding.TheVariants as coding
 use Rattle.pads_int.specs.declared.kind.Kind.TheVariants as kind
 use Rattle.pads_dispatch.specs.declared.base.Base.TheVariants as base
 use Rattle.pads_calc.specs.Counts.{counts_fit, few, module_counts}
+use Rattle.pads_calc.specs.declared.decl.Decl.{Decl}
 use Rattle.pads_calc.specs.declared.term.Part.{Part}
 use Rattle.pads_calc.specs.declared.term.Term.TheVariants as term
 use Rattle.pads_calc.proofs.CountRolls.{counts-Base, counts-Lit, counts-Absorb, counts-Scan, counts-Struct}
@@ -46,7 +47,7 @@ made-none names parts made none room = record { parts_are = rw none refl; names_
 
 pub made-more : (made made' : List Part) (names names' : List (List ℕ)) (rest more : List NarrowPart) (one : NarrowPart) (item : Part) (first : List (List ℕ)) (parts : List NarrowPart)
     → rest ≡ one ∷ more → Made made names rest first parts → item ≡ part_in names one → names' ≡ with_part names one → made' ≡ made ++ item ∷ [] → Made made' names' more first parts
-unfolding (parts_in_turn, names_in_turn)
+unfolding parts_in_turn names_in_turn
 made-more made made' names names' rest more one item first parts e m item_is names_are made_is =
     let room : length names + length (one ∷ more) ≤ 65535 = rw e at m.room in
     let grows = part-room names one in
@@ -58,7 +59,7 @@ made-more made made' names names' rest more one item first parts e m item_is nam
 
 pub made-all : (made : List Part) (names : List (List ℕ)) (rest : List NarrowPart) (first : List (List ℕ)) (parts : List NarrowPart)
     → length rest < 1 → Made made names rest first parts → (made ≡ parts_in_turn first parts) × (names ≡ names_in_turn first parts)
-unfolding (parts_in_turn, names_in_turn)
+unfolding parts_in_turn names_in_turn
 made-all made names [] first parts h m = (sym (append-nil made) ∙ m.parts_are, m.names_are)
 made-all made names (one ∷ rest) first parts h m = absurd (omega arith)
 
@@ -66,7 +67,7 @@ made-all made names (one ∷ rest) first parts h m = absurd (omega arith)
 parts-length : (names : List (List ℕ)) (parts : List NarrowPart) → length (parts_in_turn names parts) ≡ length parts
 unfolding parts_in_turn
 parts-length names [] = refl
-parts-length names (first ∷ parts) = ap (λ n. n + 1) (parts-length (with_part names first) parts)
+parts-length names (first ∷ parts) = ap suc (parts-length (with_part names first) parts)
 
 part-counts : (names : List (List ℕ)) (first : NarrowPart) → counts_fit (part_in names first).term ≡ true
 part-counts names (part.Number name) = counts-Base (base.Int kind.U8 coding.Ascii) []
@@ -83,3 +84,7 @@ pub struct-counts : (name : ℕ) (names : List (List ℕ)) (parts : List NarrowP
 struct-counts name names parts short =
     let few_parts : few (parts_in_turn names parts) ≡ true = rw (parts-length names parts) (le-leb (length parts) 65535 (omega (arith, short))) in
     rw (counts-Struct (parts_in_turn names parts), few_parts, parts-count names parts) refl
+
+pub module-counts : (decls : List Decl) (number : ℕ) (parts : List Part) (names : List (List ℕ)) (items read : List NarrowPart)
+    → decls ≡ struct_decl number parts ∷ [] → parts ≡ parts_in_turn names read → read ≡ items → length items ≤ 4096 → module_counts decls ≡ true
+module-counts decls number parts names items read decls_are parts_are same short = rw (decls_are, parts_are, same) (struct-counts number names items short)

@@ -7,6 +7,7 @@ use Rattle.pads_code.specs.declared.Coding.TheVariants as coding
 use Rattle.pads_int.specs.declared.kind.Kind.TheVariants as kind
 use Rattle.pads_dispatch.specs.declared.base.Base.TheVariants as base
 use Rattle.pads_calc.specs.Scopes.{in_scope, name_there, binding_of, parts_in, bind_name, module_in_scope}
+use Rattle.pads_calc.specs.declared.decl.Decl.{Decl}
 use Rattle.pads_calc.specs.declared.term.Part.{Part}
 use Rattle.pads_calc.specs.declared.term.Term.TheVariants as term
 use Rattle.pads_calc.proofs.TermRolls.{in-Base, in-Lit, in-Struct, in-Absorb, in-Scan}
@@ -49,7 +50,7 @@ name-there n names (part.Literal c) h = refl
 
 names-there : (n : ℕ) (names : List (List ℕ)) (parts : List NarrowPart) → length (names_in_turn names parts) ≤ n
     → list_all (λ part. name_there n part.name) (parts_in_turn names parts) ≡ true
-unfolding (parts_in_turn, names_in_turn)
+unfolding parts_in_turn names_in_turn
 names-there n names [] h = refl
 names-there n names (first ∷ parts) h =
     rw (name-there n names first (omega (arith, h, turn-grows (with_part names first) parts))) (names-there n (with_part names first) parts h)
@@ -61,3 +62,9 @@ struct-in-scope name parts =
     let made = parts_in_turn (name ∷ []) parts in
     let first : nat_lt 0 n ≡ true = le-leb 1 n (omega (arith, turn-grows (name ∷ []) parts)) in
     rw (first, in-Struct n (0 ∷ []) made [], names-there n (name ∷ []) parts (omega arith), parts-in n (0 ∷ []) (name ∷ []) parts []) refl
+
+pub module-in-scope : (decls : List Decl) (number : ℕ) (parts : List Part) (none named names : List (List ℕ)) (name : List ℕ) (read : List NarrowPart)
+    → none ≡ [] → number ≡ number_of none name → named ≡ with_name none name → parts ≡ parts_in_turn named read → names ≡ names_in_turn named read
+    → decls ≡ struct_decl number parts ∷ [] → module_in_scope decls names (record { head = None; each = 0 }) ≡ true
+module-in-scope decls number parts none named names name read empty numbered named_are parts_are names_are decls_are =
+    rw (decls_are, names_are, parts_are, named_are, numbered, empty) (struct-in-scope name read)

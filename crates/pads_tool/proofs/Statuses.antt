@@ -39,11 +39,11 @@ pub parsed : (d : Description) (left left' o o' n n' : Option (List ℕ)) (sourc
     → HasSinkCause out out' notes notes' ((number : ℕ) (cut : Cut) → no_notes number cut ≡ []) r
     → ParseGives d left left' o o' source source' out out' (ending_of r)
 parsed d left left' o o' n n' source source' out out' notes notes' (Ok (ended.Finished true)) h read cause =
-    if-known _ _ left (λ input p. (p.0.out_grows, (sym p.1, p.2))) h
+    if-known _ _ left (λ input p. (p.0.out_grows, sym p.1, p.2)) h
 parsed d left left' o o' n n' source source' out out' notes notes' (Ok (ended.Finished false)) h read cause =
-    if-known _ _ left (λ input p. (p.0.out_grows, (sym p.1, p.2))) h
+    if-known _ _ left (λ input p. (p.0.out_grows, sym p.1, p.2)) h
 parsed d left left' o o' n n' source source' out out' notes notes' (Ok ended.ReadFault) h read cause =
-    (read refl, if-known _ _ left (λ input p. (p.0, (p.1, p.2.out_grows))) h)
+    (read refl, if-known _ _ left (λ input p. (p.0, p.1, p.2.out_grows)) h)
 parsed d left left' o o' n n' source source' out out' notes notes' (Ok ended.TooLong) h read cause =
     if-known _ _ left (λ input p. (p.0, p.1.out_grows)) h
 parsed d left left' o o' n n' source source' out out' notes notes' (Err stop.Out) h read cause =
@@ -63,25 +63,25 @@ parsed-none d (Some input) left' o source source' out out' = AppendsPrefix-none 
 
 -- the words asked for a narrow description, and it was read
 asked : (words : List (List ℕ)) (content : List ℕ → Option (List ℕ)) (before now : ℕ) (narrow : Narrow) → OpenGives words content before now (Ok narrow) → AsksFor words content (described narrow)
-asked words content before now narrow h = (h.0, (h.1, if-known _ _ (content h.0) (λ bytes e. ap (option_map described) e) h.2))
+asked words content before now narrow h = (h.0, h.1, if-known _ _ (content h.0) (λ bytes e. ap (option_map described) e) h.2)
 
 Asked : (words : List (List ℕ)) (content : List ℕ → Option (List ℕ)) → Type 0
 Asked words content = (name : List ℕ) × (order_of words ≡ Some (order.Parse name))
 
 order-there : (words : List (List ℕ)) (name : List ℕ) → order_of words ≡ Some (order.Parse name) → order_of words ≢ None
-order-there words name e = rw e cc
+order-there words name e none = let wrong : Some (order.Parse name) ≡ None = sym e ∙ none in cc
 
 -- the run after the description was accepted
 pub run-read : (words : List (List ℕ)) (content : List ℕ → Option (List ℕ)) (left left' o o' : Option (List ℕ)) (files files' source source' out out' : ℕ)
     (narrow : Narrow) (e : Ending) → OpenGives words content files files' (Ok narrow) → ParseGives (described narrow) left left' o o' source source' out out' e
     → RunGives words content left left' o o' files files' source source' out out' (status_of e)
-run-read words content left left' o o' files files' source source' out out' narrow ending.Done h p = (described narrow, (asked words content files files' narrow h, p))
-run-read words content left left' o o' files files' source source' out out' narrow ending.Dirty h p = (described narrow, (asked words content files files' narrow h, p))
-run-read words content left left' o o' files files' source source' out out' narrow ending.ReadFault h p = (p.0, (described narrow, (asked words content files files' narrow h, p.1)))
-run-read words content left left' o o' files files' source source' out out' narrow ending.WriteFault h p = (p.0, (described narrow, (asked words content files files' narrow h, p.1)))
-run-read words content left left' o o' files files' source source' out out' narrow ending.TooLong h p = (described narrow, (asked words content files files' narrow h, p))
+run-read words content left left' o o' files files' source source' out out' narrow ending.Done h p = (described narrow, asked words content files files' narrow h, p)
+run-read words content left left' o o' files files' source source' out out' narrow ending.Dirty h p = (described narrow, asked words content files files' narrow h, p)
+run-read words content left left' o o' files files' source source' out out' narrow ending.ReadFault h p = (p.0, (described narrow, asked words content files files' narrow h, p.1))
+run-read words content left left' o o' files files' source source' out out' narrow ending.WriteFault h p = (p.0, (described narrow, asked words content files files' narrow h, p.1))
+run-read words content left left' o o' files files' source source' out out' narrow ending.TooLong h p = (described narrow, asked words content files files' narrow h, p)
 run-read words content left left' o o' files files' source source' out out' narrow ending.Memory h p =
-    (order-there words h.0 h.1, inr (described narrow, (asked words content files files' narrow h, p)))
+    (order-there words h.0 h.1, inr (described narrow, asked words content files files' narrow h, p))
 run-read words content left left' o o' files files' source source' out out' narrow ending.Usage h p = absurd p
 run-read words content left left' o o' files files' source source' out out' narrow (ending.Refused verdict) h p = absurd p
 run-read words content left left' o o' files files' source source' out out' narrow ending.FileFault h p = absurd p
@@ -91,8 +91,8 @@ pub run-unread : (words : List (List ℕ)) (content : List ℕ → Option (List 
     → OpenGives words content files files' (Err e) → RunGives words content left left' o o files files' source source' out out' (status_of e)
 run-unread words content left left' o files files' source source' out out' ending.Usage h = (h, refl)
 run-unread words content left left' o files files' source source' out out' (ending.Refused verdict) h =
-    ((h.0, (h.1, if-known _ _ (content h.0) (λ bytes e. ap (option_map described) e) h.2)), refl)
-run-unread words content left left' o files files' source source' out out' ending.FileFault h = (order-there words h.0 h.1, (h.2, refl))
+    ((h.0, h.1, if-known _ _ (content h.0) (λ bytes e. ap (option_map described) e) h.2), refl)
+run-unread words content left left' o files files' source source' out out' ending.FileFault h = (order-there words h.0 h.1, h.2, refl)
 run-unread words content left left' o files files' source source' out out' ending.Memory h = (h, inl refl)
 run-unread words content left left' o files files' source source' out out' ending.Done h = absurd h
 run-unread words content left left' o files files' source source' out out' ending.Dirty h = absurd h
