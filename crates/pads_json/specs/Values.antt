@@ -2,9 +2,12 @@
 -- texts of their code points, a struct is an object of its named parts, of which the last counts where
 -- some share a name, a union is an object of one key, the branch's name, and an array is an array. A
 -- value of another form than its term's is null.
-use Rattle.std.specs.Prelude.{ℕ, ℤ, zero, suc, List, [], ◌∷◌, map, length, Bool, false, nat_eq, Option, Some, None, if◌then◌else◌, encode_utf8_all}
+use Rattle.std.specs.Prelude.{ℕ, ℤ, zero, suc, List, [], ◌∷◌, map, length, Bool, false, nat_eq, Option, Some, None, if◌then◌else◌, encode_utf8_all, slice_get}
 use Rattle.serde_json.specs.Data.{Data, null, string, array, object, Members, no_members, member, put}
 use Rattle.serde_json.specs.View.{items_of}
+use Rattle.pads_code.specs.declared.Coding.TheVariants.{Ascii}
+use Rattle.pads_bases.specs.Addresses.{ip_spelling}
+use Rattle.pads_bases.specs.declared.enums.Label.{Label}
 use Rattle.pads_dispatch.specs.declared.base.Base.{Base}
 use Rattle.pads_dispatch.specs.declared.base.Base.TheVariants as base
 use Rattle.pads_value.specs.declared.value.Val.{Val, Val-F, fold-Val, map-Val, out-Val}
@@ -18,7 +21,7 @@ use Rattle.pads_calc.specs.declared.term.Seq.{Seq}
 use Rattle.pads_calc.specs.declared.term.Term.{Term, Term-F, out-Term}
 use Rattle.pads_json.specs.Forms.{Form, form_at}
 use Rattle.pads_json.specs.Numbers.{integer}
-use Rattle.pads_json.specs.Shapes.{num_in, text_in, tuple_in, branch_in, array_in}
+use Rattle.pads_json.specs.Shapes.{num_in, text_in, label_in, tuple_in, branch_in, array_in}
 use Rattle.pads_json.specs.Terms.{name_at, arm_in}
 
 -- what a value is as JSON under a term in which calls may be nested so deep
@@ -33,10 +36,32 @@ abbrev pub text_shown : Option (List ℕ) → Data
 text_shown None = null
 text_shown (Some text) = string (encode_utf8_all text)
 
+-- an address is the text of its four decimals; a number that is no address is none
+abbrev pub address_shown : Option ℤ → Data
+address_shown None = null
+address_shown (Some number) = text_shown (ip_spelling Ascii number)
+
+-- a label is the text of its name
+abbrev pub label_shown : Option Label → Data
+label_shown None = null
+label_shown (Some label) = string (encode_utf8_all label.name)
+
+abbrev pub labelled : List Label → Option ℕ → Data
+labelled labels None = null
+labelled labels (Some number) = label_shown (slice_get labels number)
+
 -- the value of a base type
 abbrev pub base_shown : {A : Type 0} → Base → Val-F A → Data
 base_shown (base.Int kind coding) v = number_shown (num_in v)
 base_shown (base.IntFw kind coding) v = number_shown (num_in v)
+base_shown (base.Bin kind order) v = number_shown (num_in v)
+base_shown (base.Until coding) v = text_shown (text_in v)
+base_shown (base.UntilEor coding) v = text_shown (text_in v)
+base_shown (base.Fixed coding) v = text_shown (text_in v)
+base_shown (base.Class coding) v = text_shown (text_in v)
+base_shown (base.Char coding) v = text_shown (text_in v)
+base_shown (base.Ip coding) v = address_shown (num_in v)
+base_shown (base.Enum coding labels) v = labelled labels (label_in v)
 
 -- the value of a computed field
 abbrev pub computed_shown : {A : Type 0} → Result2 → Val-F A → Data
@@ -138,3 +163,9 @@ base_told base v = base_shown base (out-Val v)
 
 abbrev pub computed_told : Result2 → Val → Data
 computed_told form v = computed_shown form (out-Val v)
+
+abbrev pub address_told : Val → Data
+address_told v = address_shown (num_in (out-Val v))
+
+abbrev pub label_told : List Label → Val → Data
+label_told labels v = labelled labels (label_in (out-Val v))

@@ -1,23 +1,56 @@
 ghost use Rattle.std.specs.Prelude.{◌≡◌, length, IfOk};
 ghost use Rattle.pads_calc.specs.declared.term.Term.{out-Term};
 ghost use Rattle.pads_json.specs.Seen.{seen, members as members_of};
-ghost use Rattle.pads_json.specs.Values.{shown, number_told, text_told, base_told, computed_told, term_told, struct_told, parts_told, branch_told, named_shown, array_told, elements_told, put_named};
+ghost use Rattle.pads_json.specs.Values.{shown, number_told, text_told, base_told, address_told, label_told, computed_told, term_told, struct_told, parts_told, branch_told, named_shown, array_told, elements_told, put_named};
 
 use crate::form::form_at;
 use crate::json::{Json, Members, Things};
 use crate::slot::{arm_at, name_at};
 use crate::terms::Terms;
 use crate::text::of_points;
+use pads_bases::{Labels, spell_ip};
 use pads_calc::{Base, Part, Result2, Term};
+use pads_code::Coding;
 use pads_value::{Memory, Val};
 use std::alloc::Global;
 
 /// The value of a base type as JSON.
-fn base_value(base: &Base, val: &Val) -> Json
-    ensures value { seen result ≡ base_told base.now val.now }
+fn base_value(alloc: Global, base: &Base, val: &Val) -> Result<Json, Memory>
+    ensures value { IfOk result (λ json. seen json ≡ base_told base.now val.now) }
 {
     match base {
-        Base::Int(_, _) | Base::IntFw(_, _) => number_value(val),
+        Base::Int(_, _) | Base::IntFw(_, _) | Base::Bin(_, _) => Ok(number_value(val)),
+        Base::Until(_) | Base::UntilEor(_) | Base::Fixed(_) | Base::Class(_) | Base::Char(_) => {
+            text_value(alloc, val)
+        }
+        Base::Ip(_) => address_value(alloc, val),
+        Base::Enum(_, labels) => label_value(alloc, labels, val),
+    }
+}
+
+/// An address as its four decimals.
+fn address_value(alloc: Global, val: &Val) -> Result<Json, Memory>
+    ensures value { IfOk result (λ json. seen json ≡ address_told val.now) }
+{
+    match val {
+        Val::Num(number) => match spell_ip(Coding::Ascii, *number) {
+            Some(text) => Json::points(alloc, text.as_slice()),
+            None => Ok(Json::null()),
+        },
+        _ => Ok(Json::null()),
+    }
+}
+
+/// A label as its name.
+fn label_value(alloc: Global, labels: &Labels, val: &Val) -> Result<Json, Memory>
+    ensures value { IfOk result (λ json. seen json ≡ label_told labels.now val.now) }
+{
+    match val {
+        Val::Enum(number) => match labels.get(u64::from(*number)) {
+            Some(label) => Json::points(alloc, label.name.as_slice()),
+            None => Ok(Json::null()),
+        },
+        _ => Ok(Json::null()),
     }
 }
 
@@ -87,7 +120,7 @@ pub(crate) fn value<'m>(
 }
 
 /// A value of a term that isn't passed through.
-#[tactic(auto, using(crate::proofs::Layers::num_mapped, crate::proofs::Layers::text_mapped))]
+#[tactic(auto, using(crate::proofs::Layers::num_mapped, crate::proofs::Layers::text_mapped, crate::proofs::Layers::label_mapped))]
 #[cycle(value)]
 fn form_value<'m>(
     terms: &Terms<'m>,
@@ -99,7 +132,7 @@ fn form_value<'m>(
     ensures value { IfOk result (λ json. seen json ≡ term_told terms.now.decls.now terms.now.names.now depth (out-Term term.now) val.now) }
 {
     match term {
-        Term::Base(base, _) => Ok(base_value(base, val)),
+        Term::Base(base, _) => base_value(alloc, base, val),
         Term::Compute(_, form) => computed_value(alloc, *form, val),
         Term::Struct(parts) => struct_value(terms, alloc, val, depth, parts.as_slice()),
         Term::Alt(_) | Term::Switch(_, _) => branch_value(terms, alloc, val, depth, term),

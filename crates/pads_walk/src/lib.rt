@@ -5,3 +5,6 @@ mod reader;
 mod row;
 
 pub use row::walk;
+
+#[cfg(test)]
+mod tests;

@@ -1,0 +1,149 @@
+-- Each form of term but the array reads soundly where the terms in it do.
+use Rattle.std.proofs.Common.{◌≡◌, ◌∙◌, sym, ap, refl, subst, arith, ℕ, zero, suc, ◌+◌, ◌-◌, ◌≤◌, nat_lt, nat_eq, List, [], ◌∷◌, length, drop, take, Bool, true, false, not, ◌&&◌, Option, None, Some, slice_get, length-drop}
+use Rattle.std.specs.Prelude.{⊤}
+use Rattle.std.specs.List.{starts_with}
+use Rattle.std.specs.Cmp.Lexicographic.{pointwise}
+use Rattle.std.proofs.lemmas.Bool.{ltb-false}
+use Rattle.pads_value.specs.declared.cause.Cause.TheVariants as cause
+use Rattle.pads_value.specs.declared.descriptor.Span.{Span}
+use Rattle.pads_value.specs.declared.descriptor.Pd.{out-Pd}
+use Rattle.pads_value.specs.declared.reading.Read.{Read}
+use Rattle.pads_value.specs.declared.reading.Read.TheVariants.{Good, Soft, Hard}
+use Rattle.pads_value.specs.declared.value.Val.{Val}
+use Rattle.pads_value.specs.declared.value.Val.TheVariants as val
+use Rattle.pads_value.specs.Header.{with_cause}
+use Rattle.pads_expr.specs.declared.expr.Expr.{Expr}
+use Rattle.pads_expr.specs.Value.{Pairs}
+use Rattle.pads_expr.specs.Worth.{Worth}
+use Rattle.pads_dispatch.specs.declared.base.Arg.{Arg}
+use Rattle.pads_dispatch.specs.declared.base.Base.{Base}
+use Rattle.pads_dispatch.specs.Readings.{base_reading}
+use Rattle.pads_dispatch.specs.Sizes.{taken}
+use Rattle.pads_dispatch.proofs.Takes.{base-takes}
+use Rattle.pads_calc.specs.declared.reading.Reading.{Reading}
+use Rattle.pads_calc.specs.declared.term.Result2.{Result2}
+use Rattle.pads_calc.specs.Arguments.{is_true}
+use Rattle.pads_calc.specs.Choices.{branch_of, alt_from, case_at, switch_of}
+use Rattle.pads_calc.specs.Leaves.{unit_of, lit_of, eor_of, at_end, base_node, base_of, computed_told, compute_node, compute_of}
+use Rattle.pads_calc.specs.Readings.{Reader, leaf, fails, is_ok, values}
+use Rattle.pads_calc.specs.Structs.{Named, bind, in_turn, struct_of}
+use Rattle.pads_calc.specs.Wrappers.{constrained, guard_of, absorb_of, found_at, scan, scan_from}
+use Rattle.pads_calc.proofs.Cases.{pick}
+use Rattle.pads_soundness.proofs.Nodes.{both-left, both-right}
+use Rattle.pads_soundness.proofs.Readings.{Sound, SoundReader, SoundReaders, Follow, sound-bare, sound-fails, sound-run, sound-caused, at_once}
+
+starts-fits : (xs needle : List ℕ) → starts_with nat_eq xs needle ≡ true → length needle ≤ length xs
+starts-fits xs [] starts = omega arith
+starts-fits [] (n ∷ needle) starts = cc
+starts-fits (x ∷ xs) (n ∷ needle) starts =
+    omega (arith, starts-fits xs needle (both-right (nat_eq n x) (pointwise nat_eq needle (take (length needle) xs)) starts))
+
+module _ (origin : ℕ) (bytes : List ℕ) where
+  abbrev Here : ℕ → Reading → Type 0
+  Here = Sound origin bytes
+
+  -- over no byte
+  sound-empty : (value : Val) (i : ℕ) → Here i (leaf origin value i i)
+  sound-empty value i = sound-bare origin bytes None value i i (omega arith) (λ h. h)
+
+  pub sound-unit : (i : ℕ) → Here i (unit_of origin i)
+  sound-unit i = sound-empty val.Unit i
+
+  pub sound-lit : (literal : List ℕ) (i : ℕ) → Here i (lit_of origin bytes literal i)
+  sound-lit literal i =
+      pick (Here i) (starts_with nat_eq (drop i bytes) literal) (leaf origin val.Unit i (i + length literal)) (fails origin cause.MissingLiteral i)
+      (λ starts. sound-bare origin bytes None val.Unit i (i + length literal) (omega arith)
+      (λ inside. omega (arith, starts-fits (drop i bytes) literal starts, length-drop i bytes)))
+      (λ _. sound-fails origin bytes cause.MissingLiteral i)
+
+  pub sound-eor : (i : ℕ) → Here i (eor_of origin bytes i)
+  sound-eor i =
+      pick (Here i) (at_end bytes i) (leaf origin val.Unit i i) (fails origin cause.MissingEor i)
+      (λ _. sound-empty val.Unit i) (λ _. sound-fails origin bytes cause.MissingEor i)
+
+  sound-base_node : (i : ℕ) (read : Read Val) → taken read ≤ length (drop i bytes) → Here i (base_node origin i read)
+  sound-base_node i (Good size value) fits =
+      sound-bare origin bytes None value i (i + size) (omega arith) (λ inside. omega (arith, fits, length-drop i bytes))
+  sound-base_node i (Soft size cause) fits =
+      sound-bare origin bytes (Some (record { cause = cause; fails = false })) val.Missing i (i + size) (omega arith) (λ inside. omega (arith, fits, length-drop i bytes))
+  sound-base_node i (Hard cause) fits = sound-fails origin bytes cause i
+
+  pub sound-base : (base : Base) (args : Option (List Arg)) (i : ℕ) → Here i (base_of origin bytes base args i)
+  sound-base base None i = sound-fails origin bytes cause.BadParam i
+  sound-base base (Some args) i = sound-base_node i (base_reading base args (drop i bytes)) (base-takes base args (drop i bytes))
+
+  sound-compute_node : (i : ℕ) (value : Option Val) → Here i (compute_node origin i value)
+  sound-compute_node i None = sound-fails origin bytes cause.Compute i
+  sound-compute_node i (Some value) = sound-empty value i
+
+  pub sound-compute : (form : Result2) (found : Option Worth) (i : ℕ) → Here i (compute_of origin form found i)
+  sound-compute form found i = sound-compute_node i (computed_told form found)
+
+  -- structs
+  abbrev pub SoundParts : List Named → Type 0
+  SoundParts [] = ⊤
+  SoundParts (part ∷ parts) = SoundReader origin bytes part.reader × SoundParts parts
+
+  follow-parts : (parts : List Named) → SoundParts parts → (env : Pairs) (i : ℕ) → Follow origin bytes i (in_turn parts env i)
+  follow-parts [] h env i = tt
+  follow-parts (part ∷ parts) h env i =
+      let r = part.reader env i in
+      (at_once origin bytes i r (h.0 env i), follow-parts parts h.1 (bind part.name r.value env) r.place)
+
+  pub sound-struct : (parts : List Named) → SoundParts parts → (env : Pairs) (i : ℕ) → Here i (struct_of origin (in_turn parts env i) i)
+  sound-struct parts h env i =
+      sound-run origin bytes None (val.Tuple (values (in_turn parts env i))) i (in_turn parts env i) (follow-parts parts h env i)
+
+  -- unions
+  sound-branch : (number : ℕ) (i : ℕ) (r : Reading) → Here i r → Here i (branch_of origin number r i)
+  sound-branch number i r h = sound-run origin bytes None (val.Branch number r.value) i (r ∷ []) (at_once origin bytes i r h, tt)
+
+  pub sound-alt : (branches : List Reader) → SoundReaders origin bytes branches → (number : ℕ) (env : Pairs) (i : ℕ) → Here i (alt_from origin number branches env i)
+  sound-alt [] h number env i = sound-fails origin bytes cause.UnionMatch i
+  sound-alt (branch ∷ branches) h number env i =
+      pick (Here i) (is_ok (branch env i)) (branch_of origin number (branch env i) i) (alt_from origin (number + 1) branches env i)
+      (λ _. sound-branch number i (branch env i) (h.0 env i)) (λ _. sound-alt branches h.1 (number + 1) env i)
+
+  sound-case : (number m : ℕ) (readers : List Reader) → SoundReaders origin bytes readers → (env : Pairs) (i : ℕ)
+      → Here i (case_at origin number (slice_get readers m) env i)
+  sound-case number m [] h env i = sound-fails origin bytes cause.Switch i
+  sound-case number zero (reader ∷ readers) h env i = sound-branch number i (reader env i) (h.0 env i)
+  sound-case number (suc m) (reader ∷ readers) h env i = sound-case number m readers h.1 env i
+
+  pub sound-switch : (number : Option ℕ) (readers : List Reader) → SoundReaders origin bytes readers → (env : Pairs) (i : ℕ)
+      → Here i (switch_of origin number readers env i)
+  sound-switch None readers h env i = sound-fails origin bytes cause.Switch i
+  sound-switch (Some number) readers h env i = sound-case number number readers h env i
+
+  -- constraints, absorbed terms, searches
+  sound-constrained : (i : ℕ) (r : Reading) → Here i r → is_ok r ≡ true → Here i (constrained r)
+  sound-constrained i r h ok =
+      subst (λ at. Here i (record r { pd = with_cause cause.Constraint at r.pd })) (sym (ap (λ (s : Span). s.begin) h.span))
+      (sound-caused origin bytes cause.Constraint i i r (omega arith) (λ h. h) h ok)
+
+  pub sound-guard : (binder : ℕ) (condition : Expr) (env : Pairs) (i : ℕ) (r : Reading) → Here i r → Here i (guard_of binder condition env r)
+  sound-guard binder condition env i r h =
+      let fails = not (is_true condition ((binder, r.value) ∷ env)) in
+      pick (Here i) (is_ok r && fails) (constrained r) r
+      (λ both. sound-constrained i r h (both-left (is_ok r) fails both)) (λ _. h)
+
+  pub sound-absorb : (i : ℕ) (r : Reading) → Here i r → Here i (absorb_of r)
+  sound-absorb i r h = record { counts = h.counts; spans = h.spans; span = h.span; forth = h.forth; within = h.within }
+
+  sound-found : (i j : ℕ) (r : Reading) → i ≤ j → (i ≤ length bytes → j ≤ length bytes) → Here j r → is_ok r ≡ true → Here i (found_at origin i j r)
+  sound-found i j r forth within h ok =
+      pick (Here i) (nat_lt i j) (record r { pd = with_cause cause.Skipped (origin + i) r.pd }) r
+      (λ _. sound-caused origin bytes cause.Skipped i j r forth within h ok)
+      (λ same. let here : j ≡ i = omega (arith, ltb-false i j same) in subst (λ at. Here at r) here h)
+
+  sound-scan_from : (inner : Reader) → SoundReader origin bytes inner → (env : Pairs) (i places j : ℕ) → i ≤ j
+      → (i ≤ length bytes → j + places ≤ length bytes + 1) → Here i (scan_from origin places inner env i j)
+  unfolding scan_from
+  sound-scan_from inner h env i zero j forth room = sound-fails origin bytes _ i
+  sound-scan_from inner h env i (suc places) j forth room =
+      pick (Here i) (is_ok (inner env j)) (found_at origin i j (inner env j)) (scan_from origin places inner env i (j + 1))
+      (λ ok. sound-found i j (inner env j) forth (λ inside. omega (arith, room inside)) (h env j) ok)
+      (λ _. sound-scan_from inner h env i places (j + 1) (omega arith) (λ inside. omega (arith, room inside)))
+
+  pub sound-scan : (inner : Reader) → SoundReader origin bytes inner → (env : Pairs) (i : ℕ) → Here i (scan origin bytes inner env i)
+  sound-scan inner h env i = sound-scan_from inner h env i (suc (length bytes - i)) i (omega arith) (λ inside. omega arith)
