@@ -78,7 +78,6 @@ unfolding parts_in_turn
 parts-count names [] = refl
 parts-count names (first ∷ parts) = rw (part-counts names first) (parts-count (with_part names first) parts)
 
-
 pub struct-counts : (name : ℕ) (names : List (List ℕ)) (parts : List NarrowPart) → length parts ≤ 4096
     → module_counts (struct_decl name (parts_in_turn names parts) ∷ []) ≡ true
 struct-counts name names parts short =

@@ -35,3 +35,6 @@ pub use reading::read_order;
 pub use running::run;
 pub use status::Status;
 pub use word::{Word, Words};
+
+#[cfg(test)]
+mod tests;

@@ -51,7 +51,10 @@ fn is_clean(row: &Row) -> bool
 /// Puts a record's line behind the output.
 fn put(output: &mut Output, line: &[u8], clean: bool) -> Result<(), Memory>
     ensures ok { OnOk result (output.new ≡ record {
-        out = output.old.out ++ line.now; notes = output.old.notes; clean = output.old.clean && clean }) }
+      out = output.old.out ++ line.now;
+      notes = output.old.notes;
+      clean = output.old.clean && clean;
+    }) }
 {
     output.out.extend_from_slice(line)?;
     output.clean = output.clean && clean;

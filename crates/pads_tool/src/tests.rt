@@ -1,5 +1,7 @@
 use crate::{Status, Word, Words, run};
-use pads_io::{Calls, MemFiles, MemSink, MemSource, NamedFile, NamedFiles, SureFiles, SureSink, SureSource};
+use pads_io::{
+    Calls, MemFiles, MemSink, MemSource, NamedFile, NamedFiles, SureFiles, SureSink, SureSource,
+};
 use pads_value::{Bytes, Items, Memory};
 use std::alloc::Global;
 use std::test::Fail;
@@ -10,12 +12,13 @@ const PAIR: &[u8] = b"Precord Pstruct pt { Puint8 x; ','; Puint8 y; };\n";
 /// A clean line, and one whose first number is too large.
 const INPUT: &[u8] = b"3,7\n300,4\n";
 
-const FIRST_LINE: &[u8] = b"{\"class\":\"Ok\",\"faults\":[],\"nerr\":0,\"next\":3,\"record\":0,\"span\":[0,3],\"value\":{\"x\":3,\"y\":7}}\n";
+const FIRST_LINE: &[u8] =
+    b"{\"class\":\"Ok\",\"faults\":[],\"nerr\":0,\"next\":3,\"record\":0,\"span\":[0,3],\"value\":{\"x\":3,\"y\":7}}\n";
 
-const LINES: &[u8] = b"{\"class\":\"Ok\",\"faults\":[],\"nerr\":0,\"next\":3,\"record\":0,\"span\":[0,3],\"value\":{\"x\":3,\"y\":7}}\n{\"class\":\"Err\",\"faults\":[{\"at\":\"x\",\"cause\":\"RANGE\",\"span\":[4,7]}],\"nerr\":1,\"next\":9,\"record\":1,\"span\":[4,9],\"value\":{\"x\":null,\"y\":4}}\n";
+const LINES: &[u8] =
+    b"{\"class\":\"Ok\",\"faults\":[],\"nerr\":0,\"next\":3,\"record\":0,\"span\":[0,3],\"value\":{\"x\":3,\"y\":7}}\n{\"class\":\"Err\",\"faults\":[{\"at\":\"x\",\"cause\":\"RANGE\",\"span\":[4,7]}],\"nerr\":1,\"next\":9,\"record\":1,\"span\":[4,9],\"value\":{\"x\":null,\"y\":4}}\n";
 
-const USAGE: &[u8] =
-    b"pads: usage: pads check|parse|print|summary|query|selftest WORDS OPTIONS\n";
+const USAGE: &[u8] = b"pads: usage: pads check|parse|print|summary|query|selftest WORDS OPTIONS\n";
 
 fn words_of(alloc: Global, texts: &[&str]) -> Result<Words, Memory> {
     let mut words = Words::new(alloc);
@@ -56,20 +59,18 @@ fn run_over(
     let words = words_of(alloc, texts)?;
     let mut files = MemFiles::new(two_files(alloc)?, Calls::new(alloc));
     let mut notes = MemSink::new(alloc, 0, Calls::new(alloc));
-    let status = run(
-        alloc,
-        &words,
-        &mut files,
-        &mut source,
-        &mut out,
-        &mut notes,
-    );
+    let status = run(alloc, &words, &mut files, &mut source, &mut out, &mut notes);
     Ok(Left { status, out, notes })
 }
 
 /// A run over the lines of two numbers, from a source and on a sink that move so many bytes a call and
 /// fail at these calls.
-fn run_pair(alloc: Global, pieces: [u64; 2], reads: &[u64], writes: &[u64]) -> Result<Left, Memory> {
+fn run_pair(
+    alloc: Global,
+    pieces: [u64; 2],
+    reads: &[u64],
+    writes: &[u64],
+) -> Result<Left, Memory> {
     let [read_piece, write_piece] = pieces;
     let input = Bytes::from_slice(alloc, INPUT)?;
     let source = MemSource::new(input, read_piece, Items::from_slice(alloc, reads)?);
@@ -80,7 +81,12 @@ fn run_pair(alloc: Global, pieces: [u64; 2], reads: &[u64], writes: &[u64]) -> R
 /// A run of these words over no input.
 fn run_words(alloc: Global, texts: &[&str]) -> Result<Left, Memory> {
     let source = MemSource::new(Bytes::new(alloc), 0, Calls::new(alloc));
-    run_over(alloc, texts, source, MemSink::new(alloc, 0, Calls::new(alloc)))
+    run_over(
+        alloc,
+        texts,
+        source,
+        MemSink::new(alloc, 0, Calls::new(alloc)),
+    )
 }
 
 #[test]
@@ -152,7 +158,10 @@ fn a_file_that_is_missing(rt: HostRuntime) -> Result<(), Fail> {
 fn a_description_that_is_refused(rt: HostRuntime) -> Result<(), Fail> {
     let left = run_words(rt.alloc(), &["parse", "odd.pads"])?;
     assert_eq!(rt; left.status, Status::Refused);
-    assert_eq!(rt; left.notes.bytes(), b"pads: refused: not built yet\n".as_slice());
+    assert_eq!(rt;
+        left.notes.bytes(),
+        b"pads: refused: not built yet\n".as_slice()
+    );
     Ok(())
 }
 
