@@ -1,0 +1,50 @@
+//! The program `pads`: it reads its description from the file system and its records from standard
+//! input, writes lines to standard output and its last words to standard error, and ends with the
+//! status of the run.
+#![tactic(auto)]
+
+use pads_io::{RealFiles, RealSink, RealSource};
+use pads_tool::{Status, Word, Words, run};
+use pads_value::Memory;
+use std::env;
+use std::io::ErrorKind;
+use std::process::ExitCode;
+
+/// The words of the command line. Where one isn't UTF-8 there are none, which is no order.
+fn words(rt: &HostRuntime) -> Result<Words, Memory> {
+    let mut words = Words::new(rt.alloc());
+    let args = match env::args(rt) {
+        Ok(args) => args,
+        Err(error) if error.kind() == ErrorKind::OutOfMemory => return Err(Memory),
+        Err(_) => return Ok(words),
+    };
+    for arg in args.skip(1) {
+        words.push(Word::new(arg))?;
+    }
+    Ok(words)
+}
+
+/// Runs the words over the streams of the process and its file system.
+fn run_words(rt: &HostRuntime) -> Result<Status, Memory> {
+    let words = words(rt)?;
+    let Ok(system) = rt.clone() else {
+        return Err(Memory);
+    };
+    let mut files = RealFiles::new(rt.alloc(), system);
+    let mut source = RealSource::new(rt.stdin());
+    let mut out = RealSink::new(rt.stdout());
+    let mut notes = RealSink::new(rt.stderr());
+    Ok(run(
+        rt.alloc(),
+        &words,
+        &mut files,
+        &mut source,
+        &mut out,
+        &mut notes,
+    ))
+}
+
+fn main(rt: HostRuntime) -> ExitCode {
+    let status = run_words(&rt).unwrap_or(Status::Memory);
+    ExitCode::from(status.exit_status())
+}

@@ -1,0 +1,63 @@
+ghost use Rattle.std.specs.Prelude.{◌≡◌, ℕ, ◌<◌, ◌≤◌, [], Ok, IfSome};
+ghost use Rattle.pads_frame.specs.Fits.{FitsLimit};
+ghost use Rattle.pads_io.specs.Faults.{Rose};
+ghost use Rattle.pads_value.specs.Cuts.{Cut};
+ghost use Rattle.pads_tool.specs.Drives.{DriveGives};
+ghost use Rattle.pads_tool.specs.Stopping.{HasSinkCause};
+ghost use Rattle.pads_tool.specs.declared.ended.Ended.TheVariants as ended;
+
+use crate::command::Command;
+use crate::driving::{Batch, Reading};
+use crate::ended::Ended;
+use crate::finish::finish;
+use crate::refill::Refill;
+use crate::source::read_to_end;
+use crate::stop::Stop;
+use pads_frame::{Discipline, Framer};
+use pads_io::{Sink, Source};
+use std::alloc::Global;
+
+/// Reads a source to its end, cuts it into records, and writes what the command writes for each.
+pub(crate) fn drive<C: Command, S: Source, K: Sink, E: Sink>(
+    command: &C,
+    alloc: Global,
+    discipline: Discipline,
+    max: u64,
+    source: &mut S,
+    out: &mut K,
+    notes: &mut E,
+) -> Result<Ended, Stop>
+    requires some { 0 < max }
+    requires limit { max ≤ 16777216 }
+    requires fits_limit { FitsLimit discipline max }
+    ensures gives { IfSome (S.left source.old) (λ input. DriveGives (C.out command.now) (C.notes command.now)
+        (C.is_clean command.now) discipline max input (S.left source.new) (K.written out.old) (K.written out.new)
+        (E.written notes.old) (E.written notes.new) result) }
+    ensures read_fault { result ≡ Ok ended.ReadFault → Rose (S.faults source.old) (S.faults source.new) }
+    ensures later { S.faults source.old ≤ S.faults source.new }
+    ensures cause { HasSinkCause (K.faults out.old) (K.faults out.new) (E.faults notes.old) (E.faults notes.new)
+        ((number : ℕ) (cut : Cut) → C.notes command.now number cut ≡ []) result }
+{
+    let Ok(framer) = Framer::new(alloc, discipline, max, 0) else {
+        return Err(Stop::Memory);
+    };
+    let mut reading = Reading {
+        framer,
+        batch: Batch::new(alloc),
+        number: 0,
+        clean: true,
+    };
+    let refill = match read_to_end(command, alloc, &mut reading, source, out, notes) {
+        Ok(refill) => refill,
+        Err(stop) => return Err(stop),
+    };
+    if let Err(stop) = finish(command, alloc, &mut reading, out, notes) {
+        return Err(stop);
+    }
+    match refill {
+        Refill::End => Ok(Ended::Finished(reading.clean)),
+        Refill::ReadFault => Ok(Ended::ReadFault),
+        Refill::TooLong => Ok(Ended::TooLong),
+        Refill::More => unreachable!(),
+    }
+}
