@@ -1,5 +1,5 @@
 -- An array reads soundly where its elements and its separator do.
-use Rattle.std.proofs.Common.{◌≡◌, refl, arith, ℕ, zero, suc, ◌+◌, ◌-◌, ◌≤◌, nat_eq, List, [], ◌∷◌, ◌++◌, length, Bool, true, false, not, ◌&&◌, if◌then◌else◌, Option, None, Some}
+use Rattle.std.proofs.Common.{arith, ℕ, zero, suc, ◌≤◌, nat_eq, List, [], ◌∷◌, ◌++◌, length, Bool, true, false, not, ◌&&◌, if◌then◌else◌, Option, None, Some}
 use Rattle.std.specs.Prelude.{⊤}
 use Rattle.pads_value.specs.declared.cause.Cause.TheVariants as cause
 use Rattle.pads_value.specs.declared.descriptor.Pd.{out-Pd}
@@ -14,7 +14,7 @@ use Rattle.pads_calc.specs.declared.turn.Turn.TheVariants as turn
 use Rattle.pads_calc.specs.Arrays.{SeqReader, Elements, elements, unless_ended, and_then, ending_at, element_at, turn_of, turn_at, turn_from, is_fail_class, is_empty, array_of, soft, turns_from, size_at, sized, seq_of}
 use Rattle.pads_calc.specs.Readings.{Reader, is_ok, values}
 use Rattle.pads_calc.proofs.Cases.{pick}
-use Rattle.pads_soundness.proofs.Readings.{Sound, SoundReader, Behind, Follow, sound-fails, sound-run, at_once}
+use Rattle.pads_soundness.proofs.Readings.{Sound, SoundReader, Behind, Follow, sound-fails, sound-run}
 
 module _ (origin : ℕ) (bytes : List ℕ) where
   abbrev pub SoundOption : Option Reader → Type 0

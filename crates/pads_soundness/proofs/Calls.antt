@@ -2,7 +2,6 @@
 use Rattle.std.proofs.Common.{ℕ, zero, suc, List, [], Option, None, Some, slice_get}
 use Rattle.pads_value.specs.declared.cause.Cause.TheVariants as cause
 use Rattle.pads_expr.specs.declared.expr.Expr.{Expr}
-use Rattle.pads_expr.specs.Value.{Pairs}
 use Rattle.pads_dispatch.specs.declared.base.Arg.{Arg}
 use Rattle.pads_calc.specs.declared.decl.Decl.{Decl}
 use Rattle.pads_calc.specs.declared.term.Term.{Term}

@@ -1,18 +1,18 @@
 -- Readings that are sound: what the rules of the calculus keep of each.
-use Rattle.std.proofs.Common.{◌≡◌, ◌∙◌, sym, ap, refl, subst, arith, ℕ, ◌+◌, ◌≤◌, List, [], ◌∷◌, length, map, Bool, true, false, Option, None, Some}
+use Rattle.std.proofs.Common.{◌≡◌, ◌∙◌, sym, ap, subst, arith, ℕ, ◌+◌, ◌≤◌, List, [], ◌∷◌, length, true, Option, Some}
 use Rattle.std.specs.Prelude.{⊤}
 use Rattle.pads_value.specs.declared.cause.Cause.{Cause}
 use Rattle.pads_value.specs.declared.descriptor.Own.{Own}
 use Rattle.pads_value.specs.declared.descriptor.Span.{Span}
-use Rattle.pads_value.specs.declared.descriptor.Pd.{Pd, out-Pd, out-roll-Pd}
+use Rattle.pads_value.specs.declared.descriptor.Pd.{Pd, out-Pd}
 use Rattle.pads_value.specs.declared.value.Val.{Val}
 use Rattle.pads_value.specs.declared.value.Val.TheVariants as val
 use Rattle.pads_value.specs.Header.{with_cause}
 use Rattle.pads_expr.specs.Value.{Pairs}
 use Rattle.pads_calc.specs.declared.reading.Reading.{Reading}
-use Rattle.pads_calc.specs.Readings.{Reader, node, leaf, fails, faulty, is_ok, pds, end_of}
+use Rattle.pads_calc.specs.Readings.{Reader, node, fails, is_ok, pds, end_of}
 use Rattle.pads_soundness.specs.Soundness.{InOrder, CountsAreSound, SpansAreSound}
-use Rattle.pads_soundness.proofs.Nodes.{AllEvery, AllCounts, AllSpans, head-counts, head-spans, caused-counts, caused-spans, span-head, span-caused}
+use Rattle.pads_soundness.proofs.Nodes.{AllCounts, AllSpans, head-counts, head-spans, caused-counts, caused-spans, span-head, span-caused}
 
 module _ (origin : ℕ) (bytes : List ℕ) where
   -- a reading from `i` on: its descriptor is sound and lies from `i` to where the reading ends, which is

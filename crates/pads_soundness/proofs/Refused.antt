@@ -1,14 +1,13 @@
 -- Descriptors that aren't sound, node by node: a wrong count, at the top or below; a class that its count
 -- contradicts; kids that overlap, that are out of order, or that don't lie in the node's span.
-use Rattle.std.proofs.Common.{◌≡◌, subst, arith, ℕ, ◌+◌, ◌≤◌, List, [], ◌∷◌, map, sum, Option, None, Some}
+use Rattle.std.proofs.Common.{◌≡◌, subst, arith, ℕ, ◌≤◌, List, [], ◌∷◌, Option, None, Some}
 use Rattle.pads_value.specs.CauseCount.{causes}
 use Rattle.pads_value.specs.declared.cause.Cause.{Cause}
 use Rattle.pads_value.specs.declared.cause.Cause.TheVariants as cause
 use Rattle.pads_value.specs.declared.descriptor.Class.{Class}
 use Rattle.pads_value.specs.declared.descriptor.Class.TheVariants as class
-use Rattle.pads_value.specs.declared.descriptor.Span.{Span}
 use Rattle.pads_value.specs.declared.descriptor.Pd.{Pd, Pd-F, out-Pd, roll-Pd, out-roll-Pd, every-Pd, every_here-Pd}
-use Rattle.pads_soundness.specs.Soundness.{CountsHere, SpansHere, InOrder, CountsAreSound, SpansAreSound}
+use Rattle.pads_soundness.specs.Soundness.{CountsHere, SpansHere, CountsAreSound, SpansAreSound}
 use Rattle.pads_soundness.proofs.Nodes.{AllEvery, every-kids, causes-roll}
 
 abbrev node : ℕ → Class → Option Cause → ℕ → ℕ → List Pd → Pd-F Pd

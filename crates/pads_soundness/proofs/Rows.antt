@@ -1,13 +1,12 @@
 -- The row of a record is sound where its bytes lie in its extent.
-use Rattle.std.proofs.Common.{◌≡◌, ◌∙◌, sym, ap, refl, subst, arith, ℕ, ◌+◌, ◌≤◌, nat_lt, List, [], ◌∷◌, length, Bool, true, false, if◌then◌else◌, Option, None, Some}
-use Rattle.std.proofs.lemmas.Bool.{ltb-false, ltb-true}
+use Rattle.std.proofs.Common.{◌≡◌, sym, ap, subst, arith, ℕ, ◌+◌, ◌≤◌, nat_lt, List, [], ◌∷◌, length, true, false, Option, None, Some}
+use Rattle.std.proofs.lemmas.Bool.{ltb-true}
 use Rattle.pads_value.specs.Cuts.{Cut}
-use Rattle.pads_value.specs.Header.{head}
 use Rattle.pads_value.specs.declared.cause.Cause.{Cause}
 use Rattle.pads_value.specs.declared.cause.Cause.TheVariants as cause
 use Rattle.pads_value.specs.declared.descriptor.Own.{Own}
 use Rattle.pads_value.specs.declared.descriptor.Span.{Span}
-use Rattle.pads_value.specs.declared.descriptor.Pd.{Pd, out-Pd}
+use Rattle.pads_value.specs.declared.descriptor.Pd.{out-Pd}
 use Rattle.pads_value.specs.declared.frame.Mark.{Mark}
 use Rattle.pads_value.specs.declared.frame.Mark.TheVariants as mark
 use Rattle.pads_value.specs.declared.value.Val.TheVariants as val

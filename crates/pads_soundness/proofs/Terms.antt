@@ -1,8 +1,8 @@
 -- Each term reads soundly where the calls in it do.
-use Rattle.std.proofs.Common.{◌≡◌, ◌∙◌, sym, ap, refl, subst, arith, ℕ, zero, suc, ◌+◌, ◌<◌, ◌≤◌, List, [], ◌∷◌, map, Option, None, Some}
+use Rattle.std.proofs.Common.{◌≡◌, sym, ap, refl, subst, arith, ℕ, zero, suc, ◌+◌, ◌<◌, ◌≤◌, List, [], ◌∷◌, map, Option, None, Some}
 use denote.Param.Weighed.{most}
 use Rattle.pads_expr.specs.declared.expr.Expr.{Expr}
-use Rattle.pads_expr.specs.Value.{Pairs, value}
+use Rattle.pads_expr.specs.Value.{value}
 use Rattle.pads_expr.specs.Worth.{told}
 use Rattle.pads_calc.specs.declared.reading.Reading.{Reading}
 use Rattle.pads_calc.specs.declared.term.Arm.{Arm, size-Arm}
@@ -11,10 +11,8 @@ use Rattle.pads_calc.specs.declared.term.Part.{Part, size-Part}
 use Rattle.pads_calc.specs.declared.term.Seq.{Seq, size-Seq}
 use Rattle.pads_calc.specs.declared.term.Term.{Term, Term-F, size-Term, out-Term, roll-Term, roll-out-Term, the_lemmas}
 use Rattle.pads_calc.specs.declared.term.Term.TheVariants as term
-use Rattle.pads_calc.specs.Arguments.{argument, arguments}
+use Rattle.pads_calc.specs.Arguments.{arguments}
 use Rattle.pads_calc.specs.Calculus.{Caller, read, part_reader, arm_reader, case_reader, option_reader, seq_reader}
-use Rattle.pads_calc.specs.Choices.{chosen}
-use Rattle.pads_calc.specs.Readings.{Reader}
 use Rattle.pads_calc.proofs.Rolls.{read-Unit, read-Base, read-Lit, read-Eor, read-Struct, read-Alt, read-Switch, read-Guard, read-Seq, read-Call, read-Compute, read-Absorb, read-Scan}
 use Rattle.pads_calc.proofs.Sizes.{size-Struct, size-Alt, size-Switch, size-Guard, size-of_Seq, size-Absorb, size-Scan, size-in_Case}
 use Rattle.pads_soundness.proofs.Readings.{Sound, SoundReader, SoundReaders}
