@@ -4,6 +4,7 @@ use pads_io::{
 };
 use pads_value::{Bytes, Items, Memory};
 use std::alloc::Global;
+use std::process::Abort;
 use std::test::Fail;
 
 /// The description of two numbers with a comma between them.
@@ -181,4 +182,65 @@ fn words_that_are_no_order(rt: HostRuntime) -> Result<(), Fail> {
         assert_eq!(rt; left.notes.bytes(), USAGE);
     }
     Ok(())
+}
+
+/// The one line that the one record of an input gives.
+fn gives_line(rt: &impl Abort, alloc: Global, input: &[u8], line: &[u8]) -> Result<(), Fail> {
+    let source = MemSource::new(Bytes::from_slice(alloc, input)?, 0, Calls::new(alloc));
+    let out = MemSink::new(alloc, 0, Calls::new(alloc));
+    let left = run_over(alloc, &["parse", "pair.pads"], source, out)?;
+    assert_eq!(rt; left.status, Status::Dirty);
+    assert_eq!(rt; left.out.bytes(), line);
+    Ok(())
+}
+
+#[test]
+fn a_number_that_is_missing(rt: HostRuntime) -> Result<(), Fail> {
+    gives_line(
+        &rt,
+        rt.alloc(),
+        b",5",
+        b"{\"class\":\"Err\",\"faults\":[{\"at\":\"x\",\"cause\":\"INVALID\",\"span\":[0,0]}],\"nerr\":1,\"next\":2,\"record\":0,\"span\":[0,2],\"value\":{\"x\":null,\"y\":5}}\n",
+    )
+}
+
+#[test]
+fn bytes_before_the_literal_and_at_the_end(rt: HostRuntime) -> Result<(), Fail> {
+    gives_line(
+        &rt,
+        rt.alloc(),
+        b"3;;,7xyz\n",
+        b"{\"class\":\"Err\",\"faults\":[{\"at\":\"#1\",\"cause\":\"SKIPPED\",\"span\":[1,4]},{\"at\":\".\",\"cause\":\"EXTRA_BEFORE_EOR\",\"span\":[5,8]}],\"nerr\":2,\"next\":5,\"record\":0,\"span\":[0,8],\"value\":{\"x\":3,\"y\":7}}\n",
+    )
+}
+
+#[test]
+fn two_numbers_out_of_range(rt: HostRuntime) -> Result<(), Fail> {
+    gives_line(
+        &rt,
+        rt.alloc(),
+        b"300,400\n",
+        b"{\"class\":\"Err\",\"faults\":[{\"at\":\"x\",\"cause\":\"RANGE\",\"span\":[0,3]},{\"at\":\"y\",\"cause\":\"RANGE\",\"span\":[4,7]}],\"nerr\":2,\"next\":7,\"record\":0,\"span\":[0,7],\"value\":{\"x\":null,\"y\":null}}\n",
+    )
+}
+
+#[test]
+fn an_empty_record(rt: HostRuntime) -> Result<(), Fail> {
+    gives_line(
+        &rt,
+        rt.alloc(),
+        b"\n",
+        b"{\"class\":\"Err\",\"faults\":[{\"at\":\"x\",\"cause\":\"INVALID\",\"span\":[0,0]},{\"at\":\"#1\",\"cause\":\"MISSING_LITERAL\",\"span\":[0,0]},{\"at\":\"y\",\"cause\":\"INVALID\",\"span\":[0,0]}],\"nerr\":3,\"next\":0,\"record\":0,\"span\":[0,0],\"value\":{\"x\":null,\"y\":null}}\n",
+    )
+}
+
+#[test]
+fn a_record_longer_than_the_limit(rt: HostRuntime) -> Result<(), Fail> {
+    let input = vec![in rt.alloc(); b'1'; 1_048_577]?;
+    gives_line(
+        &rt,
+        rt.alloc(),
+        input.as_slice(),
+        b"{\"class\":\"Fail\",\"faults\":[{\"at\":\".\",\"cause\":\"RECORD_LONG\",\"span\":[0,1048577]}],\"nerr\":1,\"next\":0,\"record\":0,\"span\":[0,1048577],\"value\":null}\n",
+    )
 }
