@@ -149,6 +149,17 @@ counts-Compute e form = ap counts_fit (sym (term.rolls-Compute e form)) ∙ coun
 
 -- every form's counts
 pub ruleset count_rules = (
-  counts-Unit, counts-Base, counts-Lit, counts-Eor, counts-Struct, counts-Alt, counts-Switch, counts-Guard, counts-Seq, counts-Call,
-  counts-Compute, counts-Absorb, counts-Scan,
+  counts-Unit,
+  counts-Base,
+  counts-Lit,
+  counts-Eor,
+  counts-Struct,
+  counts-Alt,
+  counts-Switch,
+  counts-Guard,
+  counts-Seq,
+  counts-Call,
+  counts-Compute,
+  counts-Absorb,
+  counts-Scan,
 )

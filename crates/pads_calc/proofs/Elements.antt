@@ -40,7 +40,7 @@ module _ (bytes : List ℕ) (s : SeqReader) (size : Option ℕ) (env : Pairs) (w
   one_more kept kids place some h =
       let turns : left kept ≡ suc (left kept - 1) = omega arith in
       let next : elements bytes s size env (left kept) kept place ≡ _ =
-          ap (λ n. elements bytes s size env n kept place) turns ∙ elements-next bytes s size env (left kept - 1) kept place in
+      ap (λ n. elements bytes s size env n kept place) turns ∙ elements-next bytes s size env (left kept - 1) kept place in
       let P : Elements → Type 0 = Gathers whole i kept kids place in
       subst P next h
 

@@ -50,6 +50,17 @@ module _ (names : ℕ) where
   scope-Forall name first last body scope = ap (λ e. expr_in_scope names e scope) (sym (expr.rolls-Forall name first last body)) ∙ expr-roll (Expr-F.Forall name first last body) scope
 
 pub ruleset expr_rules = (
-  scope-Num, scope-Text, scope-Truth, scope-Var, scope-Part, scope-Arm, scope-Elem, scope-IsArm, scope-Len, scope-Neg, scope-Not, scope-Bin,
+  scope-Num,
+  scope-Text,
+  scope-Truth,
+  scope-Var,
+  scope-Part,
+  scope-Arm,
+  scope-Elem,
+  scope-IsArm,
+  scope-Len,
+  scope-Neg,
+  scope-Not,
+  scope-Bin,
   scope-Forall,
 )

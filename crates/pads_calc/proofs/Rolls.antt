@@ -141,6 +141,17 @@ module _ (origin : ℕ) (bytes : List ℕ) (call : Caller) where
 
 -- every form's equation
 pub ruleset read_rules = (
-  read-Unit, read-Base, read-Lit, read-Eor, read-Struct, read-Alt, read-Switch, read-Guard, read-Seq, read-Call, read-Compute,
-  read-Absorb, read-Scan,
+  read-Unit,
+  read-Base,
+  read-Lit,
+  read-Eor,
+  read-Struct,
+  read-Alt,
+  read-Switch,
+  read-Guard,
+  read-Seq,
+  read-Call,
+  read-Compute,
+  read-Absorb,
+  read-Scan,
 )

@@ -25,8 +25,6 @@ bound-parts name (part ∷ parts) scope =
     ∙ ap (λ b. list_any (λ part. has_name name part.name) parts || b) (bound-bind name part.name scope)
     ∙ or-swap (list_any (λ part. has_name name part.name) parts) (has_name name part.name) (is_bound name scope)
 
-
-
 pub scope-Parts : (parts : Bor (List Part)) (outer : Bor Scope) → bound_names (scope.Parts parts outer) ≡ parts_names parts.now (bound_names outer.now)
 scope-Parts parts outer = ap bound_names (sym (scope.rolls-Parts parts outer)) ∙ fold-roll-Scope (List ℕ) bound_step (Scope-F.Parts parts outer)
 

@@ -124,7 +124,19 @@ module _ (names : ℕ) (arities : List ℕ) where
   in-Scan inner scope = ap (λ t. in_scope names arities t scope) (sym (term.rolls-Scan inner)) ∙ in-roll (Term-F.Scan inner) scope
 
 pub ruleset term_rules = (
-  in-Unit, in-Base, in-Lit, in-Eor, in-Struct, in-Alt, in-Switch, in-Guard, in-Seq, in-Call, in-Compute, in-Absorb, in-Scan,
+  in-Unit,
+  in-Base,
+  in-Lit,
+  in-Eor,
+  in-Struct,
+  in-Alt,
+  in-Switch,
+  in-Guard,
+  in-Seq,
+  in-Call,
+  in-Compute,
+  in-Absorb,
+  in-Scan,
 )
 
 -- the next part of a struct

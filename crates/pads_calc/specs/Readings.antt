@@ -43,9 +43,9 @@ is_ok r = is_clean r.pd
 abbrev pub blame : Reading → Cause
 blame r = or_literal (out-Pd r.pd).cause
   where
-  or_literal : Option Cause → Cause
-  or_literal None = cause.MissingLiteral
-  or_literal (Some own) = own
+    or_literal : Option Cause → Cause
+    or_literal None = cause.MissingLiteral
+    or_literal (Some own) = own
 
 -- the values, the descriptors and the last place of readings that follow one another
 abbrev pub values : List Reading → List Val

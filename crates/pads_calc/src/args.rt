@@ -61,7 +61,12 @@ fn value_of(alloc: Global, arg: &Arg) -> Result<Val, Memory>
 }
 
 /// Whether a condition is true of a value that goes by a name in it. Gives the value back.
-pub fn is_true_of(condition: &Expr, name: u16, value: Val, env: &mut Env) -> Result<(bool, Val), Memory>
+pub fn is_true_of(
+    condition: &Expr,
+    name: u16,
+    value: Val,
+    env: &mut Env,
+) -> Result<(bool, Val), Memory>
     ensures truth { IfOk result (λ answer. answer.0 ≡ is_true_in condition.now ((name, value) ∷ env.old.pairs)) }
     ensures value { IfOk result (λ answer. answer.1 ≡ value) }
     ensures env { OnOk result (env.new.pairs ≡ env.old.pairs) }

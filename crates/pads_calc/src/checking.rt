@@ -60,7 +60,8 @@ impl Table<'_> {
             Term::Lit(_) => true,
             Term::Eor => true,
             Term::Struct(parts) => {
-                part_names_there(self.names, parts.as_slice()) && self.parts(parts.as_slice(), scope)
+                part_names_there(self.names, parts.as_slice())
+                    && self.parts(parts.as_slice(), scope)
             }
             Term::Alt(arms) => self.arms(arms.as_slice(), scope),
             Term::Switch(e, cases) => {

@@ -9,7 +9,12 @@ use pads_value::{Memory, Val};
 use std::alloc::Global;
 
 /// A reading under a constraint, which is asked of a clean reading alone.
-pub fn guarded(reading: Reading, binder: u16, condition: &Expr, env: &mut Env) -> Result<Reading, Memory>
+pub fn guarded(
+    reading: Reading,
+    binder: u16,
+    condition: &Expr,
+    env: &mut Env,
+) -> Result<Reading, Memory>
     ensures guarded { IfOk result (λ r. r ≡ guard_of binder condition.now env.old.pairs reading) }
     ensures place { IfOk result (λ r. r.place ≡ reading.place) }
     ensures env { OnOk result (env.new.pairs ≡ env.old.pairs) }
@@ -20,7 +25,11 @@ pub fn guarded(reading: Reading, binder: u16, condition: &Expr, env: &mut Env) -
     let Reading { value, pd, place } = reading;
     let (truth, value) = is_true_of(condition, binder, value, env)?;
     let reading = Reading { value, pd, place };
-    if truth { Ok(reading) } else { Ok(reading.constrained()) }
+    if truth {
+        Ok(reading)
+    } else {
+        Ok(reading.constrained())
+    }
 }
 
 /// Binds a part's value in the environment of the later parts, where the part has a name.

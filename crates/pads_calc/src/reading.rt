@@ -17,7 +17,14 @@ pub struct Reading {
 
 impl Reading {
     /// A node from `begin` to `place` of a record whose first byte has the offset `origin`.
-    pub fn node(origin: u64, own: Option<Own>, value: Val, begin: u64, place: u64, kids: Pds) -> Reading
+    pub fn node(
+        origin: u64,
+        own: Option<Own>,
+        value: Val,
+        begin: u64,
+        place: u64,
+        kids: Pds,
+    ) -> Reading
         requires origin { origin ≤ 2 ^ 62 }
         requires begin { begin ≤ 2 ^ 62 }
         requires place { place ≤ 2 ^ 62 }
@@ -51,7 +58,14 @@ impl Reading {
         ensures fails { result ≡ fails_of origin cause place }
     {
         let own = Own { cause, fails: true };
-        Reading::node(origin, Some(own), Val::Missing, place, place, Items::new(alloc))
+        Reading::node(
+            origin,
+            Some(own),
+            Val::Missing,
+            place,
+            place,
+            Items::new(alloc),
+        )
     }
 
     /// A node that takes bytes and has no value.
@@ -65,7 +79,14 @@ impl Reading {
             cause,
             fails: false,
         };
-        Reading::node(origin, Some(own), Val::Missing, begin, place, Items::new(alloc))
+        Reading::node(
+            origin,
+            Some(own),
+            Val::Missing,
+            begin,
+            place,
+            Items::new(alloc),
+        )
     }
 
     /// Whether neither the node nor one below it has a cause.
@@ -89,7 +110,11 @@ impl Reading {
     pub fn absorbed(self) -> Reading
         ensures absorbed { result ≡ absorb_of self }
     {
-        let value = if self.is_ok() { Val::Unit } else { Val::Missing };
+        let value = if self.is_ok() {
+            Val::Unit
+        } else {
+            Val::Missing
+        };
         let Reading {
             value: _,
             pd,
@@ -133,7 +158,13 @@ impl Reading {
     }
 
     /// The reading of a union that stands at `begin` and has this branch.
-    pub fn branch(self, alloc: Global, origin: u64, number: u16, begin: u64) -> Result<Reading, Memory>
+    pub fn branch(
+        self,
+        alloc: Global,
+        origin: u64,
+        number: u16,
+        begin: u64,
+    ) -> Result<Reading, Memory>
         requires origin { origin ≤ 2 ^ 62 }
         requires begin { begin ≤ 2 ^ 62 }
         requires place { self.place ≤ 2 ^ 62 }

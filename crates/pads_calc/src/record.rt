@@ -84,7 +84,13 @@ impl<'a> Record<'a> {
         ensures within { EndsWithin self.now.bytes.now place result }
     {
         match read {
-            Read::Good(size, value) => Reading::leaf(alloc, self.origin, value, place, place + size),
+            Read::Good(size, value) => Reading::leaf(
+                alloc,
+                self.origin,
+                value,
+                place,
+                place + size,
+            ),
             Read::Soft(size, cause) => {
                 Reading::faulty(alloc, self.origin, cause, place, place + size)
             }
@@ -93,7 +99,13 @@ impl<'a> Record<'a> {
     }
 
     /// A base type, where all of its arguments have a value.
-    fn base_at(&self, alloc: Global, base: &Base, args: Option<Args>, place: u64) -> Result<Reading, Memory>
+    fn base_at(
+        &self,
+        alloc: Global,
+        base: &Base,
+        args: Option<Args>,
+        place: u64,
+    ) -> Result<Reading, Memory>
         requires labels { labels_fit base.now ≡ true }
         requires place { place ≤ length self.now.bytes.now }
         ensures base { IfOk result (λ r. r ≡ base_of self.now.origin self.now.bytes.now base.now args place) }
@@ -109,7 +121,14 @@ impl<'a> Record<'a> {
     }
 
     /// A base type with its arguments.
-    pub fn base(&self, alloc: Global, base: &Base, args: &[Expr], env: &Env, place: u64) -> Result<Reading, Memory>
+    pub fn base(
+        &self,
+        alloc: Global,
+        base: &Base,
+        args: &[Expr],
+        env: &Env,
+        place: u64,
+    ) -> Result<Reading, Memory>
         requires labels { labels_fit base.now ≡ true }
         requires place { place ≤ length self.now.bytes.now }
         ensures base { IfOk result (λ r. r ≡ base_of self.now.origin self.now.bytes.now base.now (arguments_of args.now env.now.pairs) place) }
@@ -120,7 +139,14 @@ impl<'a> Record<'a> {
     }
 
     /// The value of an expression, over no bytes.
-    pub fn computed(&self, alloc: Global, e: &Expr, form: &Result2, env: &Env, place: u64) -> Result<Reading, Memory>
+    pub fn computed(
+        &self,
+        alloc: Global,
+        e: &Expr,
+        form: &Result2,
+        env: &Env,
+        place: u64,
+    ) -> Result<Reading, Memory>
         requires { place ≤ length self.now.bytes.now }
         ensures computed { IfOk result (λ r. r ≡ compute_of self.now.origin form.now (told (value e.now env.now.pairs)) place) }
         ensures within { IfOk result (λ r. EndsWithin self.now.bytes.now place r) }

@@ -77,7 +77,13 @@ impl Run {
     }
 
     /// Whether the latest element is the last one, by a condition over the elements so far.
-    pub fn is_last(&mut self, alloc: Global, last: Option<&Expr>, elements_name: u16, env: &mut Env) -> Result<bool, Memory>
+    pub fn is_last(
+        &mut self,
+        alloc: Global,
+        last: Option<&Expr>,
+        elements_name: u16,
+        env: &mut Env,
+    ) -> Result<bool, Memory>
         ensures last { IfOk result (λ answer. answer ≡ is_last_of (option_copied last.entry) elements_name self.old.values env.old.pairs) }
         ensures kept { OnOk result (self.new ≡ self.old) }
         ensures env { OnOk result (env.new.pairs ≡ env.old.pairs) }

@@ -143,7 +143,12 @@ fn row_json<'m>(
 }
 
 /// The line of a row, by the declarations, the names and the shape of its module.
-pub(crate) fn line(alloc: Global, terms: &Terms<'_>, shape: Shape, row: &Row) -> Result<Bytes, Memory>
+pub(crate) fn line(
+    alloc: Global,
+    terms: &Terms<'_>,
+    shape: Shape,
+    row: &Row,
+) -> Result<Bytes, Memory>
     ensures line { IfOk result (λ line. line ≡ line_told terms.now.decls.now terms.now.names.now shape row.now) }
 {
     let body = body(alloc, shape, row.number);

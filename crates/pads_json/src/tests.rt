@@ -156,4 +156,3 @@ fn a_pair_of_numbers(rt: HostRuntime) -> Result<(), Fail> {
     assert!(rt; is_line(alloc, &decls, &names, EACH, &row, second)?);
     Ok(())
 }
-

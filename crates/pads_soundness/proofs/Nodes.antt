@@ -67,7 +67,7 @@ causes-more kid kids = sum_by-cons (λ n. n) (causes kid) (map causes kids)
 
 total-is : (kids : List Pd) → AllCounts kids → capped (counted kids) ≡ capped (sum (map causes kids))
 total-is [] all = refl
-total-is (kid ∷ kids) all = 
+total-is (kid ∷ kids) all =
     omega (arith, counted-more kid kids, causes-more kid kids, count-is kid all.0, total-is kids all.1)
 
 pub both-left : (a b : Bool) → (a && b) ≡ true → a ≡ true
@@ -92,8 +92,12 @@ none-clean pd sound none = ap is_ok_class ((every_here-Pd CountsHere pd sound).n
 total-clean : (kids : List Pd) → AllCounts kids → all_clean kids ≡ true → counted kids ≡ 0
 total-clean [] all clean = refl
 total-clean (kid ∷ kids) all clean =
-    omega (arith, counted-more kid kids, clean-none kid all.0 (both-left (is_clean kid) (all_clean kids) clean),
-    total-clean kids all.1 (both-right (is_clean kid) (all_clean kids) clean))
+    omega (
+      arith,
+      counted-more kid kids,
+      clean-none kid all.0 (both-left (is_clean kid) (all_clean kids) clean),
+      total-clean kids all.1 (both-right (is_clean kid) (all_clean kids) clean),
+    )
 
 total-none : (kids : List Pd) → AllCounts kids → counted kids ≡ 0 → all_clean kids ≡ true
 total-none [] all none = refl

@@ -84,8 +84,7 @@ module _ (origin : ℕ) (bytes : List ℕ) where
   follow-order i (r ∷ readings) h =
       let from = h.0.1 in
       let begin = ap (λ (s : Span). s.begin) from.sound.span in
-      let end = ap (λ (s : Span). s.end) from.sound.span in
-      (
+      let end = ap (λ (s : Span). s.end) from.sound.span in (
         omega (arith, begin, from.forth),
         omega (arith, begin, end, from.sound.forth),
         subst (λ at. InOrder at (pds readings) (origin + end_of r.place readings)) (sym end) (follow-order r.place readings h.1),

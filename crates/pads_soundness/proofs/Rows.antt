@@ -44,10 +44,10 @@ module _ (cut : Cut) where
       pick (λ kids. InOrder (cut.first + place) kids cut.end) (nat_lt place (length cut.bytes))
       ((faulty cut.first cause.ExtraBeforeEor place (length cut.bytes)).pd ∷ []) []
       (λ more.
-        let h = sound-rest place before in
-        let begin = ap (λ (s : Span). s.begin) h.span in
-        let end = ap (λ (s : Span). s.end) h.span in
-        (omega (arith, begin), omega (arith, begin, end), omega (arith, end)))
+      let h = sound-rest place before in
+      let begin = ap (λ (s : Span). s.begin) h.span in
+      let end = ap (λ (s : Span). s.end) h.span in
+      (omega (arith, begin), omega (arith, begin, end), omega (arith, end)))
       (λ _. omega arith)
 
   row-counts : (number : ℕ) (own : Option Own) (r : Reading) → Body r → CountsAreSound (read_row number cut own r).pd

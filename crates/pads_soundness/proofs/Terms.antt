@@ -64,25 +64,25 @@ module _ (origin : ℕ) (bytes : List ℕ) (call : Caller) where
     -- one layer
     sound-layer : (n : ℕ) → Smaller n → (layer : Term-F Term Arm Case Part Seq) → size-Term (roll-Term layer) ≤ n → IsSound (roll-Term layer)
     sound-layer n h Term-F.Unit fits = subst IsSound (sym term.rolls-Unit) (λ env i.
-      by_equation i _ _ (read-Unit origin bytes call env i) (sound-unit origin bytes i))
+        by_equation i _ _ (read-Unit origin bytes call env i) (sound-unit origin bytes i))
     sound-layer n h (Term-F.Base base args) fits = subst IsSound (sym (term.rolls-Base base args)) (λ env i.
-      by_equation i _ _ (read-Base origin bytes call base args env i) (sound-base origin bytes base (arguments args env) i))
+        by_equation i _ _ (read-Base origin bytes call base args env i) (sound-base origin bytes base (arguments args env) i))
     sound-layer n h (Term-F.Lit literal) fits = subst IsSound (sym (term.rolls-Lit literal)) (λ env i.
-      by_equation i _ _ (read-Lit origin bytes call literal env i) (sound-lit origin bytes literal i))
+        by_equation i _ _ (read-Lit origin bytes call literal env i) (sound-lit origin bytes literal i))
     sound-layer n h Term-F.Eor fits = subst IsSound (sym term.rolls-Eor) (λ env i.
-      by_equation i _ _ (read-Eor origin bytes call env i) (sound-eor origin bytes i))
+        by_equation i _ _ (read-Eor origin bytes call env i) (sound-eor origin bytes i))
     sound-layer n h (Term-F.Struct parts) fits = subst IsSound (sym (term.rolls-Struct parts)) (λ env i.
-      by_equation i _ _ (read-Struct origin bytes call parts env i) (sound-struct origin bytes _
-      (sound-parts n h parts (omega (arith, size-Struct parts, ap size-Term (term.rolls-Struct parts)))) env i))
+        by_equation i _ _ (read-Struct origin bytes call parts env i) (sound-struct origin bytes _
+        (sound-parts n h parts (omega (arith, size-Struct parts, ap size-Term (term.rolls-Struct parts)))) env i))
     sound-layer n h (Term-F.Alt arms) fits = subst IsSound (sym (term.rolls-Alt arms)) (λ env i.
-      by_equation i _ _ (read-Alt origin bytes call arms env i) (sound-alt origin bytes _
-      (sound-arms n h arms (omega (arith, size-Alt arms, ap size-Term (term.rolls-Alt arms)))) 0 env i))
+        by_equation i _ _ (read-Alt origin bytes call arms env i) (sound-alt origin bytes _
+        (sound-arms n h arms (omega (arith, size-Alt arms, ap size-Term (term.rolls-Alt arms)))) 0 env i))
     sound-layer n h (Term-F.Switch e cases) fits = subst IsSound (sym (term.rolls-Switch e cases)) (λ env i.
-      by_equation i _ _ (read-Switch origin bytes call e cases env i) (sound-switch origin bytes _ _
-      (sound-cases n h cases (omega (arith, size-Switch e cases, ap size-Term (term.rolls-Switch e cases)))) env i))
+        by_equation i _ _ (read-Switch origin bytes call e cases env i) (sound-switch origin bytes _ _
+        (sound-cases n h cases (omega (arith, size-Switch e cases, ap size-Term (term.rolls-Switch e cases)))) env i))
     sound-layer n h (Term-F.Guard inner binder condition) fits = subst IsSound (sym (term.rolls-Guard inner binder condition)) (λ env i.
-      by_equation i _ _ (read-Guard origin bytes call inner binder condition env i) (sound-guard origin bytes binder condition env i _
-      (h inner (omega (arith, size-Guard inner binder condition, ap size-Term (term.rolls-Guard inner binder condition))) env i)))
+        by_equation i _ _ (read-Guard origin bytes call inner binder condition env i) (sound-guard origin bytes binder condition env i _
+        (h inner (omega (arith, size-Guard inner binder condition, ap size-Term (term.rolls-Guard inner binder condition))) env i)))
     sound-layer n h (Term-F.Seq s) fits =
         let smaller : size-Seq s < n = omega (arith, size-of_Seq s, ap size-Term (term.rolls-Seq s)) in
         subst IsSound (sym (term.rolls-Seq s)) (λ env i.
@@ -90,15 +90,15 @@ module _ (origin : ℕ) (bytes : List ℕ) (call : Caller) where
         (h s.elem (omega (arith, size-elem s)))
         (sound-option s.sep (λ t there. h t (omega (arith, size-sep s t there)))) env i))
     sound-layer n h (Term-F.Call number args) fits = subst IsSound (sym (term.rolls-Call number args)) (λ env i.
-      by_equation i _ _ (read-Call origin bytes call number args env i) (calls number args env i))
+        by_equation i _ _ (read-Call origin bytes call number args env i) (calls number args env i))
     sound-layer n h (Term-F.Compute e form) fits = subst IsSound (sym (term.rolls-Compute e form)) (λ env i.
-      by_equation i _ _ (read-Compute origin bytes call e form env i) (sound-compute origin bytes form (told (value e env)) i))
+        by_equation i _ _ (read-Compute origin bytes call e form env i) (sound-compute origin bytes form (told (value e env)) i))
     sound-layer n h (Term-F.Absorb inner) fits = subst IsSound (sym (term.rolls-Absorb inner)) (λ env i.
-      by_equation i _ _ (read-Absorb origin bytes call inner env i) (sound-absorb origin bytes i _
-      (h inner (omega (arith, size-Absorb inner, ap size-Term (term.rolls-Absorb inner))) env i)))
+        by_equation i _ _ (read-Absorb origin bytes call inner env i) (sound-absorb origin bytes i _
+        (h inner (omega (arith, size-Absorb inner, ap size-Term (term.rolls-Absorb inner))) env i)))
     sound-layer n h (Term-F.Scan inner) fits = subst IsSound (sym (term.rolls-Scan inner)) (λ env i.
-      by_equation i _ _ (read-Scan origin bytes call inner env i) (sound-scan origin bytes _
-      (h inner (omega (arith, size-Scan inner, ap size-Term (term.rolls-Scan inner)))) env i))
+        by_equation i _ _ (read-Scan origin bytes call inner env i) (sound-scan origin bytes _
+        (h inner (omega (arith, size-Scan inner, ap size-Term (term.rolls-Scan inner)))) env i))
 
     sound-smaller : (n : ℕ) → Smaller n
     sound-smaller zero t less = absurd (omega arith)

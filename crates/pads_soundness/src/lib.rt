@@ -8,5 +8,6 @@
 mod laws;
 
 pub use laws::{
-    readings_have_sound_descriptors, rows_have_sound_descriptors, rows_of_frames_have_sound_descriptors,
+    readings_have_sound_descriptors, rows_have_sound_descriptors,
+    rows_of_frames_have_sound_descriptors,
 };

@@ -5,6 +5,3 @@ mod reader;
 mod row;
 
 pub use row::walk;
-
-#[cfg(test)]
-mod tests;

@@ -37,7 +37,13 @@ fn item<T>(items: &[T], at: usize) -> Option<&T>
 impl Reader<'_> {
     /// A term in an environment at a place, where calls may be nested so deep.
     #[cycle(reader)]
-    pub(crate) fn read(&self, term: &Term, env: &mut Env, place: u64, depth: u8) -> Result<Reading, Memory>
+    pub(crate) fn read(
+        &self,
+        term: &Term,
+        env: &mut Env,
+        place: u64,
+        depth: u8,
+    ) -> Result<Reading, Memory>
         requires within { place ≤ length self.now.record.bytes.now }
         requires counted { counts_fit term.now ≡ true }
         ensures value { IfOk result (λ r. r ≡ reads self.now.record self.now.decls.now depth term.now env.old.pairs place) }
@@ -47,7 +53,8 @@ impl Reader<'_> {
         match term {
             Term::Unit => Ok(self.record.unit(self.alloc, place)),
             Term::Base(base, args) => {
-                self.record.base(self.alloc, base, args.as_slice(), env, place)
+                self.record
+                    .base(self.alloc, base, args.as_slice(), env, place)
             }
             Term::Lit(literal) => Ok(self.record.literal(self.alloc, literal.as_slice(), place)),
             Term::Eor => Ok(self.record.end(self.alloc, place)),
@@ -68,7 +75,13 @@ impl Reader<'_> {
 
     /// The parts of a struct in turn, whatever the earlier ones gave.
     #[cycle(reader)]
-    fn read_struct(&self, parts: &[Part], env: &mut Env, place: u64, depth: u8) -> Result<Reading, Memory>
+    fn read_struct(
+        &self,
+        parts: &[Part],
+        env: &mut Env,
+        place: u64,
+        depth: u8,
+    ) -> Result<Reading, Memory>
         requires within { place ≤ length self.now.record.bytes.now }
         requires counted { list_all (λ part. counts_fit part.term) parts.now ≡ true }
         ensures value { IfOk result (λ r. r ≡ struct_of self.now.record.origin (in_turn (map (reads_part self.now.record self.now.decls.now depth) parts.now) env.old.pairs place) place) }
@@ -88,7 +101,13 @@ impl Reader<'_> {
 
     /// The first branch that reads without a fault; each is tried at the same place.
     #[cycle(reader)]
-    fn read_alt(&self, arms: &[Arm], env: &mut Env, place: u64, depth: u8) -> Result<Reading, Memory>
+    fn read_alt(
+        &self,
+        arms: &[Arm],
+        env: &mut Env,
+        place: u64,
+        depth: u8,
+    ) -> Result<Reading, Memory>
         requires within { place ≤ length self.now.record.bytes.now }
         requires few { few arms.now ≡ true }
         requires counted { list_all (λ arm. counts_fit arm.term) arms.now ≡ true }
@@ -107,7 +126,14 @@ impl Reader<'_> {
 
     /// The case that the expression's value chooses.
     #[cycle(reader)]
-    fn read_switch(&self, e: &Expr, cases: &[Case], env: &mut Env, place: u64, depth: u8) -> Result<Reading, Memory>
+    fn read_switch(
+        &self,
+        e: &Expr,
+        cases: &[Case],
+        env: &mut Env,
+        place: u64,
+        depth: u8,
+    ) -> Result<Reading, Memory>
         requires within { place ≤ length self.now.record.bytes.now }
         requires few { few cases.now ≡ true }
         requires counted { list_all (λ case. counts_fit case.arm.term) cases.now ≡ true }
@@ -155,7 +181,14 @@ impl Reader<'_> {
 
     /// Whether an array ends before the next element.
     #[cycle(reader)]
-    fn ending(&self, seq: &Seq, size: Option<u128>, run: &mut Run, env: &mut Env, depth: u8) -> Result<Ending, Memory>
+    fn ending(
+        &self,
+        seq: &Seq,
+        size: Option<u128>,
+        run: &mut Run,
+        env: &mut Env,
+        depth: u8,
+    ) -> Result<Ending, Memory>
         requires within { run.old.place ≤ length self.now.record.bytes.now }
         requires stop { option_counts seq.now.stop ≡ true }
         ensures ending { IfOk result (λ ending. ending ≡ ending_at self.now.record.bytes.now (reads_seq self.now.record self.now.decls.now depth seq.now) size run.old.values env.old.pairs run.old.place) }
@@ -196,7 +229,14 @@ impl Reader<'_> {
 
     /// The next element and, from the second on, the separator before it.
     #[cycle(reader)]
-    fn turn(&self, seq: &Seq, is_first: bool, env: &mut Env, place: u64, depth: u8) -> Result<Turn, Memory>
+    fn turn(
+        &self,
+        seq: &Seq,
+        is_first: bool,
+        env: &mut Env,
+        place: u64,
+        depth: u8,
+    ) -> Result<Turn, Memory>
         requires within { place ≤ length self.now.record.bytes.now }
         requires elem { counts_fit seq.now.elem ≡ true }
         requires sep { option_counts seq.now.sep ≡ true }
@@ -213,7 +253,14 @@ impl Reader<'_> {
 
     /// Where the next element begins; none where the separator isn't there.
     #[cycle(reader)]
-    fn element_at(&self, seq: &Seq, is_first: bool, env: &mut Env, place: u64, depth: u8) -> Result<Option<u64>, Memory>
+    fn element_at(
+        &self,
+        seq: &Seq,
+        is_first: bool,
+        env: &mut Env,
+        place: u64,
+        depth: u8,
+    ) -> Result<Option<u64>, Memory>
         requires within { place ≤ length self.now.record.bytes.now }
         requires sep { option_counts seq.now.sep ≡ true }
         ensures begin { IfOk result (λ begin. begin ≡ element_place (option_map (reads self.now.record self.now.decls.now depth) seq.now.sep) is_first env.old.pairs place) }
@@ -227,12 +274,23 @@ impl Reader<'_> {
             return Ok(Some(place));
         };
         let reading = self.read(sep, env, place, depth)?;
-        if reading.is_ok() { Ok(Some(reading.place)) } else { Ok(None) }
+        if reading.is_ok() {
+            Ok(Some(reading.place))
+        } else {
+            Ok(None)
+        }
     }
 
     /// The body of a declaration, with the arguments as its whole environment.
     #[cycle(reader)]
-    pub(crate) fn read_call(&self, number: u16, args: &[Expr], env: &Env, place: u64, depth: u8) -> Result<Reading, Memory>
+    pub(crate) fn read_call(
+        &self,
+        number: u16,
+        args: &[Expr],
+        env: &Env,
+        place: u64,
+        depth: u8,
+    ) -> Result<Reading, Memory>
         requires within { place ≤ length self.now.record.bytes.now }
         ensures value { IfOk result (λ r. r ≡ calls self.now.record self.now.decls.now depth number args.now env.now.pairs place) }
         ensures within { IfOk result (λ r. EndsWithin self.now.record.bytes.now place r) }
@@ -253,7 +311,13 @@ impl Reader<'_> {
 
     /// A term at the first place from here to the record's end at which it reads without a fault.
     #[cycle(reader)]
-    fn read_scan(&self, inner: &Term, env: &mut Env, place: u64, depth: u8) -> Result<Reading, Memory>
+    fn read_scan(
+        &self,
+        inner: &Term,
+        env: &mut Env,
+        place: u64,
+        depth: u8,
+    ) -> Result<Reading, Memory>
         requires within { place ≤ length self.now.record.bytes.now }
         requires counted { counts_fit inner.now ≡ true }
         ensures value { IfOk result (λ r. r ≡ scan self.now.record.origin self.now.record.bytes.now (reads self.now.record self.now.decls.now depth inner.now) env.old.pairs place) }

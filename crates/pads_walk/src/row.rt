@@ -36,7 +36,13 @@ fn kids(alloc: Global, frame: &Frame, body: Pd, place: u64) -> Result<Pds, Memor
 }
 
 /// The row of a record whose body reads so.
-fn row_over(alloc: Global, record_no: u64, frame: &Frame, own: Option<Own>, body: Reading) -> Result<Row, Memory>
+fn row_over(
+    alloc: Global,
+    record_no: u64,
+    frame: &Frame,
+    own: Option<Own>,
+    body: Reading,
+) -> Result<Row, Memory>
     requires { body.place ≤ length frame.now.bytes.now }
     ensures row { IfOk result (λ row. row ≡ read_row record_no (cut_of_frame frame.now) own body) }
 {
@@ -71,7 +77,12 @@ fn row_without(alloc: Global, record_no: u64, frame: &Frame, cause: Cause) -> Ro
 }
 
 /// The reading of a record's type at its first byte.
-fn read_body<'x>(alloc: Global, module: &'x Module, record_no: u64, frame: &'x Frame<'x>) -> Result<Reading, Memory>
+fn read_body<'x>(
+    alloc: Global,
+    module: &'x Module,
+    record_no: u64,
+    frame: &'x Frame<'x>,
+) -> Result<Reading, Memory>
     ensures body { IfOk result (λ r. r ≡ body_reading module.now.decls (type_of module.now.shape record_no) (cut_of_frame frame.now)) }
     ensures within { IfOk result (λ r. r.place ≤ length frame.now.bytes.now) }
 {

@@ -16,5 +16,5 @@ pub returns : goal.returns
 returns c = record {
   counts = λ decls shape number. sound-row_counts decls shape number _;
   spans = λ decls shape number. sound-row_spans decls shape number _
-    (within_extent c.args.frame.now.mark c.args.frame.now.first c.args.frame.now.end (length c.args.frame.now.bytes.now) (omega arith) (omega arith));
+      (within_extent c.args.frame.now.mark c.args.frame.now.first c.args.frame.now.end (length c.args.frame.now.bytes.now) (omega arith) (omega arith));
 }

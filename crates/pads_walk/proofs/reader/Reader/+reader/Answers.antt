@@ -170,7 +170,7 @@ read_scan-loop-at-preserved t c =
     record {
       env = c.in_ok-reading.ensures.env ∙ c.loop-at.invariant.env;
       rest = c.loop-at.invariant.rest
-      ∙ scan-next c.args.self.now.record.origin f c.args.env.now.pairs c.args.place (length c.args.self.now.record.bytes.now + 1) c.loop-at.at c.loop-at-test.true bad;
+          ∙ scan-next c.args.self.now.record.origin f c.args.env.now.pairs c.args.place (length c.args.self.now.record.bytes.now + 1) c.loop-at.at c.loop-at-test.true bad;
     }
 
 pub read_scan-returns-clause-value : goal.read_scan-returns-clause-value
@@ -262,7 +262,7 @@ read_seq-returns-in-Ends-clause-value t c =
     let sized : size_at s.size c.args.env.now.pairs ≡ Some c.in-Some.size = sym (rw c.as_ref.ensures.value at c.in-Some.ensures.size) in
     let some : length run.values < turns_from c.args.self.now.record.bytes.now c.args.place = omega (arith, c.elements.invariant.turns, c.elements.invariant.to) in
     let ended : ending_at c.args.self.now.record.bytes.now s c.in-Some.size run.values c.args.env.now.pairs run.place ≡ ending.Ends c.in-Ends.own =
-        rw c.elements.invariant.env at (sym c.in_ok-own.ensures.ending ∙ c.in-Ends.is) in
+    rw c.elements.invariant.env at (sym c.in_ok-own.ensures.ending ∙ c.in-Ends.is) in
     rw c.in_ok-own.ensures.run at c.into_array.ensures.node
     ∙ sym (gathers-ended c.args.self.now.record.bytes.now s c.in-Some.size c.args.env.now.pairs whole c.args.place c.args.self.now.record.origin run.values run.pds run.place c.in-Ends.own some c.elements.invariant.kept ended)
     ∙ sym (seq-sized c.args.self.now.record.origin c.args.self.now.record.bytes.now s c.args.env.now.pairs c.args.place c.in-Some.size sized)
@@ -281,7 +281,7 @@ read_seq-returns-in-Undone-clause-value t c =
     let sized : size_at s.size c.args.env.now.pairs ≡ Some c.in-Some.size = sym (rw c.as_ref.ensures.value at c.in-Some.ensures.size) in
     let some : length run.values < turns_from c.args.self.now.record.bytes.now c.args.place = omega (arith, c.elements.invariant.turns, c.elements.invariant.to) in
     let on : ending_at c.args.self.now.record.bytes.now s c.in-Some.size run.values c.args.env.now.pairs run.place ≡ ending.GoesOn =
-        rw c.elements.invariant.env at (sym c.in_ok-own.ensures.ending ∙ c.in_default-2.is) in
+    rw c.elements.invariant.env at (sym c.in_ok-own.ensures.ending ∙ c.in_default-2.is) in
     let turns = rw (c.is_empty.ensures.empty, c.in_ok-own.ensures.run, c.in_ok-own.ensures.env, c.elements.invariant.env) at (sym c.in_ok-cause.ensures.turn ∙ c.in-Undone.is) in
     rw c.in_ok-own.ensures.run at c.into_array-in-Undone.ensures.node
     ∙ sym (gathers-undone c.args.self.now.record.bytes.now s c.in-Some.size c.args.env.now.pairs whole c.args.place c.args.self.now.record.origin run.values run.pds run.place c.in-Undone.cause some c.elements.invariant.kept on turns)
@@ -307,10 +307,10 @@ read_seq-elements-preserved t c =
     let sized : size_at s.size c.args.env.now.pairs ≡ Some c.in-Some.size = sym (rw c.as_ref.ensures.value at c.in-Some.ensures.size) in
     let some : length run.values < turns_from c.args.self.now.record.bytes.now c.args.place = omega (arith, c.elements.invariant.turns, c.elements.invariant.to) in
     let on : ending_at c.args.self.now.record.bytes.now s c.in-Some.size run.values c.args.env.now.pairs run.place ≡ ending.GoesOn =
-        rw c.elements.invariant.env at (sym c.in_ok-own.ensures.ending ∙ c.in_default-2.is) in
+    rw c.elements.invariant.env at (sym c.in_ok-own.ensures.ending ∙ c.in_default-2.is) in
     let turns = rw (c.is_empty.ensures.empty, c.in_ok-own.ensures.run, c.in_ok-own.ensures.env, c.elements.invariant.env) at (sym c.in_ok-cause.ensures.turn ∙ c.in-Kept.is) in
     let grows : TurnsWithin c.args.self.now.record.bytes.now (is_empty run.values) run.place (turn.Kept c.in-Kept.reading) =
-        rw (c.is_empty.ensures.empty, c.in_ok-own.ensures.run, c.in-Kept.is) at c.in_ok-cause.ensures.within in
+    rw (c.is_empty.ensures.empty, c.in_ok-own.ensures.run, c.in-Kept.is) at c.in_ok-cause.ensures.within in
     let room = turns-room c.args.self.now.record.bytes.now c.args.place run.values run.place c.in-Kept.reading c.elements.invariant.from c.elements.invariant.turns grows in
     rw (c.in_ok-push-in-Kept.ensures.pushed, c.in_ok-own.ensures.run) (record {
       env = c.in_ok-cause.ensures.env ∙ c.in_ok-own.ensures.env ∙ c.elements.invariant.env;
@@ -338,14 +338,14 @@ pub ending-returns-then-is_last-clause-ending : goal.ending-returns-then-is_last
 ending-returns-then-is_last-clause-ending t c =
     let full : is_full c.args.size (length c.args.run.now.values) ≡ false = ap (λ n. is_full c.args.size n) (sym c.len.ensures.length) ∙ sym c.is_full.ensures.full ∙ c.if-is_full.false in
     let last : is_last c.args.seq.now.last c.args.seq.now.elts c.args.run.now.values c.args.env.now.pairs ≡ true =
-        ap (λ o. is_last o c.args.seq.now.elts c.args.run.now.values c.args.env.now.pairs) (sym c.as_ref.ensures.value) ∙ sym c.in_ok-is_last.ensures.last ∙ c.if-is_last.true in
+    ap (λ o. is_last o c.args.seq.now.elts c.args.run.now.values c.args.env.now.pairs) (sym c.as_ref.ensures.value) ∙ sym c.in_ok-is_last.ensures.last ∙ c.if-is_last.true in
     sym (ending-last c.args.self.now.record.bytes.now (reads_seq c.args.self.now.record c.args.self.now.decls.now c.args.depth c.args.seq.now) c.args.size c.args.run.now.values c.args.env.now.pairs c.args.run.now.place full last)
 
 pub ending-returns-then-stops-clause-ending : goal.ending-returns-then-stops-clause-ending
 ending-returns-then-stops-clause-ending t c =
     let full : is_full c.args.size (length c.args.run.now.values) ≡ false = ap (λ n. is_full c.args.size n) (sym c.len.ensures.length) ∙ sym c.is_full.ensures.full ∙ c.if-is_full.false in
     let last : is_last c.args.seq.now.last c.args.seq.now.elts c.args.run.now.values c.args.env.now.pairs ≡ false =
-        ap (λ o. is_last o c.args.seq.now.elts c.args.run.now.values c.args.env.now.pairs) (sym c.as_ref.ensures.value) ∙ sym c.in_ok-is_last.ensures.last ∙ c.if-is_last.false in
+    ap (λ o. is_last o c.args.seq.now.elts c.args.run.now.values c.args.env.now.pairs) (sym c.as_ref.ensures.value) ∙ sym c.in_ok-is_last.ensures.last ∙ c.if-is_last.false in
     let stop = rw (c.in_ok-is_last.ensures.kept, c.in_ok-is_last.ensures.env) at (sym c.in_ok-stops.ensures.stops ∙ c.if-stops.true) in
     ap ending.Ends c.short_of.ensures.cause ∙ sym (ending-stop c.args.self.now.record.bytes.now (reads_seq c.args.self.now.record c.args.self.now.decls.now c.args.depth c.args.seq.now) c.args.size c.args.run.now.values c.args.env.now.pairs c.args.run.now.place full last stop)
 
@@ -353,7 +353,7 @@ pub ending-returns-then-is_end-clause-ending : goal.ending-returns-then-is_end-c
 ending-returns-then-is_end-clause-ending t c =
     let full : is_full c.args.size (length c.args.run.now.values) ≡ false = ap (λ n. is_full c.args.size n) (sym c.len.ensures.length) ∙ sym c.is_full.ensures.full ∙ c.if-is_full.false in
     let last : is_last c.args.seq.now.last c.args.seq.now.elts c.args.run.now.values c.args.env.now.pairs ≡ false =
-        ap (λ o. is_last o c.args.seq.now.elts c.args.run.now.values c.args.env.now.pairs) (sym c.as_ref.ensures.value) ∙ sym c.in_ok-is_last.ensures.last ∙ c.if-is_last.false in
+    ap (λ o. is_last o c.args.seq.now.elts c.args.run.now.values c.args.env.now.pairs) (sym c.as_ref.ensures.value) ∙ sym c.in_ok-is_last.ensures.last ∙ c.if-is_last.false in
     let stop = rw (c.in_ok-is_last.ensures.kept, c.in_ok-is_last.ensures.env) at (sym c.in_ok-stops.ensures.stops ∙ c.if-stops.false) in
     let over = rw c.in_ok-is_last.ensures.kept at (sym c.is_end.ensures.end ∙ c.if-is_end.true) in
     ap ending.Ends c.short_of-then-is_end.ensures.cause ∙ sym (ending-over c.args.self.now.record.bytes.now (reads_seq c.args.self.now.record c.args.self.now.decls.now c.args.depth c.args.seq.now) c.args.size c.args.run.now.values c.args.env.now.pairs c.args.run.now.place full last stop over)
@@ -362,8 +362,7 @@ pub ending-returns-clause-ending : goal.ending-returns-clause-ending
 ending-returns-clause-ending t c =
     let full : is_full c.args.size (length c.args.run.now.values) ≡ false = ap (λ n. is_full c.args.size n) (sym c.len.ensures.length) ∙ sym c.is_full.ensures.full ∙ c.if-is_full.false in
     let last : is_last c.args.seq.now.last c.args.seq.now.elts c.args.run.now.values c.args.env.now.pairs ≡ false =
-        ap (λ o. is_last o c.args.seq.now.elts c.args.run.now.values c.args.env.now.pairs) (sym c.as_ref.ensures.value) ∙ sym c.in_ok-is_last.ensures.last ∙ c.if-is_last.false in
+    ap (λ o. is_last o c.args.seq.now.elts c.args.run.now.values c.args.env.now.pairs) (sym c.as_ref.ensures.value) ∙ sym c.in_ok-is_last.ensures.last ∙ c.if-is_last.false in
     let stop = rw (c.in_ok-is_last.ensures.kept, c.in_ok-is_last.ensures.env) at (sym c.in_ok-stops.ensures.stops ∙ c.if-stops.false) in
     let over = rw c.in_ok-is_last.ensures.kept at (sym c.is_end.ensures.end ∙ c.if-is_end.false) in
     sym (ending-on c.args.self.now.record.bytes.now (reads_seq c.args.self.now.record c.args.self.now.decls.now c.args.depth c.args.seq.now) c.args.size c.args.run.now.values c.args.env.now.pairs c.args.run.now.place full last stop over)
-

@@ -54,7 +54,7 @@ invariant-read_struct-loop-part l =
     record {
       env : Extends l.initial.env.pairs l.env.pairs;
       follows : Follows (in_turn (map f l.parts) l.initial.env.pairs l.place) l.place l.run.values l.run.pds l.run.place
-      (in_turn (map f (drop l.part-index l.parts)) l.env.pairs l.run.place);
+          (in_turn (map f (drop l.part-index l.parts)) l.env.pairs l.run.place);
       from : l.place ≤ l.run.place;
       to : l.run.place ≤ length l.self.record.bytes.now;
     }
@@ -65,7 +65,7 @@ invariant-read_alt-loop-number l =
     record {
       env : l.env.pairs ≡ l.initial.env.pairs;
       rest : alt_from l.self.record.origin 0 (map f l.arms) l.initial.env.pairs l.place
-      ≡ alt_from l.self.record.origin l.number (map f (drop l.number l.arms)) l.initial.env.pairs l.place;
+          ≡ alt_from l.self.record.origin l.number (map f (drop l.number l.arms)) l.initial.env.pairs l.place;
     }
 
 abbrev pub invariant-read_scan-loop-at : goal.invariant-read_scan-loop-at
@@ -74,7 +74,7 @@ invariant-read_scan-loop-at l =
     record {
       env : l.env.pairs ≡ l.fn.env.pairs;
       rest : scan l.self.record.origin l.self.record.bytes.now f l.fn.env.pairs l.place
-      ≡ scan_from l.self.record.origin (length l.self.record.bytes.now + 1 - l.at) f l.fn.env.pairs l.place l.at;
+          ≡ scan_from l.self.record.origin (length l.self.record.bytes.now + 1 - l.at) f l.fn.env.pairs l.place l.at;
     }
 
 abbrev pub invariant-read_seq-elements : goal.invariant-read_seq-elements
@@ -84,7 +84,7 @@ invariant-read_seq-elements l =
     record {
       env : l.env.pairs ≡ l.initial.env.pairs;
       kept : Kept bytes s l.size l.initial.env.pairs (elements bytes s l.size l.initial.env.pairs (turns_from bytes l.place) [] l.place) l.place
-      l.run.values l.run.pds l.run.place;
+          l.run.values l.run.pds l.run.place;
       turns : length l.run.values + l.place ≤ l.run.place + 1;
       from : l.place ≤ l.run.place;
       to : l.run.place ≤ length bytes;
