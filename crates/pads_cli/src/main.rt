@@ -3,6 +3,9 @@
 //! status of the run.
 #![tactic(auto)]
 
+ghost use Rattle.std.specs.Prelude.{◌≡◌};
+ghost use Rattle.pads_cli.specs.Codes.{code_of};
+
 use pads_io::{RealFiles, RealSink, RealSource};
 use pads_tool::{Status, Word, Words, run};
 use pads_value::Memory;
@@ -44,7 +47,16 @@ fn run_words(rt: &HostRuntime) -> Result<Status, Memory> {
     ))
 }
 
+/// The exit status of a run, or that of want of memory where none was begun.
+fn exit_code(ended: Result<Status, Memory>) -> u8
+    ensures code { result ≡ code_of ended }
+{
+    match ended {
+        Ok(status) => status.exit_status(),
+        Err(Memory) => Status::Memory.exit_status(),
+    }
+}
+
 fn main(rt: HostRuntime) -> ExitCode {
-    let status = run_words(&rt).unwrap_or(Status::Memory);
-    ExitCode::from(status.exit_status())
+    ExitCode::from(exit_code(run_words(&rt)))
 }
