@@ -1,5 +1,5 @@
 -- From what was read and written step by step to the input as a whole.
-use Rattle.std.proofs.Common.{◌≡◌, ℕ, ◌+◌, ◌^◌, ◌<◌, min, Bool, true, false, Option, None, Some, IfSome, Ok, Err, List, [], ◌∷◌, ◌++◌, length, take, map, refl, sym, ap, subst, ◌∙◌, append_assoc, append-nil, length-append, arith, zero-add}
+use Rattle.std.proofs.Common.{◌≡◌, ℕ, ◌+◌, ◌^◌, ◌<◌, ◌≤◌, min, Bool, true, false, Option, None, Some, IfSome, Ok, Err, List, [], ◌∷◌, ◌++◌, length, take, map, refl, sym, ap, subst, ◌∙◌, append_assoc, append-nil, length-append, arith, zero-add}
 use Rattle.std.proofs.lemmas.Bool.{true≢false}
 use Rattle.std.proofs.lemmas.List.{take_min, take-append-le, take_at}
 use Rattle.std.specs.Io.KnownBytes.{Appends, Consumes, IsAtEnd}
@@ -79,17 +79,20 @@ module _ (out notes : ℕ → Cut → List ℕ) (clean : ℕ → Cut → Bool) (
 
   -- the source was read to its end
   pub driven-finished : (left left' o o' o'' n n' n'' : Option (List ℕ)) (old mid new : Moment) → Starts d max old → Reads out notes clean left left' o o' n n' old mid [] → IsAtEnd left'
-      → mid.framer.ended ≡ true → Progresses out notes clean o' o'' n' n'' mid new [] → new.waiting ≡ [] → IsWaiting new.framer → new.framer.ended ≡ mid.framer.ended
-      → IfSome left (λ input. DriveGives out notes clean d max input left' o o'' n n'' (Ok (ended.Finished new.clean)))
-  driven-finished None left' o o' o'' n n' n'' old mid new start r end over p none waits same = tt
-  driven-finished (Some input) None o o' o'' n n' n'' old mid new start r end over p none waits same = absurd r.consumed
-  driven-finished (Some input) (Some xs) o o' o'' n n' n'' old mid new start r end over p none waits same =
+      → mid.framer.ended ≡ true → reach mid.framer ≤ 2 ^ 62 → Progresses out notes clean o' o'' n' n'' mid new [] → new.waiting ≡ [] → IsWaiting new.framer
+      → new.framer.ended ≡ mid.framer.ended → IfSome left (λ input. DriveGives out notes clean d max input left' o o'' n n'' (Ok (ended.Finished new.clean)))
+  driven-finished None left' o o' o'' n n' n'' old mid new start r end over within p none waits same = tt
+  driven-finished (Some input) None o o' o'' n n' n'' old mid new start r end over within p none waits same = absurd r.consumed
+  driven-finished (Some input) (Some xs) o o' o'' n n' n'' old mid new start r end over within p none waits same =
       let whole = reads-pumped out notes clean (Some input) (Some xs) o o' o'' n n' n'' old mid new r p in
       let is_over : new.framer.ended ≡ true = same ∙ over in
       let waits_now : rest true new.framer [] ≡ [] = ap (λ e. rest e new.framer []) (sym is_over) ∙ waits.none in
-      let input_is : whole.bytes ≡ input = sym (append-nil whole.bytes) ∙ sym (append-nil (whole.bytes ++ [])) ∙ ap (λ l. (whole.bytes ++ []) ++ l) (sym end) ∙ sym whole.consumed in (
+      let input_is : whole.bytes ≡ input = sym (append-nil whole.bytes) ∙ sym (append-nil (whole.bytes ++ [])) ∙ ap (λ l. (whole.bytes ++ []) ++ l) (sym end) ∙ sym whole.consumed in
+      let read_is : r.bytes ≡ input = sym (append-nil r.bytes) ∙ sym (append-nil (r.bytes ++ [])) ∙ ap (λ l. (r.bytes ++ []) ++ l) (sym end) ∙ sym r.consumed in
+      let short : length input ≤ 2 ^ 62 = omega (arith, within, r.progress.reaches, start.reaches, ap length read_is) in (
         subst (λ l. Grows o o'' n n'' (output_of out notes clean 0 (cuts d max true 0 0 l))) input_is (grows-all o o'' n n'' old new whole.bytes true start whole.progress none waits_now is_over),
         clean-all o o'' n n'' old new whole.bytes true start whole.progress none waits_now is_over ∙ ap (λ l. are_clean clean 0 (cuts d max true 0 0 l)) input_is,
+        short,
         end,
       )
 

@@ -39,9 +39,9 @@ pub parsed : (d : Description) (left left' o o' n n' : Option (List ℕ)) (sourc
     → HasSinkCause out out' notes notes' ((number : ℕ) (cut : Cut) → no_notes number cut ≡ []) r
     → ParseGives d left left' o o' source source' out out' (ending_of r)
 parsed d left left' o o' n n' source source' out out' notes notes' (Ok (ended.Finished true)) h read cause =
-    if-known _ _ left (λ input p. (p.0.out_grows, sym p.1, p.2)) h
+    if-known _ _ left (λ input p. (p.0.out_grows, sym p.1, p.2, p.3)) h
 parsed d left left' o o' n n' source source' out out' notes notes' (Ok (ended.Finished false)) h read cause =
-    if-known _ _ left (λ input p. (p.0.out_grows, sym p.1, p.2)) h
+    if-known _ _ left (λ input p. (p.0.out_grows, sym p.1, p.2, p.3)) h
 parsed d left left' o o' n n' source source' out out' notes notes' (Ok ended.ReadFault) h read cause =
     (read refl, if-known _ _ left (λ input p. (p.0, p.1, p.2.out_grows)) h)
 parsed d left left' o o' n n' source source' out out' notes notes' (Ok ended.TooLong) h read cause =

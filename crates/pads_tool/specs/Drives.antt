@@ -1,5 +1,5 @@
 -- What is written for an input as a whole.
-use Rattle.std.specs.Prelude.{◌≡◌, ℕ, ◌^◌, ◌<◌, Bool, Option, Some, Result, Ok, Err, List, length, take}
+use Rattle.std.specs.Prelude.{◌≡◌, ℕ, ◌^◌, ◌<◌, ◌≤◌, Bool, Option, Some, Result, Ok, Err, List, length, take}
 use Rattle.std.specs.Io.KnownBytes.{Consumes, IsAtEnd}
 use Rattle.pads_value.specs.Cuts.{Cut}
 use Rattle.pads_frame.specs.Cutting.{records, closed}
@@ -12,9 +12,10 @@ use Rattle.pads_tool.specs.Writing.{Grows, GrowsPrefix}
 
 module _ (out notes : ℕ → Cut → List ℕ) (clean : ℕ → Cut → Bool) (discipline : Discipline) (max : ℕ) where
   abbrev pub DriveGives : (input : List ℕ) (left' o o' n n' : Option (List ℕ)) → Result Ended Stop → Type 0
-  -- the output for all records, and the source is at its end
+  -- the output for all records of an input of at most 2^62 bytes, and the source is at its end
   DriveGives input left' o o' n n' (Ok (ended.Finished all_clean)) =
-      Grows o o' n n' (output_of out notes clean 0 (records discipline max input)) × (all_clean ≡ are_clean clean 0 (records discipline max input)) × IsAtEnd left'
+      Grows o o' n n' (output_of out notes clean 0 (records discipline max input)) × (all_clean ≡ are_clean clean 0 (records discipline max input))
+      × (length input ≤ 2 ^ 62) × IsAtEnd left'
   -- the output for the records that the bytes read complete
   DriveGives input left' o o' n n' (Ok ended.ReadFault) =
       (bytes : List ℕ) × Consumes (Some input) left' bytes × Grows o o' n n' (output_of out notes clean 0 (closed discipline max bytes))

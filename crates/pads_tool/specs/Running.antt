@@ -36,9 +36,10 @@ IsRefused words content = (name : List ℕ) × (order_of words ≡ Some (order.P
 
 -- What was written on `out`, which held the bytes `o` and now holds `o'`, for an input of which `left'` is left.
 module _ (left' o o' : Option (List ℕ)) (d : Description) (input : List ℕ) where
-  -- a line for each record, and the source is at its end; the records are clean, or some one isn't
+  -- a line for each record of an input of at most 2^62 bytes, and the source is at its end; the records are clean, or some
+  -- one isn't
   abbrev pub WroteAll : Bool → Type 0
-  WroteAll clean = Appends o o' (lines_for d (frames_of input)) × (all_clean d (frames_of input) ≡ clean) × IsAtEnd left'
+  WroteAll clean = Appends o o' (lines_for d (frames_of input)) × (all_clean d (frames_of input) ≡ clean) × (length input ≤ 2 ^ 62) × IsAtEnd left'
 
   -- a line for each record that the bytes read complete
   abbrev pub WroteComplete : Type 0

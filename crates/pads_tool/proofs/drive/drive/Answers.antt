@@ -19,7 +19,7 @@ returns-in-End-clause-gives g c =
     let start = starts _ _ _ c.in-Ok.ensures.owes (ap (map cut_of_kept) c.new-2.ensures) refl refl (ap reach c.in-Ok.ensures.state) in
     let read = rw c.in-End.is at c.in-Ok-read_to_end.ensures.ok in
     let done = c.in_default-finish.ensures in
-    driven-finished _ _ _ _ _ _ _ _ _ _ _ _ _ _ _ _ start read.0 read.1 read.2 done.ok (ap (map cut_of_kept) done.emptied) done.waiting done.ended
+    driven-finished _ _ _ _ _ _ _ _ _ _ _ _ _ _ _ _ start read.0 read.1 read.2 c.in-Ok-read_to_end.ensures.within done.ok (ap (map cut_of_kept) done.emptied) done.waiting done.ended
 
 pub returns-in-ReadFault-clause-gives : goal.returns-in-ReadFault-clause-gives
 returns-in-ReadFault-clause-gives g c =
