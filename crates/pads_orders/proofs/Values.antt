@@ -1,0 +1,88 @@
+-- The values of an option, and the arguments, from the left.
+use Rattle.std.proofs.Common.{◌≡◌, ℕ, ◌+◌, ◌≤◌, ◌<◌, Bool, true, false, not, cond, nat_lt, List, [], ◌∷◌, ◌++◌, Option, Some, None, length, take, drop, slice_get, codes, refl, sym, ap, ◌∙◌, arith, rules}
+use Rattle.std.proofs.lemmas.Bool.{lt-ltb}
+use Rattle.std.specs.List.{filter, filter_map, list_any, cons_option}
+use Rattle.std.specs.Option.{is_some}
+use Rattle.pads_orders.specs.Options.{values, behind, arguments, is_option, setting}
+use Rattle.pads_orders.specs.Orders.{description_of}
+
+some_there : (xs : List (List ℕ)) (x : List ℕ) → slice_get xs 0 ≡ Some x → 0 < length xs
+some_there [] x h = cc
+some_there (y ∷ xs) x h = omega arith
+
+none_there : (xs : List (List ℕ)) → slice_get xs 0 ≡ None → xs ≡ []
+none_there [] h = refl
+none_there (y ∷ xs) h = cc
+
+-- an option with another beginning has no value
+pub passed_by : (beginning : List ℕ) (words more : List (List ℕ)) (word : List ℕ) → words ≡ word ∷ more → behind beginning word ≡ None
+    → values beginning more ≡ values beginning words
+passed_by beginning words more word whole none = rw (whole, none) refl
+
+pub found_first : (beginning : List ℕ) (words more : List (List ℕ)) (word value : List ℕ) → words ≡ word ∷ more → behind beginning word ≡ Some value
+    → slice_get (values beginning words) 0 ≡ Some value
+found_first beginning words more word value whole found = rw (whole, found) refl
+
+pub found_again : (beginning : List ℕ) (words more : List (List ℕ)) (word value other : List ℕ) → words ≡ word ∷ more → behind beginning word ≡ Some value
+    → slice_get (values beginning more) 0 ≡ Some other → nat_lt 1 (length (values beginning words)) ≡ true
+found_again beginning words more word value other whole found again = rw (whole, found) (lt-ltb 1 _ (omega (arith, some_there (values beginning more) other again)))
+
+pub found_once : (beginning : List ℕ) (words more : List (List ℕ)) (word value : List ℕ) → words ≡ word ∷ more → behind beginning word ≡ Some value
+    → slice_get (values beginning more) 0 ≡ None → nat_lt 1 (length (values beginning words)) ≡ false
+found_once beginning words more word value whole found none = rw (whole, found, none_there (values beginning more) none) refl
+
+-- what an option comes to, by how often it is given and its first value
+pub setting_none : {A : Type 0} (read : List ℕ → Option A) (usual : A) (given : List (List ℕ)) → slice_get given 0 ≡ None → setting read usual given ≡ Some usual
+setting_none read usual [] none = refl
+setting_none read usual (v ∷ given) none = cc
+
+pub setting_once : {A : Type 0} (read : List ℕ → Option A) (usual : A) (given : List (List ℕ)) (value : List ℕ) → slice_get given 0 ≡ Some value → length given ≤ 1
+    → setting read usual given ≡ read value
+setting_once read usual [] value found few = cc
+setting_once read usual (v ∷ []) value found few = ap read (cc)
+setting_once read usual (v ∷ w ∷ given) value found few = absurd (omega arith)
+
+pub setting_again : {A : Type 0} (read : List ℕ → Option A) (usual : A) (given : List (List ℕ)) → 1 < length given → setting read usual given ≡ None
+setting_again read usual [] many = absurd (omega arith)
+setting_again read usual (v ∷ []) many = absurd (omega arith)
+setting_again read usual (v ∷ w ∷ given) many = refl
+
+-- an option is no argument
+pub option_passed : (words more : List (List ℕ)) (word : List ℕ) → words ≡ word ∷ more → is_option word ≡ true → arguments more ≡ arguments words
+option_passed words more word whole is = rw (whole, is) refl
+
+pub no_more : (words : List (List ℕ)) → list_any (λ word. not (is_option word)) words ≡ false → arguments words ≡ []
+no_more [] none = refl
+no_more (word ∷ words) none = elim (is_option word) as (λ b. is_option word ≡ b → arguments (word ∷ words) ≡ []) [
+  | true ↦ λ e. rw e (no_more words (rw e at none))
+  | false ↦ λ e. let broken : true ≡ false = rw e at none in cc
+] refl
+
+pub some_more : (words : List (List ℕ)) → list_any (λ word. not (is_option word)) words ≡ true → (first : List ℕ) × (more : List (List ℕ)) × (arguments words ≡ first ∷ more)
+some_more [] some = cc
+some_more (word ∷ words) some = elim (is_option word) as (λ b. is_option word ≡ b → (first : List ℕ) × (more : List (List ℕ)) × (arguments (word ∷ words) ≡ first ∷ more)) [
+  | true ↦ λ e. let found = some_more words (rw e at some) in (found.0, found.1, rw e found.2)
+  | false ↦ λ e. (word, arguments words, rw e refl)
+] refl
+
+-- the only argument, where it isn't empty
+pub described_once : (words more : List (List ℕ)) (word : List ℕ) → words ≡ word ∷ more → is_option word ≡ false → arguments more ≡ [] → 0 < length word
+    → description_of (arguments words) ≡ Some word
+described_once words more [] whole is none some = absurd (omega arith)
+described_once words more (letter ∷ name) whole is none some = rw (whole, is, none) refl
+
+pub described_empty : (words more : List (List ℕ)) (word : List ℕ) → words ≡ word ∷ more → is_option word ≡ false → arguments more ≡ [] → length word ≡ 0
+    → description_of (arguments words) ≡ None
+described_empty words more [] whole is none empty = rw whole refl
+described_empty words more (letter ∷ name) whole is none empty = absurd (omega arith)
+
+several : (word : List ℕ) (others : List (List ℕ)) (first : List ℕ) (more : List (List ℕ)) → others ≡ first ∷ more → description_of (word ∷ others) ≡ None
+several [] others first more e = refl
+several (letter ∷ name) others first more e = rw e refl
+
+pub described_again : (words more : List (List ℕ)) (word : List ℕ) → words ≡ word ∷ more → is_option word ≡ false
+    → list_any (λ w. not (is_option w)) more ≡ true → description_of (arguments words) ≡ None
+described_again words more word whole is some =
+    let found = some_more more some in
+    let all : arguments words ≡ word ∷ arguments more = rw (whole, is) refl in
+    rw all (several word (arguments more) found.0 found.1 found.2)

@@ -1,0 +1,242 @@
+use crate::{Order, Usage, Word, Words, read_order};
+use pads_code::Coding;
+use pads_frame::Discipline;
+use pads_value::{Memory, Refusal};
+use std::alloc::Global;
+use std::process::Abort;
+use std::test::Fail;
+
+/// The words of a command line, which stand here between single blanks.
+fn words_of(alloc: Global, line: &str) -> Result<Words, Memory> {
+    let mut words = Words::new(alloc);
+    for word in line.split(' ') {
+        words.push(Word::new(String::from_str(alloc, word)?))?;
+    }
+    Ok(words)
+}
+
+fn read(alloc: Global, line: &str) -> Result<Order, Refusal<Usage>> {
+    read_order(alloc, &words_of(alloc, line)?)
+}
+
+/// The line is `parse` of the file `a` with this coding and cutting.
+fn parses(
+    rt: &impl Abort,
+    alloc: Global,
+    line: &str,
+    wanted: Coding,
+    discipline: Discipline,
+    max: u64,
+) -> Result<(), Fail> {
+    match read(alloc, line) {
+        Ok(
+            Order::Parse {
+                description,
+                coding,
+                cutting,
+            },
+        ) => {
+            assert_eq!(rt; description.as_str(), "a");
+            assert_eq!(rt; coding, wanted);
+            assert_eq!(rt; cutting.discipline, discipline);
+            assert_eq!(rt; cutting.max, max);
+        }
+        _ => assert!(rt; false, "no order"),
+    }
+    Ok(())
+}
+
+/// The line is `check` of the file `a` with this coding.
+fn checks(rt: &impl Abort, alloc: Global, line: &str, wanted: Coding) -> Result<(), Fail> {
+    match read(alloc, line) {
+        Ok(
+            Order::Check {
+                description,
+                coding,
+            },
+        ) => {
+            assert_eq!(rt; description.as_str(), "a");
+            assert_eq!(rt; coding, wanted);
+        }
+        _ => assert!(rt; false, "no order"),
+    }
+    Ok(())
+}
+
+/// These lines are no orders.
+fn none_are(rt: &impl Abort, alloc: Global, lines: &[&str]) -> Result<(), Fail> {
+    for line in lines {
+        let is_usage = matches!(read(alloc, line), Err(Refusal::Fault(Usage)));
+        assert!(rt; is_usage, "an order");
+    }
+    Ok(())
+}
+
+#[test]
+fn usual_values(rt: HostRuntime) -> Result<(), Fail> {
+    parses(
+        &rt,
+        rt.alloc(),
+        "parse a",
+        Coding::Ascii,
+        Discipline::Term(b'\n'),
+        1_048_576,
+    )?;
+    checks(&rt, rt.alloc(), "check a", Coding::Ascii)
+}
+
+#[test]
+fn options_anywhere_behind_the_command(rt: HostRuntime) -> Result<(), Fail> {
+    parses(
+        &rt,
+        rt.alloc(),
+        "parse --max=4 a --coding=ebcdic",
+        Coding::Ebcdic,
+        Discipline::Term(b'\n'),
+        4,
+    )?;
+    checks(&rt, rt.alloc(), "check --coding=ebcdic a", Coding::Ebcdic)?;
+    checks(&rt, rt.alloc(), "check a --coding=ascii", Coding::Ascii)
+}
+
+#[test]
+fn disciplines(rt: HostRuntime) -> Result<(), Fail> {
+    parses(
+        &rt,
+        rt.alloc(),
+        "parse a --records=nl",
+        Coding::Ascii,
+        Discipline::Term(b'\n'),
+        1_048_576,
+    )?;
+    parses(
+        &rt,
+        rt.alloc(),
+        "parse a --records=rdw",
+        Coding::Ascii,
+        Discipline::Rdw,
+        1_048_576,
+    )?;
+    parses(
+        &rt,
+        rt.alloc(),
+        "parse a --records=whole",
+        Coding::Ascii,
+        Discipline::Whole,
+        1_048_576,
+    )?;
+    parses(
+        &rt,
+        rt.alloc(),
+        "parse a --records=term:1e",
+        Coding::Ascii,
+        Discipline::Term(30),
+        1_048_576,
+    )?;
+    parses(
+        &rt,
+        rt.alloc(),
+        "parse a --records=term:fF",
+        Coding::Ascii,
+        Discipline::Term(255),
+        1_048_576,
+    )?;
+    parses(
+        &rt,
+        rt.alloc(),
+        "parse a --records=fixed:80",
+        Coding::Ascii,
+        Discipline::Fixed(80),
+        1_048_576,
+    )
+}
+
+#[test]
+fn blocks_up_to_the_most_bytes(rt: HostRuntime) -> Result<(), Fail> {
+    parses(
+        &rt,
+        rt.alloc(),
+        "parse --records=fixed:8 a --max=8",
+        Coding::Ascii,
+        Discipline::Fixed(8),
+        8,
+    )?;
+    parses(
+        &rt,
+        rt.alloc(),
+        "parse a --max=16777216",
+        Coding::Ascii,
+        Discipline::Term(b'\n'),
+        16_777_216,
+    )?;
+    none_are(
+        &rt,
+        rt.alloc(),
+        &[
+            "parse a --max=4 --records=fixed:8",
+            "parse a --records=fixed:0",
+            "parse a --max=16777217",
+            "parse a --max=0",
+        ],
+    )
+}
+
+#[test]
+fn wrong_numbers_of_words(rt: HostRuntime) -> Result<(), Fail> {
+    none_are(
+        &rt,
+        rt.alloc(),
+        &["", "parse", "parse a b", "check", "check a b", "print", "a"],
+    )
+}
+
+#[test]
+fn wrong_options(rt: HostRuntime) -> Result<(), Fail> {
+    none_are(
+        &rt,
+        rt.alloc(),
+        &[
+            "parse a --jobs=0",
+            "check a --top=3",
+            "check a --max=5",
+            "check a --records=nl",
+            "parse a --max=5 --max=5",
+            "parse a --coding",
+            "parse a --coding=utf8",
+            "parse a --",
+        ],
+    )
+}
+
+#[test]
+fn wrong_numbers(rt: HostRuntime) -> Result<(), Fail> {
+    none_are(
+        &rt,
+        rt.alloc(),
+        &[
+            "parse a --max=05",
+            "parse a --max=+5",
+            "parse a --max=",
+            "parse a --max=5x",
+            "parse a --max=99999999999999999999999",
+        ],
+    )
+}
+
+#[test]
+fn wrong_disciplines(rt: HostRuntime) -> Result<(), Fail> {
+    none_are(
+        &rt,
+        rt.alloc(),
+        &[
+            "parse a --records=",
+            "parse a --records=NL",
+            "parse a --records=term:",
+            "parse a --records=term:a",
+            "parse a --records=term:abc",
+            "parse a --records=term:0g",
+            "parse a --records=fixed:",
+            "parse a --records=fixed:08",
+        ],
+    )
+}
