@@ -1,11 +1,8 @@
 -- A number only grows as digits come.
-use Rattle.std.proofs.Common.{◌≡◌, ℕ, ◌+◌, ◌*◌, ◌-◌, ◌≤◌, ◌<◌, Bool, true, false, nat_le, nat_eq, not, ◌&&◌, List, [], ◌∷◌, ◌++◌, take, drop, get_or, suc, length, fold, ap, ◌∙◌, refl, sym, arith, rules}
+use Rattle.std.proofs.Common.{◌≡◌, ℕ, ◌+◌, ◌*◌, ◌-◌, ◌≤◌, ◌<◌, List, [], ◌∷◌, ◌++◌, take, drop, get_or, suc, length, fold, ap, ◌∙◌, refl, sym, arith}
 use Rattle.std.proofs.Math.Seq.{take-suc}
 use Rattle.std.proofs.lemmas.List.{take-append-drop}
-use Rattle.std.proofs.lemmas.Bool.{ne_eqb}
-use Rattle.std.specs.Char.{is_ascii_digit}
-use Rattle.std.specs.List.{list_all}
-use Rattle.pads_code.specs.Numerals.{is_numeral, number}
+use Rattle.pads_code.specs.Numerals.{number}
 
 abbrev pub digits_after : ℕ → List ℕ → ℕ
 digits_after n digits = fold (λ n digit. n * 10 + (digit - 48)) n digits

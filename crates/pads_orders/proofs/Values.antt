@@ -1,8 +1,7 @@
 -- The values of an option, and the arguments, from the left.
-use Rattle.std.proofs.Common.{◌≡◌, ℕ, ◌+◌, ◌≤◌, ◌<◌, Bool, true, false, not, cond, nat_lt, List, [], ◌∷◌, ◌++◌, Option, Some, None, length, take, drop, slice_get, codes, refl, sym, ap, ◌∙◌, arith, rules}
+use Rattle.std.proofs.Common.{◌≡◌, ℕ, ◌≤◌, ◌<◌, true, false, not, nat_lt, List, [], ◌∷◌, Option, Some, None, length, slice_get, refl, ap, arith}
 use Rattle.std.proofs.lemmas.Bool.{lt-ltb}
-use Rattle.std.specs.List.{filter, filter_map, list_any, cons_option}
-use Rattle.std.specs.Option.{is_some}
+use Rattle.std.specs.List.{list_any}
 use Rattle.pads_orders.specs.Options.{values, behind, arguments, is_option, setting}
 use Rattle.pads_orders.specs.Orders.{description_of}
 

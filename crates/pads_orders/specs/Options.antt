@@ -1,5 +1,5 @@
 -- The options of the command line.
-use Rattle.std.specs.Prelude.{ℕ, Bool, not, ◌||◌, if◌then◌else◌, List, [], ◌∷◌, ◌++◌, Option, Some, None, codes, nat_eq, length, take, drop, option_map, option_and_then}
+use Rattle.std.specs.Prelude.{ℕ, Bool, not, ◌||◌, if◌then◌else◌, List, [], ◌∷◌, Option, Some, None, codes, nat_eq, length, take, drop, option_map, option_and_then}
 use Rattle.std.specs.List.{filter, filter_map, list_all, list_any, starts_with}
 use Rattle.std.specs.Option.{is_some}
 use Rattle.std.specs.Str.{bytes_eq}

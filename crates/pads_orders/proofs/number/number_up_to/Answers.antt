@@ -1,4 +1,4 @@
-use Rattle.std.proofs.Common.{◌≡◌, ◌+◌, nat_le, false, take, sym, arith, rules, refl}
+use Rattle.std.proofs.Common.{◌≡◌, ◌+◌, nat_le, false, arith, rules, refl}
 use Rattle.std.proofs.lemmas.Bool.{lt-leb}
 use Rattle.pads_code.specs.Numerals.{number}
 use Rattle.pads_orders.proofs.Folding.{front_least, one_more}

@@ -1,5 +1,4 @@
-use Rattle.std.proofs.Common.{◌≡◌, ◌∙◌, ◌≤◌, length, slice_get, Some, codes, sym, arith, rules}
-use Rattle.std.proofs.lemmas.Bool.{ltb-false}
+use Rattle.std.proofs.Common.{◌≡◌, ◌∙◌, ◌≤◌, length, slice_get, Some, codes, sym, rules}
 use Rattle.pads_frame.specs.declared.discipline.Discipline.TheVariants.{Term}
 use Rattle.pads_orders.specs.Options.{values, records_of}
 use Rattle.pads_orders.proofs.Values.{setting_once}

@@ -1,5 +1,5 @@
-use Rattle.std.proofs.Common.{◌≡◌, ◌∙◌, ◌<◌, length, true, false, not, take, drop, ◌-◌, ◌∷◌, [], Some, None, sym, ap, arith, rules, List, ℕ}
-use Rattle.pads_orders.specs.Options.{arguments, is_option}
+use Rattle.std.proofs.Common.{◌≡◌, ◌∙◌, ◌<◌, length, false, take, drop, ◌-◌, sym, ap, rules}
+use Rattle.pads_orders.specs.Options.{is_option}
 use Rattle.pads_orders.specs.Orders.{description_of}
 use Rattle.pads_orders.proofs.TakenApart.{taken_apart}
 use Rattle.pads_orders.proofs.Values.{described_once, described_empty, described_again, no_more}
