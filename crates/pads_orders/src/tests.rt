@@ -19,47 +19,58 @@ fn read(alloc: Global, line: &str) -> Result<Order, Refusal<Usage>> {
     read_order(alloc, &words_of(alloc, line)?)
 }
 
+/// The order is `parse` of the file `a` with this coding and cutting.
+fn is_parse(order: &Order, wanted: Coding, discipline: Discipline, max: u64) -> bool {
+    match order {
+        Order::Parse {
+            description,
+            coding,
+            cutting,
+        } => {
+            description.as_str() == "a"
+                && *coding == wanted
+                && cutting.discipline == discipline
+                && cutting.max == max
+        }
+        Order::Check { .. } => false,
+    }
+}
+
+/// The order is `check` of the file `a` with this coding.
+fn is_check(order: &Order, wanted: Coding) -> bool {
+    match order {
+        Order::Check {
+            description,
+            coding,
+        } => description.as_str() == "a" && *coding == wanted,
+        Order::Parse { .. } => false,
+    }
+}
+
 /// The line is `parse` of the file `a` with this coding and cutting.
 fn parses(
     rt: &impl Abort,
     alloc: Global,
     line: &str,
-    wanted: Coding,
+    coding: Coding,
     discipline: Discipline,
     max: u64,
 ) -> Result<(), Fail> {
-    match read(alloc, line) {
-        Ok(
-            Order::Parse {
-                description,
-                coding,
-                cutting,
-            },
-        ) => {
-            assert_eq!(rt; description.as_str(), "a");
-            assert_eq!(rt; coding, wanted);
-            assert_eq!(rt; cutting.discipline, discipline);
-            assert_eq!(rt; cutting.max, max);
-        }
-        _ => assert!(rt; false, "no order"),
-    }
+    let parses = match read(alloc, line) {
+        Ok(order) => is_parse(&order, coding, discipline, max),
+        Err(_refusal) => false,
+    };
+    assert!(rt; parses);
     Ok(())
 }
 
 /// The line is `check` of the file `a` with this coding.
-fn checks(rt: &impl Abort, alloc: Global, line: &str, wanted: Coding) -> Result<(), Fail> {
-    match read(alloc, line) {
-        Ok(
-            Order::Check {
-                description,
-                coding,
-            },
-        ) => {
-            assert_eq!(rt; description.as_str(), "a");
-            assert_eq!(rt; coding, wanted);
-        }
-        _ => assert!(rt; false, "no order"),
-    }
+fn checks(rt: &impl Abort, alloc: Global, line: &str, coding: Coding) -> Result<(), Fail> {
+    let checks = match read(alloc, line) {
+        Ok(order) => is_check(&order, coding),
+        Err(_refusal) => false,
+    };
+    assert!(rt; checks);
     Ok(())
 }
 
