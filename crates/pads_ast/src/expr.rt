@@ -6,25 +6,43 @@ use pads_value::{Boxed, Items};
 #[derive(Debug, Drop)]
 pub enum Expr {
     /// Operands of one level, joined by its operators.
-    Chain { first: Boxed<Expr>, rest: Links },
+    Chain {
+        first: Boxed<Expr>,
+        rest: Links,
+    },
     Unary {
         operator: UnaryOperator,
         at: u64,
         operand: Boxed<Expr>,
     },
     /// An atom with names and indexes behind it.
-    Post { base: Boxed<Expr>, steps: Steps },
-    Number { value: Number, at: u64 },
+    Post {
+        base: Boxed<Expr>,
+        steps: Steps,
+    },
+    Number {
+        value: Number,
+        at: u64,
+    },
     Word(Word),
-    Truth { value: bool, at: u64 },
+    Truth {
+        value: bool,
+        at: u64,
+    },
     Name(Name),
-    Paren { at: u64, inner: Boxed<Expr> },
+    Paren {
+        at: u64,
+        inner: Boxed<Expr>,
+    },
     Pis {
         at: u64,
         value: Boxed<Expr>,
         name: Name,
     },
-    Plen { at: u64, value: Boxed<Expr> },
+    Plen {
+        at: u64,
+        value: Boxed<Expr>,
+    },
     Pforall {
         at: u64,
         variable: Name,

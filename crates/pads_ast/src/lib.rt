@@ -13,7 +13,8 @@ mod number;
 mod types;
 
 pub use decl::{
-    Array, ArrayOption, Ast, Case, Constraint, Decl, DeclBody, DeclMark, Enum, ExprAst, Label, Opt, Part, Struct, Switch, Typedef, Union, UnionBody,
+    Array, ArrayOption, Ast, Case, Constraint, Decl, DeclBody, DeclMark, Enum, ExprAst, Label, Opt,
+    Part, Struct, Switch, Typedef, Union, UnionBody,
 };
 pub use expr::{BinaryOperator, Expr, Link, Links, Step, Steps, UnaryOperator};
 pub use name::{Name, Word};

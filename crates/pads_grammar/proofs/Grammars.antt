@@ -1,10 +1,8 @@
 -- Each grammar that one token decides: its reader reads what it derives and nothing else.
-use Rattle.std.proofs.Common.{◌≡◌, ℕ, Bool, true, false, ◌||◌, ◌&&◌, Option, Some, None, List, [], ◌∷◌, ◌++◌, ◌⊎◌, inl, inr, refl, sym, ◌∙◌, ap, subst}
-use Rattle.pads_lex.specs.declared.token.Token.{Token}
+use Rattle.std.proofs.Common.{◌≡◌, Bool, true, false, ◌||◌, ◌&&◌, None, [], ◌∷◌, ◌++◌, ◌⊎◌, inl, inr, refl, sym, subst}
 use Rattle.pads_grammar.specs.declared.kind.Kind.{Kind}
-use Rattle.pads_grammar.specs.declared.kind.Kind.TheVariants as kind
-use Rattle.pads_grammar.specs.Kinds.{Tokens, is, peek, kind_of, sample, kind_of_sample}
-use Rattle.pads_grammar.specs.Grammar.{Grammar, token, pair, apply, either, optional, many, rest_of, Rule, Outcome, Derives, nullable, begins, ahead, reads, Decides, Apart}
+use Rattle.pads_grammar.specs.Kinds.{Tokens, is, peek, sample, kind_of_sample}
+use Rattle.pads_grammar.specs.Grammar.{Grammar, token, pair, apply, either, optional, many, rest_of, Rule, Outcome, Derives, nullable, begins, ahead, reads, Decides}
 use Rattle.pads_grammar.specs.Laws.{Lawful, Inhabited}
 use Rattle.pads_grammar.proofs.Parts.{or-left, or-right, or-only, lawful-token}
 use Rattle.pads_grammar.proofs.Compositions.{NotEmpty, lawful-pair, lawful-apply, lawful-either, lawful-optional}
@@ -44,8 +42,9 @@ or_false false c h = (refl, h)
 pub not_empty : {A : Type 0} (g : Grammar A) → nullable g ≡ false → NotEmpty (Derives g)
 not_empty (token k take) n a d = let e = d.alone in cc
 not_empty (pair g h) n a d = elim (and_false (nullable g) (nullable h) n) [
-    inl e ↦ not_empty g e a.0 (subst (λ (ts : Tokens). Derives g a.0 ts) (front_nil d.front d.back d.whole) d.first)
-  | inr e ↦ not_empty h e a.1 (subst (λ (ts : Tokens). Derives h a.1 ts) (back_nil d.front d.back d.whole) d.second) ]
+  | inl e ↦ not_empty g e a.0 (subst (λ (ts : Tokens). Derives g a.0 ts) (front_nil d.front d.back d.whole) d.first)
+  | inr e ↦ not_empty h e a.1 (subst (λ (ts : Tokens). Derives h a.1 ts) (back_nil d.front d.back d.whole) d.second)
+]
 not_empty (apply f g) n a d = not_empty g n d.value d.derived
 not_empty (either g h) n a (inl d) = not_empty g (or_false (nullable g) (nullable h) n).0 a d
 not_empty (either g h) n a (inr d) = not_empty h (or_false (nullable g) (nullable h) n).1 a d
@@ -82,7 +81,7 @@ pub lawful : {A : Type 0} (g : Grammar A) (F : Kind → Bool) → Decides g F �
 lawful (token k take) F d = lawful-token k take d (ahead (token k take) F) F (inhabited (token k take)) (λ j h. or-left (is k j) false h)
 lawful (pair g h) F d =
     let first = wider (reads g) (Derives g) (ahead g (ahead h F)) (ahead (pair g h) F) (ahead h F)
-            (λ j e. pair_ahead (begins g j) (nullable g) (begins h j) (nullable h) (F j) e) (lawful g (ahead h F) d.0) in
+    (λ j e. pair_ahead (begins g j) (nullable g) (begins h j) (nullable h) (F j) e) (lawful g (ahead h F) d.0) in
     lawful-pair (reads g) (Derives g) (reads h) (Derives h) (ahead (pair g h) F) (ahead h F) F first (lawful h F d.1) (inhabited h)
 lawful (apply f g) F d = lawful-apply f (reads g) (Derives g) (ahead g F) F (lawful g F d)
 lawful (either g h) F d = lawful-either (begins g) (reads g) (Derives g) (reads h) (Derives h) (ahead g F) (ahead h F) (ahead (either g h) F) F

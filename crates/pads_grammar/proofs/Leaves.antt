@@ -1,5 +1,5 @@
 -- The reading of one token.
-use Rattle.std.proofs.Common.{◌≡◌, Bool, true, false, Ok, Err, List, [], ◌∷◌, refl}
+use Rattle.std.proofs.Common.{◌≡◌, Bool, true, false, Ok, Err, [], ◌∷◌, refl}
 use Rattle.pads_lex.specs.declared.token.Token.{Token}
 use Rattle.pads_grammar.specs.declared.kind.Kind.{Kind}
 use Rattle.pads_grammar.specs.Kinds.{Tokens, is, kind_of, starts_with}

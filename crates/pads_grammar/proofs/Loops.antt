@@ -1,5 +1,5 @@
 -- What a loop over the items of a repetition keeps: the whole equals what is done, then the rest.
-use Rattle.std.proofs.Common.{◌≡◌, ℕ, zero, suc, ◌≤◌, ◌<◌, ◌+◌, Bool, true, false, ◌||◌, ◌&&◌, Option, Some, None, Result, Ok, Err, List, [], ◌∷◌, ◌++◌, length, cond, ◌⊎◌, inl, inr, refl, sym, ◌∙◌, ap, subst, append_assoc, arith}
+use Rattle.std.proofs.Common.{◌≡◌, ℕ, zero, suc, ◌≤◌, ◌<◌, Bool, true, false, Ok, Err, List, [], ◌∷◌, ◌++◌, length, cond, inl, inr, refl, sym, ◌∙◌, ap, subst, append_assoc, arith}
 use Rattle.std.proofs.lemmas.List.{append-nil}
 use Rattle.pads_lex.specs.declared.token.Token.{Token}
 use Rattle.pads_grammar.specs.declared.kind.Kind.{Kind}
@@ -45,8 +45,8 @@ leaves_rest k goes p item (suc m) ts n l =
     let b = behind_shorter ts in
     leaves_if n (is k (peek ts)) _ _
     (leaves_if n (goes (peek (behind ts))) _ _
-      (leaves_then (length (behind ts)) n (p (behind ts)) _ (item (behind ts)) (λ a mid h. leaves_then n n (read_rest k goes p m mid) _ (leaves_rest k goes p item m mid n (omega arith)) (λ xs rest h. h)))
-      (let e : length (behind ts) ≤ n = omega arith in e))
+    (leaves_then (length (behind ts)) n (p (behind ts)) _ (item (behind ts)) (λ a mid h. leaves_then n n (read_rest k goes p m mid) _ (leaves_rest k goes p item m mid n (omega arith)) (λ xs rest h. h)))
+    (let e : length (behind ts) ≤ n = omega arith in e))
     l
 
 pub within : {A : Type 0} (g : Grammar A) (ts : Tokens) → Leaves (length ts) (reads g ts)
@@ -91,8 +91,9 @@ shorter_token k take (t ∷ ts) = shorter_if (suc (length ts)) (is k (kind_of t.
 pub shortens : {A : Type 0} (g : Grammar A) → nullable g ≡ false → (ts : Tokens) → Shorter (length ts) (reads g ts)
 shortens (token k take) h ts = shorter_token k take ts
 shortens (pair g k) h ts = elim (and_false (nullable g) (nullable k) h) [
-    inl e ↦ shorter_then (length ts) (reads g ts) _ (shortens g e ts) (λ a mid l. leaves_shorter (length mid) (length ts) (reads k mid) _ (within k mid) (λ b rest m. let x : length rest < length ts = omega arith in x))
-  | inr e ↦ leaves_shorter (length ts) (length ts) (reads g ts) _ (within g ts) (λ a mid m. shorter_then (length ts) (reads k mid) _ (above (length mid) (length ts) (reads k mid) m (shortens k e mid)) (λ b rest m. m)) ]
+  | inl e ↦ shorter_then (length ts) (reads g ts) _ (shortens g e ts) (λ a mid l. leaves_shorter (length mid) (length ts) (reads k mid) _ (within k mid) (λ b rest m. let x : length rest < length ts = omega arith in x))
+  | inr e ↦ leaves_shorter (length ts) (length ts) (reads g ts) _ (within g ts) (λ a mid m. shorter_then (length ts) (reads k mid) _ (above (length mid) (length ts) (reads k mid) m (shortens k e mid)) (λ b rest m. m))
+]
 shortens (apply f g) h ts = shorter_then (length ts) (reads g ts) _ (shortens g h ts) (λ a rest k. k)
 shortens (either g k) h ts = let e = or_false (nullable g) (nullable k) h in shorter_if (length ts) (begins g (peek ts)) (reads g ts) (reads k ts) (shortens g e.0 ts) (shortens k e.1 ts)
 shortens (optional g) h ts = cc

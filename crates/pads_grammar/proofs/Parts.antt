@@ -1,13 +1,13 @@
 -- The laws of the parts of a grammar but the repetitions.
-use Rattle.std.proofs.Common.{◌≡◌, Bool, true, false, ◌||◌, ◌&&◌, Option, Some, None, Result, Ok, Err, List, [], ◌∷◌, ◌++◌, cond, ◌⊎◌, inl, inr, refl, sym, ◌∙◌, ap, subst, append_assoc}
+use Rattle.std.proofs.Common.{◌≡◌, Bool, true, false, ◌||◌, ◌&&◌, Ok, Err, [], ◌∷◌, ◌++◌, cond, ◌⊎◌, inl, inr, refl, sym, ◌∙◌, ap}
 use denote.Enum.Bare.{same_true, true_same}
 use Rattle.pads_lex.specs.declared.token.Token.{Token}
 use Rattle.pads_grammar.specs.declared.kind.Kind.{Kind}
 use Rattle.pads_grammar.specs.declared.kind.Kind.TheVariants as kind
 use Rattle.pads_grammar.specs.contracts.kind.Kind.{the_type}
 use Rattle.pads_grammar.specs.Kinds.{Tokens, is, peek, kind_of}
-use Rattle.pads_grammar.specs.Grammar.{Rule, Split, IsToken, Maybe, Applied, Outcome, then_read, read_token, Apart}
-use Rattle.pads_grammar.specs.Laws.{Found, Fault, Told, Lawful, Inhabited}
+use Rattle.pads_grammar.specs.Grammar.{IsToken, read_token}
+use Rattle.pads_grammar.specs.Laws.{Told, Lawful, Inhabited}
 
 pub or-left : (a b : Bool) → a ≡ true → (a || b) ≡ true
 or-left true b h = refl
@@ -47,17 +47,21 @@ module _ {A : Type 0} (k : Kind) (take : Token → A) (quiet : is k kind.End ≡
 
   fault_told : (ts : Tokens) → is k (peek ts) ≡ false → Inhabited (IsToken k take) → Told (read_token k take) (IsToken k take) ts (Err ts)
   fault_told ts h has = record {
-      front = []; whole = refl;
-      stays = λ more e. token_fault more (ap (is k) e ∙ h);
-      value = has.value; back = has.tokens; completed = has.derived;
-    }
+    front = [];
+    whole = refl;
+    stays = λ more e. token_fault more (ap (is k) e ∙ h);
+    value = has.value;
+    back = has.tokens;
+    completed = has.derived;
+  }
 
   token_told-is : (t : Token) (ts : Tokens) (b : Bool) → is k (kind_of t.kind) ≡ b → Inhabited (IsToken k take) → Told (read_token k take) (IsToken k take) (t ∷ ts) (cond b (Ok (take t, ts)) (Err (t ∷ ts)))
   token_told-is t ts true h has = record {
-      front = t ∷ []; whole = refl;
-      derived = record { token = t; alone = refl; kind = sym (is-same k (kind_of t.kind) h); taken = refl };
-      stays = λ more e. rw h refl;
-    }
+    front = t ∷ [];
+    whole = refl;
+    derived = record { token = t; alone = refl; kind = sym (is-same k (kind_of t.kind) h); taken = refl };
+    stays = λ more e. rw h refl;
+  }
   token_told-is t ts false h has = fault_told (t ∷ ts) h has
 
   token_told : (ts : Tokens) → Inhabited (IsToken k take) → Told (read_token k take) (IsToken k take) ts (read_token k take ts)
@@ -72,7 +76,7 @@ module _ {A : Type 0} (k : Kind) (take : Token → A) (quiet : is k kind.End ≡
 
   pub lawful-token : (I F : Kind → Bool) → Inhabited (IsToken k take) → ((j : Kind) → is k j ≡ true → I j ≡ true) → Lawful (read_token k take) (IsToken k take) I F
   lawful-token I F has begins = record {
-      told = λ ts. token_told ts has;
-      only = λ a front rest d f. token_only a front rest d;
-      starts = λ a front rest d f. begins (peek (front ++ rest)) (token_starts a front rest d);
-    }
+    told = λ ts. token_told ts has;
+    only = λ a front rest d f. token_only a front rest d;
+    starts = λ a front rest d f. begins (peek (front ++ rest)) (token_starts a front rest d);
+  }

@@ -1,12 +1,11 @@
 -- The law of what may come any number of times.
-use Rattle.std.proofs.Common.{◌≡◌, ℕ, zero, suc, ◌≤◌, ◌<◌, ◌+◌, Bool, true, false, ◌||◌, ◌&&◌, Option, Some, None, Result, Ok, Err, List, [], ◌∷◌, ◌++◌, length, cond, ◌⊎◌, inl, inr, refl, sym, ◌∙◌, ap, subst, append_assoc, length-append, arith}
-use Rattle.pads_lex.specs.declared.token.Token.{Token}
+use Rattle.std.proofs.Common.{◌≡◌, ℕ, zero, suc, ◌≤◌, Bool, true, false, ◌||◌, Ok, Err, List, [], ◌∷◌, ◌++◌, length, cond, refl, sym, ◌∙◌, ap, subst, append_assoc, length-append, arith}
 use Rattle.pads_grammar.specs.declared.kind.Kind.{Kind}
 use Rattle.pads_grammar.specs.declared.kind.Kind.TheVariants as kind
-use Rattle.pads_grammar.specs.Kinds.{Tokens, is, peek}
-use Rattle.pads_grammar.specs.Grammar.{Rule, Split, Many, Outcome, then_read, read_many, Apart}
-use Rattle.pads_grammar.specs.Laws.{Found, Fault, Told, Lawful, Inhabited}
-use Rattle.pads_grammar.proofs.Parts.{or-left, or-right, or-cases, front_peek, next_peek}
+use Rattle.pads_grammar.specs.Kinds.{Tokens, peek}
+use Rattle.pads_grammar.specs.Grammar.{Rule, Many, Outcome, then_read, read_many, Apart}
+use Rattle.pads_grammar.specs.Laws.{Found, Told, Lawful}
+use Rattle.pads_grammar.proofs.Parts.{or-left, or-right, next_peek}
 use Rattle.pads_grammar.proofs.Compositions.{NotEmpty}
 
 pub longer : (front rest : Tokens) (n : ℕ) → (front ≡ [] → ⊥) → length (front ++ rest) ≤ suc n → length rest ≤ n
@@ -77,32 +76,32 @@ module _ {A : Type 0} (goes : Kind → Bool) (p : Tokens → Outcome A) (P : Rul
 
     rest_told : (ts : Tokens) (a : A) (mid : Tokens) → goes (peek ts) ≡ true → Found p P ts a mid → (s : Outcome (List A)) → ManyTold mid s → ManyTold ts (then_read s (λ xs rest. Ok (a ∷ xs, rest)))
     rest_told ts a mid h f (Ok read) g = record {
-        front = f.front ++ g.front;
-        whole = f.whole ∙ (ap (λ us. f.front ++ us) g.whole ∙ sym (append_assoc f.front g.front read.1));
-        derived = record { front = f.front; back = g.front; whole = refl; first = f.derived; second = g.derived };
-        stays = λ m more l e. more_stays ts a mid f g.front read.1 more (Ok (read.0, more)) m h g.whole e l (λ k l. g.stays k more l e);
-      }
+      front = f.front ++ g.front;
+      whole = f.whole ∙ (ap (λ us. f.front ++ us) g.whole ∙ sym (append_assoc f.front g.front read.1));
+      derived = record { front = f.front; back = g.front; whole = refl; first = f.derived; second = g.derived };
+      stays = λ m more l e. more_stays ts a mid f g.front read.1 more (Ok (read.0, more)) m h g.whole e l (λ k l. g.stays k more l e);
+    }
     rest_told ts a mid h f (Err rest) g = record {
-        front = f.front ++ g.front;
-        whole = f.whole ∙ (ap (λ us. f.front ++ us) g.whole ∙ sym (append_assoc f.front g.front rest));
-        stays = λ m more l e. more_stays ts a mid f g.front rest more (Err more) m h g.whole e l (λ k l. g.stays k more l e);
-        value = a ∷ g.value;
-        back = g.back;
-        completed = record { front = f.front; back = g.front ++ g.back; whole = append_assoc f.front g.front g.back; first = f.derived; second = g.completed };
-      }
+      front = f.front ++ g.front;
+      whole = f.whole ∙ (ap (λ us. f.front ++ us) g.whole ∙ sym (append_assoc f.front g.front rest));
+      stays = λ m more l e. more_stays ts a mid f g.front rest more (Err more) m h g.whole e l (λ k l. g.stays k more l e);
+      value = a ∷ g.value;
+      back = g.back;
+      completed = record { front = f.front; back = g.front ++ g.back; whole = append_assoc f.front g.front g.back; first = f.derived; second = g.completed };
+    }
 
     item_told : (n : ℕ) (ts : Tokens) → goes (peek ts) ≡ true → length ts ≤ suc n → (r : Outcome A) → Told p P ts r → ((mid : Tokens) → length mid ≤ n → ManyTold mid (read_many goes p n mid)) → ManyTold ts (step n ts r)
     item_told n ts h l (Ok read) f told =
         let short : length read.1 ≤ n = longer f.front read.1 n (not_nil P solid read.0 f.front f.derived) (subst (λ (us : Tokens). length us ≤ suc n) f.whole l) in
         rest_told ts read.0 read.1 h f (read_many goes p n read.1) (told read.1 short)
     item_told n ts h l (Err rest) f told = record {
-        front = f.front;
-        whole = f.whole;
-        stays = λ m more l e. (many_goes m (f.front ++ more) (Err more) (goes_stays true ts f.front rest more h f.whole e) l (f.stays more e)).2;
-        value = f.value ∷ [];
-        back = f.back;
-        completed = record { front = f.front ++ f.back; back = []; whole = sym (append_nil (f.front ++ f.back)); first = f.completed; second = refl };
-      }
+      front = f.front;
+      whole = f.whole;
+      stays = λ m more l e. (many_goes m (f.front ++ more) (Err more) (goes_stays true ts f.front rest more h f.whole e) l (f.stays more e)).2;
+      value = f.value ∷ [];
+      back = f.back;
+      completed = record { front = f.front ++ f.back; back = []; whole = sym (append_nil (f.front ++ f.back)); first = f.completed; second = refl };
+    }
       where
         append_nil : (us : Tokens) → us ++ [] ≡ us
         append_nil [] = refl
@@ -110,9 +109,11 @@ module _ {A : Type 0} (goes : Kind → Bool) (p : Tokens → Outcome A) (P : Rul
 
     stop_told : (ts : Tokens) → goes (peek ts) ≡ false → ManyTold ts (Ok ([], ts))
     stop_told ts h = record {
-        front = []; whole = refl; derived = refl;
-        stays = λ m more l e. many_stops m more (goes_stays false ts [] ts more h refl e);
-      }
+      front = [];
+      whole = refl;
+      derived = refl;
+      stays = λ m more l e. many_stops m more (goes_stays false ts [] ts more h refl e);
+    }
 
     told_by : (n : ℕ) (ts : Tokens) (b : Bool) → goes (peek ts) ≡ b → length ts ≤ suc n → Told p P ts (p ts) → ((mid : Tokens) → length mid ≤ n → ManyTold mid (read_many goes p n mid)) → ManyTold ts (cond b (step n ts (p ts)) (Ok ([], ts)))
     told_by n ts true h l f told = item_told n ts h l (p ts) f told
@@ -124,14 +125,19 @@ module _ {A : Type 0} (goes : Kind → Bool) (p : Tokens → Outcome A) (P : Rul
 
     as_told : (ts : Tokens) (r : Outcome (List A)) → ManyTold ts r → Told many_read (Many P) ts r
     as_told ts (Ok read) f = record {
-        front = f.front; whole = f.whole; derived = f.derived;
-        stays = λ more e. f.stays (length (f.front ++ more)) more (omega arith) e;
-      }
+      front = f.front;
+      whole = f.whole;
+      derived = f.derived;
+      stays = λ more e. f.stays (length (f.front ++ more)) more (omega arith) e;
+    }
     as_told ts (Err rest) f = record {
-        front = f.front; whole = f.whole;
-        stays = λ more e. f.stays (length (f.front ++ more)) more (omega arith) e;
-        value = f.value; back = f.back; completed = f.completed;
-      }
+      front = f.front;
+      whole = f.whole;
+      stays = λ more e. f.stays (length (f.front ++ more)) more (omega arith) e;
+      value = f.value;
+      back = f.back;
+      completed = f.completed;
+    }
 
     module _ (I F : Kind → Bool) (law : Lawful p P I (λ j. goes j || F j)) (marks : (j : Kind) → I j ≡ true → goes j ≡ true) (apart : Apart goes F) where
       many_starts : (xs : List A) (front rest : Tokens) → Many P xs front → F (peek rest) ≡ true → (goes (peek (front ++ rest)) || F (peek (front ++ rest))) ≡ true
@@ -158,7 +164,7 @@ module _ {A : Type 0} (goes : Kind → Bool) (p : Tokens → Outcome A) (P : Rul
 
       pub lawful-many : (H : Kind → Bool) → ((j : Kind) → (goes j || F j) ≡ true → H j ≡ true) → Lawful many_read (Many P) H F
       lawful-many H wide = record {
-          told = λ ts. as_told ts (many_read ts) (many_told law.told (length ts) ts (omega arith));
-          only = λ xs front rest d f. many_only xs front rest (length (front ++ rest)) d f (omega arith);
-          starts = λ xs front rest d f. wide (peek (front ++ rest)) (many_starts xs front rest d f);
-        }
+        told = λ ts. as_told ts (many_read ts) (many_told law.told (length ts) ts (omega arith));
+        only = λ xs front rest d f. many_only xs front rest (length (front ++ rest)) d f (omega arith);
+        starts = λ xs front rest d f. wide (peek (front ++ rest)) (many_starts xs front rest d f);
+      }

@@ -1,11 +1,11 @@
 -- What a loop over items behind a separator keeps, where the separator may also stand last.
-use Rattle.std.proofs.Common.{◌≡◌, ℕ, zero, suc, ◌≤◌, ◌<◌, ◌+◌, Bool, true, false, Option, Some, None, Result, Ok, Err, List, [], ◌∷◌, ◌++◌, length, cond, refl, sym, ◌∙◌, ap, subst, append_assoc, arith}
+use Rattle.std.proofs.Common.{◌≡◌, ℕ, zero, suc, ◌≤◌, ◌<◌, Bool, true, false, Ok, Err, List, [], ◌∷◌, ◌++◌, length, cond, refl, sym, ◌∙◌, ap, subst, append_assoc, arith}
 use Rattle.std.proofs.lemmas.List.{append-nil}
 use Rattle.pads_lex.specs.declared.token.Token.{Token}
 use Rattle.pads_grammar.specs.declared.kind.Kind.{Kind}
 use Rattle.pads_grammar.specs.declared.kind.Kind.TheVariants as kind
 use Rattle.pads_grammar.specs.Kinds.{Tokens, is, peek, kind_of}
-use Rattle.pads_grammar.specs.Grammar.{Grammar, rest_of, Outcome, then_read, read_token, read_rest, behind, reads, nullable, begins}
+use Rattle.pads_grammar.specs.Grammar.{Grammar, rest_of, Outcome, then_read, read_token, read_rest, reads, nullable, begins}
 use Rattle.pads_grammar.proofs.Loops.{Shorter, shortens}
 
 abbrev left_or : Tokens → Outcome ℕ → Tokens
@@ -71,7 +71,7 @@ module _ {A : Type 0} (k : Kind) (g : Grammar A) (solid : nullable g ≡ false) 
   rest_goes whole done ts us at a mid h m b e w =
       let x = marked ts at us h m in
       w ∙ (ap (λ vs. then_read (reads (rest_of k g) vs) (λ more rest. Ok (done ++ more, rest))) x.1
-        ∙ (ap (λ y. then_read y (λ more rest. Ok (done ++ more, rest))) (rest_step x.0 us a mid x.2 b e) ∙ go (reads (rest_of k g) mid)))
+      ∙ (ap (λ y. then_read y (λ more rest. Ok (done ++ more, rest))) (rest_step x.0 us a mid x.2 b e) ∙ go (reads (rest_of k g) mid)))
     where
       go : (r : Outcome (List A)) → then_read (then_read r (λ xs rest. Ok (a ∷ xs, rest))) (λ more rest. Ok (done ++ more, rest)) ≡ then_read r (λ more rest. Ok ((done ++ a ∷ []) ++ more, rest))
       go (Ok read) = ap (λ xs. Ok (xs, read.1)) (sym (append_assoc done (a ∷ []) read.0))
@@ -84,10 +84,10 @@ module _ {A : Type 0} (k : Kind) (g : Grammar A) (solid : nullable g ≡ false) 
   rest_ends_behind whole done ts us at h m b w =
       let x = marked ts at us h m in
       w ∙ (ap (λ vs. then_read (reads (rest_of k g) vs) (λ more rest. Ok (done ++ more, rest))) x.1
-        ∙ (ap (λ y. then_read y (λ more rest. Ok (done ++ more, rest))) (rest_end x.0 us x.2 b) ∙ ap (λ xs. Ok (xs, us)) (append-nil done)))
+      ∙ (ap (λ y. then_read y (λ more rest. Ok (done ++ more, rest))) (rest_end x.0 us x.2 b) ∙ ap (λ xs. Ok (xs, us)) (append-nil done)))
 
   pub rest_fails : (whole : Outcome (List A)) (done : List A) (ts us rest : Tokens) (at : ℕ) → is k (peek ts) ≡ true → read_token k (λ t. t.begin) ts ≡ Ok (at, us) → begins g (peek us) ≡ true → reads g us ≡ Err rest → RestWhole k g whole done ts → whole ≡ Err rest
   rest_fails whole done ts us rest at h m b e w =
       let x = marked ts at us h m in
       w ∙ (ap (λ vs. then_read (reads (rest_of k g) vs) (λ more rest. Ok (done ++ more, rest))) x.1
-        ∙ ap (λ y. then_read y (λ more rest. Ok (done ++ more, rest))) (rest_fault x.0 us rest x.2 b e))
+      ∙ ap (λ y. then_read y (λ more rest. Ok (done ++ more, rest))) (rest_fault x.0 us rest x.2 b e))

@@ -1,11 +1,11 @@
 -- The law of what may come any number of times behind a separator that may also stand last.
-use Rattle.std.proofs.Common.{◌≡◌, ℕ, zero, suc, ◌≤◌, ◌<◌, ◌+◌, Bool, true, false, ◌||◌, Option, Some, None, Result, Ok, Err, List, [], ◌∷◌, ◌++◌, length, cond, ◌⊎◌, inl, inr, refl, sym, ◌∙◌, ap, subst, append_assoc, arith}
+use Rattle.std.proofs.Common.{◌≡◌, ℕ, zero, suc, ◌≤◌, Bool, true, false, ◌||◌, Ok, Err, List, [], ◌∷◌, ◌++◌, length, cond, inl, inr, refl, sym, ◌∙◌, ap, subst, append_assoc, arith}
 use Rattle.pads_lex.specs.declared.token.Token.{Token}
 use Rattle.pads_grammar.specs.declared.kind.Kind.{Kind}
 use Rattle.pads_grammar.specs.declared.kind.Kind.TheVariants as kind
 use Rattle.pads_grammar.specs.Kinds.{Tokens, is, peek, kind_of}
-use Rattle.pads_grammar.specs.Grammar.{Rule, Split, IsToken, Rest, Outcome, then_read, read_rest, behind, Apart}
-use Rattle.pads_grammar.specs.Laws.{Found, Fault, Told, Lawful, Inhabited}
+use Rattle.pads_grammar.specs.Grammar.{Rule, IsToken, Rest, Outcome, then_read, read_rest, Apart}
+use Rattle.pads_grammar.specs.Laws.{Found, Told, Lawful}
 use Rattle.pads_grammar.proofs.Parts.{or-left, or-right, next_peek, is-same, same-is}
 use Rattle.pads_grammar.proofs.Repetitions.{falsum, none_left}
 
@@ -80,44 +80,48 @@ module _ {A : Type 0} (k : Kind) (goes : Kind → Bool) (p : Tokens → Outcome 
 
   rest_told : (t : Token) (ts : Tokens) (a : A) (mid : Tokens) → is k (kind_of t.kind) ≡ true → goes (peek ts) ≡ true → Found p P ts a mid → (s : Outcome (List A)) → RestTold mid s → RestTold (t ∷ ts) (then_read s (λ xs rest. Ok (a ∷ xs, rest)))
   rest_told t ts a mid h go f (Ok read) g = record {
-      front = t ∷ (f.front ++ g.front);
-      whole = ap (λ us. t ∷ us) (f.whole ∙ (ap (λ us. f.front ++ us) g.whole ∙ sym (append_assoc f.front g.front read.1)));
-      derived = record { front = t ∷ []; back = f.front ++ g.front; whole = refl; first = separator t h; second = record { front = f.front; back = g.front; whole = refl; first = f.derived; second = g.derived } };
-      stays = λ m more l e. more_stays t ts a mid f g.front read.1 more (Ok (read.0, more)) m h go g.whole e l (λ n l. g.stays n more l e);
-    }
+    front = t ∷ (f.front ++ g.front);
+    whole = ap (λ us. t ∷ us) (f.whole ∙ (ap (λ us. f.front ++ us) g.whole ∙ sym (append_assoc f.front g.front read.1)));
+    derived = record { front = t ∷ []; back = f.front ++ g.front; whole = refl; first = separator t h; second = record { front = f.front; back = g.front; whole = refl; first = f.derived; second = g.derived } };
+    stays = λ m more l e. more_stays t ts a mid f g.front read.1 more (Ok (read.0, more)) m h go g.whole e l (λ n l. g.stays n more l e);
+  }
   rest_told t ts a mid h go f (Err rest) g = record {
-      front = t ∷ (f.front ++ g.front);
-      whole = ap (λ us. t ∷ us) (f.whole ∙ (ap (λ us. f.front ++ us) g.whole ∙ sym (append_assoc f.front g.front rest)));
-      stays = λ m more l e. more_stays t ts a mid f g.front rest more (Err more) m h go g.whole e l (λ n l. g.stays n more l e);
-      value = a ∷ g.value;
-      back = g.back;
-      completed = record { front = t ∷ []; back = (f.front ++ g.front) ++ g.back; whole = refl; first = separator t h; second = record { front = f.front; back = g.front ++ g.back; whole = append_assoc f.front g.front g.back; first = f.derived; second = g.completed } };
-    }
+    front = t ∷ (f.front ++ g.front);
+    whole = ap (λ us. t ∷ us) (f.whole ∙ (ap (λ us. f.front ++ us) g.whole ∙ sym (append_assoc f.front g.front rest)));
+    stays = λ m more l e. more_stays t ts a mid f g.front rest more (Err more) m h go g.whole e l (λ n l. g.stays n more l e);
+    value = a ∷ g.value;
+    back = g.back;
+    completed = record { front = t ∷ []; back = (f.front ++ g.front) ++ g.back; whole = refl; first = separator t h; second = record { front = f.front; back = g.front ++ g.back; whole = append_assoc f.front g.front g.back; first = f.derived; second = g.completed } };
+  }
 
   item_told : (n : ℕ) (t : Token) (ts : Tokens) → is k (kind_of t.kind) ≡ true → goes (peek ts) ≡ true → length (t ∷ ts) ≤ suc n → (r : Outcome A) → Told p P ts r → ((mid : Tokens) → length mid ≤ n → RestTold mid (read_rest k goes p n mid)) → RestTold (t ∷ ts) (step n r)
   item_told n t ts h go l (Ok read) f told =
       let l2 : length (t ∷ (f.front ++ read.1)) ≤ suc n = subst (λ (us : Tokens). length (t ∷ us) ≤ suc n) f.whole l in
       rest_told t ts read.0 read.1 h go f (read_rest k goes p n read.1) (told read.1 (shorter t f.front read.1 (suc n) n l2 refl))
   item_told n t ts h go l (Err rest) f told = record {
-      front = t ∷ f.front;
-      whole = ap (λ us. t ∷ us) f.whole;
-      stays = λ m more l e. (rest_goes m t (f.front ++ more) (Err more) h (goes_stays true ts f.front rest more go f.whole e) l (f.stays more e)).2;
-      value = f.value ∷ [];
-      back = f.back;
-      completed = record { front = t ∷ []; back = f.front ++ f.back; whole = refl; first = separator t h; second = record { front = f.front ++ f.back; back = []; whole = sym (append_nil (f.front ++ f.back)); first = f.completed; second = inl refl } };
-    }
+    front = t ∷ f.front;
+    whole = ap (λ us. t ∷ us) f.whole;
+    stays = λ m more l e. (rest_goes m t (f.front ++ more) (Err more) h (goes_stays true ts f.front rest more go f.whole e) l (f.stays more e)).2;
+    value = f.value ∷ [];
+    back = f.back;
+    completed = record { front = t ∷ []; back = f.front ++ f.back; whole = refl; first = separator t h; second = record { front = f.front ++ f.back; back = []; whole = sym (append_nil (f.front ++ f.back)); first = f.completed; second = inl refl } };
+  }
 
   stop_told : (ts : Tokens) → is k (peek ts) ≡ false → RestTold ts (Ok ([], ts))
   stop_told ts h = record {
-      front = []; whole = refl; derived = inl refl;
-      stays = λ m more l e. rest_stops m more (ap (is k) (e) ∙ h);
-    }
+    front = [];
+    whole = refl;
+    derived = inl refl;
+    stays = λ m more l e. rest_stops m more (ap (is k) (e) ∙ h);
+  }
 
   end_told : (t : Token) (ts : Tokens) → is k (kind_of t.kind) ≡ true → goes (peek ts) ≡ false → RestTold (t ∷ ts) (Ok ([], ts))
   end_told t ts h g = record {
-      front = t ∷ []; whole = refl; derived = inr (separator t h);
-      stays = λ m more l e. rest_ends m t more h (ap goes (e) ∙ g) l;
-    }
+    front = t ∷ [];
+    whole = refl;
+    derived = inr (separator t h);
+    stays = λ m more l e. rest_ends m t more h (ap goes (e) ∙ g) l;
+  }
 
   told_by_item : (n : ℕ) (t : Token) (ts : Tokens) (b : Bool) → is k (kind_of t.kind) ≡ true → goes (peek ts) ≡ b → length (t ∷ ts) ≤ suc n → Told p P ts (p ts) → ((mid : Tokens) → length mid ≤ n → RestTold mid (read_rest k goes p n mid)) → RestTold (t ∷ ts) (cond b (step n (p ts)) (Ok ([], ts)))
   told_by_item n t ts true h g l f told = item_told n t ts h g l (p ts) f told
@@ -134,14 +138,19 @@ module _ {A : Type 0} (k : Kind) (goes : Kind → Bool) (p : Tokens → Outcome 
 
   as_told : (ts : Tokens) (r : Outcome (List A)) → RestTold ts r → Told rest_read (Rest k P) ts r
   as_told ts (Ok read) f = record {
-      front = f.front; whole = f.whole; derived = f.derived;
-      stays = λ more e. f.stays (length (f.front ++ more)) more (omega arith) e;
-    }
+    front = f.front;
+    whole = f.whole;
+    derived = f.derived;
+    stays = λ more e. f.stays (length (f.front ++ more)) more (omega arith) e;
+  }
   as_told ts (Err rest) f = record {
-      front = f.front; whole = f.whole;
-      stays = λ more e. f.stays (length (f.front ++ more)) more (omega arith) e;
-      value = f.value; back = f.back; completed = f.completed;
-    }
+    front = f.front;
+    whole = f.whole;
+    stays = λ more e. f.stays (length (f.front ++ more)) more (omega arith) e;
+    value = f.value;
+    back = f.back;
+    completed = f.completed;
+  }
 
   module _ (I F : Kind → Bool) (law : Lawful p P I (λ j. is k j || F j)) (marks : (j : Kind) → I j ≡ true → goes j ≡ true) (apart : Apart goes F) (other : F k ≡ false) where
     after_token : (front rest : Tokens) → (s : Token) × IsToken k (λ s. s) s front → is k (peek (front ++ rest)) ≡ true
@@ -186,7 +195,7 @@ module _ {A : Type 0} (k : Kind) (goes : Kind → Bool) (p : Tokens → Outcome 
 
     pub lawful-rest : (H : Kind → Bool) → ((j : Kind) → (is k j || F j) ≡ true → H j ≡ true) → Lawful rest_read (Rest k P) H F
     lawful-rest H wide = record {
-        told = λ ts. as_told ts (rest_read ts) (rest_told_all law.told (length ts) ts (omega arith));
-        only = λ xs front rest d f. rest_only xs front rest (length (front ++ rest)) d f (omega arith);
-        starts = λ xs front rest d f. wide (peek (front ++ rest)) (rest_starts xs front rest d f);
-      }
+      told = λ ts. as_told ts (rest_read ts) (rest_told_all law.told (length ts) ts (omega arith));
+      only = λ xs front rest d f. rest_only xs front rest (length (front ++ rest)) d f (omega arith);
+      starts = λ xs front rest d f. wide (peek (front ++ rest)) (rest_starts xs front rest d f);
+    }

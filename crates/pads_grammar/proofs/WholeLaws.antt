@@ -1,12 +1,11 @@
 -- What a reader that stops tells of the whole list of tokens.
-use Rattle.std.proofs.Common.{◌≡◌, ℕ, zero, suc, ◌+◌, ◌-◌, ◌<◌, ◌≤◌, Bool, true, false, Ok, Err, List, [], ◌∷◌, ◌++◌, length, take, drop, ◌⊎◌, inl, inr, refl, sym, ◌∙◌, ap, subst, append_assoc, length-append, arith, add-one}
+use Rattle.std.proofs.Common.{◌≡◌, ℕ, suc, ◌+◌, ◌-◌, Bool, true, false, Ok, Err, [], ◌∷◌, ◌++◌, length, take, drop, ◌⊎◌, inl, inr, refl, sym, ◌∙◌, ap, subst, append_assoc, length-append, arith, add-one}
 use Rattle.std.proofs.lemmas.List.{take-append-drop}
 use Rattle.pads_lex.specs.declared.token.Token.{Token}
-use Rattle.pads_grammar.specs.declared.kind.Kind.{Kind}
 use Rattle.pads_grammar.specs.declared.kind.Kind.TheVariants as kind
 use Rattle.pads_grammar.specs.Kinds.{Tokens, is, peek, kind_of, sample}
 use Rattle.pads_grammar.specs.Grammar.{Grammar, Outcome, Derives, reads, Decides}
-use Rattle.pads_grammar.specs.Laws.{Found, Fault, Told, Lawful}
+use Rattle.pads_grammar.specs.Laws.{Found, Fault, Told}
 use Rattle.pads_grammar.specs.Whole.{Whole, Begins, IsFirstFault}
 use Rattle.pads_grammar.proofs.Grammars.{lawful}
 
@@ -114,17 +113,17 @@ module _ {A B : Type 0} (g : Grammar A) (make : A → Token → B) (d : Decides 
 
   begun : (us : Tokens) (a : A) (back : Tokens) → Derives g a (us ++ back) → Begins g make us
   begun us a back h = record {
-      tree = make a (sample kind.End);
-      back = back ++ sample kind.End ∷ [];
-      derived = record { front = us ++ back; end = sample kind.End; value = a; whole = sym (append_assoc us back (sample kind.End ∷ [])); last = refl; derived = h; made = refl };
-    }
+    tree = make a (sample kind.End);
+    back = back ++ sample kind.End ∷ [];
+    derived = record { front = us ++ back; end = sample kind.End; value = a; whole = sym (append_assoc us back (sample kind.End ∷ [])); last = refl; derived = h; made = refl };
+  }
 
   at_front : (f : Tokens) (r : Token) (x : Tokens) → Begins g make f → (Begins g make (f ++ r ∷ []) → ⊥) → IsFirstFault g make (f ++ r ∷ x) (length f)
   at_front f r x before stops = record {
-      within = omega (arith, length-append f (r ∷ x));
-      before = subst (λ (us : Tokens). Begins g make us) (sym (take_front f (r ∷ x))) before;
-      stops = λ b. stops (subst (λ (us : Tokens). Begins g make us) (ap (λ n. take n (f ++ r ∷ x)) (add-one (length f)) ∙ take_next f r x) b);
-    }
+    within = omega (arith, length-append f (r ∷ x));
+    before = subst (λ (us : Tokens). Begins g make us) (sym (take_front f (r ∷ x))) before;
+    stops = λ b. stops (subst (λ (us : Tokens). Begins g make us) (ap (λ n. take n (f ++ r ∷ x)) (add-one (length f)) ∙ take_next f r x) b);
+  }
 
   -- The tokens that are left, and the end token behind them.
   abbrev next : Tokens → Token → Token
@@ -174,14 +173,15 @@ module _ {A B : Type 0} (g : Grammar A) (make : A → Token → B) (d : Decides 
     where
       not_nil : (t : Token) (more : Tokens) → t ∷ more ≡ [] → ⊥
       not_nil t more h = cc
+
       go : Found (reads g) (Derives g) us a (t ∷ rest) → IsFirstFault g make (us ++ end ∷ []) (length us - length rest)
       go f =
           let w : us ≡ (f.front ++ t ∷ []) ++ rest = f.whole ∙ sym (append_assoc f.front (t ∷ []) rest) in
           placed (f.front ++ t ∷ []) rest us end (length us - length rest) w (left us (f.front ++ t ∷ []) rest w)
           (record { tree = make a t; back = []; derived = record { front = f.front; end = t; value = a; whole = append_nil (f.front ++ t ∷ []); last = same; derived = f.derived; made = refl } })
           (never (f.front ++ t ∷ []) (next rest end) (λ more p b r.
-              let x : reads g (f.front ++ t ∷ more) ≡ Ok (b, []) = ap (reads g) (sym (append_assoc f.front (t ∷ []) more)) ∙ r in
-              not_nil t more (same_rest (reads g (f.front ++ t ∷ more)) a b (t ∷ more) [] (f.stays (t ∷ more) refl) x)))
+          let x : reads g (f.front ++ t ∷ more) ≡ Ok (b, []) = ap (reads g) (sym (append_assoc f.front (t ∷ []) more)) ∙ r in
+          not_nil t more (same_rest (reads g (f.front ++ t ∷ more)) a b (t ∷ more) [] (f.stays (t ∷ more) refl) x)))
 
   -- Where the reader meets a fault, or leaves tokens behind, no tree is derived.
   pub no_tree : (ts : Tokens) (at : ℕ) (tree : B) → IsFirstFault g make ts at → Whole g make tree ts → ⊥

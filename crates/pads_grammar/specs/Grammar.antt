@@ -68,7 +68,6 @@ abbrev pub Many : {A : Type 0} → Rule A → Rule (List A)
 Many P [] ts = ts ≡ []
 Many P (x ∷ xs) ts = Split (P x) (Many P xs) ts
 
-
 abbrev pub Rest : {A : Type 0} → Kind → Rule A → Rule (List A)
 Rest k P [] ts = (ts ≡ []) ⊎ ((t : Token) × IsToken k (λ s. s) t ts)
 Rest k P (x ∷ xs) ts = Split (λ front. (t : Token) × IsToken k (λ s. s) t front) (Split (P x) (Rest k P xs)) ts
@@ -135,8 +134,8 @@ abbrev pub read_rest : {A : Type 0} → Kind → (Kind → Bool) → (Tokens →
 read_rest k goes item zero ts = Ok ([], ts)
 read_rest k goes item (suc n) ts = cond (is k (peek ts))
     (cond (goes (peek (behind ts)))
-        (then_read (item (behind ts)) (λ a mid. then_read (read_rest k goes item n mid) (λ xs rest. Ok (a ∷ xs, rest))))
-        (Ok ([], behind ts)))
+    (then_read (item (behind ts)) (λ a mid. then_read (read_rest k goes item n mid) (λ xs rest. Ok (a ∷ xs, rest))))
+    (Ok ([], behind ts)))
     (Ok ([], ts))
 
 abbrev pub reads : {A : Type 0} → Grammar A → Tokens → Outcome A

@@ -1,6 +1,5 @@
 -- Lists of items with a token between each two.
 use Rattle.std.specs.Prelude.{List, ◌∷◌}
-use Rattle.pads_lex.specs.declared.token.Token.{Token}
 use Rattle.pads_grammar.specs.declared.kind.Kind.{Kind}
 use Rattle.pads_grammar.specs.Grammar.{Grammar, token, apply, many, ◌&◌, ◌*>◌}
 

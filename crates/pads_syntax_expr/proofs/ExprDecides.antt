@@ -1,16 +1,16 @@
 -- One token decides at each place of an expression, where no operator and no step follows it.
-use Rattle.std.proofs.Common.{◌≡◌, ℕ, zero, suc, Bool, true, false, ◌||◌, ◌&&◌, not, Option, Some, None, refl}
+use Rattle.std.proofs.Common.{◌≡◌, ℕ, zero, suc, Bool, false, ◌||◌, refl}
 use Rattle.pads_grammar.specs.declared.kind.Kind.{Kind}
 use Rattle.pads_grammar.specs.declared.kind.Kind.TheVariants as kind
-use Rattle.pads_grammar.specs.Kinds.{is, all_kinds}
-use Rattle.pads_grammar.specs.Grammar.{Grammar, pair, apply, either, many, nullable, begins, ahead, Apart, Decides}
+use Rattle.pads_grammar.specs.Kinds.{is}
+use Rattle.pads_grammar.specs.Grammar.{Grammar, many, nullable, begins, ahead, Apart, Decides}
 use Rattle.pads_grammar.proofs.Parts.{or-left, or-right, or-only}
-use Rattle.pads_grammar.proofs.Disjoint.{all_of, apart_by, within_by}
+use Rattle.pads_grammar.proofs.Disjoint.{apart_by, within_by}
 use Rattle.pads_ast.specs.declared.expr.Expr.{Expr}
 use Rattle.pads_ast.specs.declared.expr.BinaryOperator.{BinaryOperator}
 use Rattle.pads_syntax_expr.specs.declared.level.Level.TheVariants as level_form
 use Rattle.pads_syntax_expr.specs.Leaves.{word}
-use Rattle.pads_syntax_expr.specs.Expressions.{operators, link, chained, prod, sum, rel, eq, both, any, sign, signed, field, index, plain, paren, pis, plen, pforall, body, opened, branch_name, quantifier, nested_atom, nested_step, posts, unary, expr}
+use Rattle.pads_syntax_expr.specs.Expressions.{operators, link, chained, prod, sum, rel, eq, both, any, sign, signed, field, index, plain, paren, pis, plen, pforall, body, quantifier, nested_atom, nested_step, posts, unary, expr}
 
 -- What a unary expression goes on with, and an expression of each level.
 abbrev pub unary_on : Kind → Bool
@@ -40,15 +40,17 @@ module _ (part : Grammar Expr) (op : Grammar BinaryOperator) (P : Kind → Bool)
     (solid : nullable op ≡ false) (quiet : begins op kind.End ≡ false) (apart : Apart P (begins op)) where
   pub chained_ok : (F : Kind → Bool) → Apart (λ j. begins op j || P j) F → Decides (chained part op) F
   chained_ok F f = (
-      part_ok (ahead (many (link op part)) F) (λ j p. rw (apart j p, solid, f j (or-right (begins op j) (P j) p)) refl),
+    part_ok (ahead (many (link op part)) F) (λ j p. rw (apart j p, solid, f j (or-right (begins op j) (P j) p)) refl),
+    (
       (
-        (op_ok (ahead part (λ j. begins (link op part) j || F j)),
-         part_ok (λ j. begins (link op part) j || F j) (λ j p. rw (apart j p, solid, f j (or-right (begins op j) (P j) p)) refl)),
-        rw solid refl,
-        (λ j b. f j (or-left (begins op j) (P j) (or-only (nullable op) (begins op j) (begins part j) solid b))),
-        rw (quiet, solid) refl
-      )
-    )
+        op_ok (ahead part (λ j. begins (link op part) j || F j)),
+        part_ok (λ j. begins (link op part) j || F j) (λ j p. rw (apart j p, solid, f j (or-right (begins op j) (P j) p)) refl),
+      ),
+      rw solid refl,
+      (λ j b. f j (or-left (begins op j) (P j) (or-only (nullable op) (begins op j) (begins part j) solid b))),
+      rw (quiet, solid) refl,
+    ),
+  )
 
 prod_ops : (G : Kind → Bool) → Decides (operators level_form.Prod) G
 prod_ops G = (refl, (refl, refl, refl, apart_by _ _ refl), refl, apart_by _ _ refl)
@@ -136,11 +138,12 @@ plain_posts_ok F f = (plain_ok F, (field_ok F, refl, fields_apart F f, refl))
 pub unary_ok : (depth : ℕ) (F : Kind → Bool) → Apart unary_on F → Decides (unary depth) F
 unfolding unary
 unary_ok zero F f = plain_posts_ok F f
-unary_ok (suc depth) F f =
-    ((sign_ok F, unary_ok depth F f),
-     nested_posts_ok (any (unary depth)) (any_ok (unary depth) (unary_ok depth)) F f,
-     refl,
-     apart_by (begins (signed (unary depth))) _ refl)
+unary_ok (suc depth) F f = (
+  (sign_ok F, unary_ok depth F f),
+  nested_posts_ok (any (unary depth)) (any_ok (unary depth) (unary_ok depth)) F f,
+  refl,
+  apart_by (begins (signed (unary depth))) _ refl,
+)
 
 pub expr_ok : (depth : ℕ) (F : Kind → Bool) → Apart any_on F → Decides (expr depth) F
 expr_ok depth = any_ok (unary depth) (unary_ok depth)

@@ -1,12 +1,11 @@
 -- Laws of levels, unary expressions and the loops over operators and steps, in the form that the code's
 -- proofs use.
-use Rattle.std.proofs.Common.{◌≡◌, ℕ, zero, suc, ◌≤◌, ◌<◌, ◌+◌, ◌*◌, Bool, true, false, ◌||◌, ◌&&◌, Option, Some, None, Result, Ok, Err, List, [], ◌∷◌, ◌++◌, length, refl, sym, ◌∙◌, ap, subst, arith}
+use Rattle.std.proofs.Common.{◌≡◌, ℕ, zero, suc, ◌≤◌, ◌<◌, ◌+◌, Bool, true, false, Option, Some, None, Ok, Err, List, [], ◌∷◌, ◌++◌, length, refl, ◌∙◌, arith}
 use Rattle.pads_grammar.specs.declared.kind.Kind.{Kind}
 use Rattle.pads_grammar.specs.declared.kind.Kind.TheVariants as kind
-use Rattle.pads_grammar.specs.Kinds.{Tokens, is, peek}
+use Rattle.pads_grammar.specs.Kinds.{Tokens, peek}
 use Rattle.pads_grammar.specs.Grammar.{Grammar, Outcome, many, either, reads, nullable, begins}
 use Rattle.pads_grammar.proofs.Loops.{Whole, loop_begins, loop_goes, loop_ends, loop_fails, shorter}
-use Rattle.pads_grammar.proofs.Parts.{or-left}
 use Rattle.pads_ast.specs.declared.expr.Expr.{Expr}
 use Rattle.pads_ast.specs.declared.expr.Link.{Link}
 use Rattle.pads_ast.specs.declared.expr.Step.{Step}
@@ -86,7 +85,6 @@ module _ (d i : ℕ) (ts : Tokens) (h : below d ≡ Some i) where
   pub unary_signed : begins sign (peek ts) ≡ true → reads (unary d) ts ≡ reads (signed (unary i)) ts
   unary_signed b = unary_some d i ts h ∙ rw b refl
 
-
 operators_solid : (k : Level) → nullable (operators k) ≡ false
 operators_solid level_form.Unary = refl
 operators_solid level_form.Prod = refl
@@ -155,6 +153,9 @@ pub steps_shorter : (inner : Option ℕ) (ts rest : Tokens) (s : Step Expr) → 
 steps_shorter inner ts rest s h = shorter (step inner) ts s rest (step_solid inner) h
 
 pub ruleset levels = (level_some, level_none, rank_part)
+
 pub ruleset unaries = (unary_none, weight_below, below_some)
+
 pub ruleset link_loop = (links_begin, links_go, links_end, links_fail, links_shorter)
+
 pub ruleset step_loop = (steps_begin, steps_go, steps_end, steps_fail, steps_shorter)

@@ -14,10 +14,10 @@
 --
 -- Each sign, bracket, index and each of the last three forms is one level of nesting. Where no level is
 -- left, the alternatives that open one are not there.
-use Rattle.std.specs.Prelude.{◌≡◌, refl, ℕ, zero, suc, Bool, true, false, ◌||◌, Option, Some, None, List}
+use Rattle.std.specs.Prelude.{◌≡◌, refl, ℕ, zero, suc, Bool, true, false, ◌||◌, Option, Some, None}
 use Rattle.pads_grammar.specs.declared.kind.Kind.{Kind}
 use Rattle.pads_grammar.specs.declared.kind.Kind.TheVariants as kind
-use Rattle.pads_grammar.specs.Grammar.{Grammar, begins, token, pair, apply, either, many, ◌&◌, ◌<*◌, ◌*>◌, ◌or◌}
+use Rattle.pads_grammar.specs.Grammar.{Grammar, begins, token, apply, many, ◌&◌, ◌<*◌, ◌*>◌, ◌or◌}
 use Rattle.pads_ast.specs.Chains.{chain, post}
 use Rattle.pads_ast.specs.declared.expr.Expr.{Expr}
 use Rattle.pads_ast.specs.declared.expr.Expr.TheVariants as expr_form

@@ -37,4 +37,4 @@ number = token kind.Number (λ t. (number_of t.kind, t.begin))
 -- word = Char | Text
 abbrev pub word : Grammar Word
 word = either (token kind.Char (λ t. word_form.Char (point_of t.kind) t.begin))
-              (token kind.Text (λ t. word_form.Text (text_of t.kind) t.begin))
+    (token kind.Text (λ t. word_form.Text (text_of t.kind) t.begin))

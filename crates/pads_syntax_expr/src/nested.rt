@@ -3,9 +3,9 @@ ghost use Rattle.pads_grammar.specs.Grammar.{reads, begins, many};
 ghost use Rattle.pads_grammar.specs.Reads.{Reads};
 ghost use Rattle.pads_syntax_expr.specs.Expressions.{begins_expr, below, expr, level, unary, signed, posted, step, atom, field, index, paren, pis, plen, pforall, body, opened, branch_name, quantifier, link, operators};
 
+use crate::Level;
 use crate::leaf::{name, plain};
 use crate::operator::{is_sign, joins, operator, sign};
-use crate::Level;
 use pads_ast::{Expr, Link, Links, Name, Step, Steps};
 use pads_grammar::{Cursor, Kind, Reading};
 use pads_value::Items;

@@ -105,7 +105,11 @@ pub fn joins(kind: Kind, level: Level) -> bool
 }
 
 #[tactic(auto, using(pads_grammar::proofs::Leaves::leaves))]
-fn one_sign(cursor: &mut Cursor<'_>, kind: Kind, operator: UnaryOperator) -> Reading<(UnaryOperator, u64)>
+fn one_sign(
+    cursor: &mut Cursor<'_>,
+    kind: Kind,
+    operator: UnaryOperator,
+) -> Reading<(UnaryOperator, u64)>
     ensures reads { Reads (reads (token kind (λ t. (operator, t.begin))) cursor.old) result cursor.new }
 {
     match cursor.take(kind) {

@@ -1,4 +1,4 @@
-use Rattle.std.proofs.Common.{◌≡◌, ℕ, ◌+◌, ◌*◌, length}
+use Rattle.std.proofs.Common.{◌+◌, ◌*◌, length}
 use Rattle.pads_grammar.specs.Grammar.{reads, many}
 use Rattle.pads_grammar.proofs.Loops.{Whole}
 use Rattle.pads_syntax_expr.specs.Expressions.{unary, level, step, link, operators, rank}
