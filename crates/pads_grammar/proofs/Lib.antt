@@ -1,0 +1,11 @@
+pub mod Parts
+pub mod Compositions
+pub mod Repetitions
+pub mod Separated
+pub mod Grammars
+pub mod WholeLaws
+pub mod Leaves
+pub mod Loops
+pub mod Disjoint
+pub mod ListLoops
+pub mod RestLoops

@@ -1,0 +1,48 @@
+use super::*;
+use pads_sorts::{Form, Sort};
+use std::test::Fail;
+
+fn fault(at: u64, rule: u8) -> Option<CheckFault> {
+    Some(CheckFault { at, rule })
+}
+
+#[test]
+fn the_first_place_and_then_the_first_rule(rt: HostRuntime) -> Result<(), Fail> {
+    assert_eq!(rt; lesser(fault(7, 2), fault(3, 9)), fault(3, 9));
+    assert_eq!(rt; lesser(fault(7, 2), fault(7, 1)), fault(7, 1));
+    assert_eq!(rt; lesser(None, fault(7, 2)), fault(7, 2));
+    assert_eq!(rt; lesser(fault(7, 2), None), fault(7, 2));
+    assert_eq!(rt; fault_if(true, 4, 5), fault(5, 4));
+    assert_eq!(rt; fault_if(false, 4, 5), None);
+    Ok(())
+}
+
+#[test]
+fn sorts_that_agree(rt: HostRuntime) -> Result<(), Fail> {
+    let array = ExprSort::plain(Form::Array(3));
+    assert!(rt; array.agrees(array));
+    assert!(rt; array.agrees(ExprSort::Unknown));
+    assert!(rt; !array.agrees(ExprSort::plain(Form::Array(4))));
+    assert!(rt; !array.agrees(array.optional()));
+    assert!(rt; !array.agrees(ExprSort::Nothing));
+    assert_eq!(rt;
+        array.optional(),
+        ExprSort::Known(Sort {
+            optional: 1,
+            form: Form::Array(3)
+        })
+    );
+    Ok(())
+}
+
+#[test]
+fn plain_sorts_alone_are_taken(rt: HostRuntime) -> Result<(), Fail> {
+    let num = ExprSort::plain(Form::Num);
+    assert!(rt; num.is_num());
+    assert!(rt; !num.is_text());
+    assert!(rt; !num.is_truth());
+    assert!(rt; !num.optional().is_num());
+    assert!(rt; ExprSort::Unknown.is_truth());
+    assert!(rt; !ExprSort::Nothing.is_num());
+    Ok(())
+}
