@@ -1,0 +1,5 @@
+pub mod Places
+pub mod MetRolls
+pub mod ExprRolls
+pub mod Firsts
+pub mod Whole
