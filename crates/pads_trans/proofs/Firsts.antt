@@ -1,5 +1,5 @@
 -- The first option of an array that gives something, from a place on.
-use Rattle.std.proofs.Common.{◌≡◌, ◌∙◌, sym, ap, refl, ℕ, suc, ◌+◌, ◌<◌, List, [], ◌∷◌, ◌≤◌, length, drop, get_or, drop-cons, Option, None, Some, arith}
+use Rattle.std.proofs.Common.{◌≡◌, ◌∙◌, sym, ap, ℕ, suc, ◌+◌, ◌<◌, List, ◌∷◌, ◌≤◌, length, drop, get_or, drop-cons, Option, None, Some, arith}
 use Rattle.std.proofs.Math.ListN.{drop_of_length-le}
 use Rattle.std.specs.Option.{option_or}
 use Rattle.pads_resolved.specs.declared.decl.ArrayOption.{ArrayOption}

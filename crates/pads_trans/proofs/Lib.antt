@@ -3,3 +3,4 @@ pub mod MetRolls
 pub mod ExprRolls
 pub mod Firsts
 pub mod Whole
+mod Rows

@@ -1,6 +1,6 @@
 -- The names of a set that keeps their order, and a table of them.
-use Rattle.std.proofs.Common.{◌≡◌, ◌∙◌, sym, ap, refl, ℕ, ◌+◌, ◌<◌, ◌≤◌, Bool, false, if◌then◌else◌, List, [], ◌∷◌, ◌++◌, length, length-append, map, take, get_or, position, nat_eq, Option, None, Some, MatchOption, arith}
-use Rattle.std.specs.List.{list_any, fold}
+use Rattle.std.proofs.Common.{◌≡◌, ◌∙◌, sym, ap, refl, ℕ, ◌+◌, ◌<◌, ◌≤◌, false, if◌then◌else◌, List, [], ◌∷◌, ◌++◌, length, length-append, take, get_or, position, nat_eq, Option, None, Some, MatchOption, arith}
+use Rattle.std.specs.List.{list_any}
 use Rattle.std.specs.declared.vec.Vec.{Vec}
 use Rattle.std.specs.declared.alloc.Global.{Global}
 use Rattle.std.proofs.lemmas.List.{map-append, length-map, length-take-le, take_more}
@@ -8,7 +8,7 @@ use Rattle.std.proofs.lemmas.List.Sums.{fold-append}
 use lib.Pointwise.{pointwise}
 use Rattle.pads_value.specs.Names.{texts, NumbersName}
 use Rattle.pads_value.proofs.NameLemmas.{position-map}
-use Rattle.pads_trans.specs.Names.{Name, place_of, number_at, number_of, names_at, with_name, with_names}
+use Rattle.pads_trans.specs.Names.{Name, place_of, number_of, names_at, with_name, with_names}
 
 abbrev Held : Type 0
 Held = Vec ℕ Global

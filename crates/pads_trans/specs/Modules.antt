@@ -1,5 +1,5 @@
 -- The translation of a description: its module.
-use Rattle.std.specs.Prelude.{◌≡◌, ℕ, Bool, ◌&&◌, nat_lt, List, length, map, Result, Ok, Err}
+use Rattle.std.specs.Prelude.{Bool, ◌&&◌, nat_lt, List, length, map, Result, Ok, Err}
 use Rattle.pads_calc.specs.Counts.{module_counts}
 use Rattle.pads_calc.specs.Scopes.{module_in_scope}
 use Rattle.pads_calc.specs.declared.decl.Decl.{Decl}

@@ -56,7 +56,6 @@ use Rattle.pads_resolved.specs.declared.decl.Role.{Role}
 use Rattle.pads_resolved.specs.declared.decl.Role.TheVariants as role
 use Rattle.pads_resolved.specs.declared.decl.Struct.{Struct}
 use Rattle.pads_resolved.specs.declared.decl.Switch.{Switch}
-use Rattle.pads_resolved.specs.declared.decl.Typedef.{Typedef}
 use Rattle.pads_resolved.specs.declared.decl.Union.{Union}
 use Rattle.pads_resolved.specs.declared.decl.Union.TheVariants as union
 use Rattle.pads_resolved.specs.declared.expr.Expr.{Expr as ExprTree}

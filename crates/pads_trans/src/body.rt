@@ -10,7 +10,8 @@ use crate::types::{constrained, form, key, literal, type_term};
 use pads_calc::{Arm, Arms, Case, Cases, Part, Parts, Term};
 use pads_code::Coding;
 use pads_resolved::{
-    Branch, Case as CaseTree, Computed, Expr as Tree, Literal, Part as PartTree, Struct, Switch, Union,
+    Branch, Case as CaseTree, Computed, Expr as Tree, Literal, Part as PartTree, Struct, Switch,
+    Union,
 };
 use pads_value::{Boxed, Items, Memory};
 use std::alloc::Global;
@@ -21,7 +22,8 @@ fn field(alloc: Global, names: &Numbering, ambient: Coding, branch: &Branch) -> 
     ensures field { IfOk result (λ made. made ≡ field_of names.now ambient branch.now) }
 {
     let inner = type_term(alloc, names, ambient, &branch.of)?;
-    constrained(alloc, names, inner, branch.name.as_slice(), &branch.constraint)
+    let name = branch.name.as_slice();
+    constrained(alloc, names, inner, name, &branch.constraint)
 }
 
 fn named_part(names: &Numbering, name: &[u8], term: Term) -> Part
@@ -45,12 +47,7 @@ fn literal_part(alloc: Global, ambient: Coding, of: &Literal) -> Result<Part, Me
     })
 }
 
-fn computed(
-    alloc: Global,
-    names: &Numbering,
-    of: Computed,
-    value: &Tree,
-) -> Result<Term, Memory>
+fn computed(alloc: Global, names: &Numbering, of: Computed, value: &Tree) -> Result<Term, Memory>
     ensures computed { IfOk result (λ made. made ≡ term_form.Compute (expr_of names.now value.now) (form_of of)) }
 {
     Ok(Term::Compute(expr(alloc, names, value)?, form(of)))
@@ -173,7 +170,12 @@ fn push_default(
 }
 
 #[tactic(auto, unfolding(crate::specs::Terms::switch_of))]
-fn switched(alloc: Global, names: &Numbering, ambient: Coding, switch: &Switch) -> Result<Term, Memory>
+fn switched(
+    alloc: Global,
+    names: &Numbering,
+    ambient: Coding,
+    switch: &Switch,
+) -> Result<Term, Memory>
     ensures made { IfOk result (λ made. made ≡ switch_of names.now ambient switch.now) }
 {
     let value = expr(alloc, names, &switch.value)?;

@@ -31,7 +31,12 @@ fn constrained_type(
     }
 }
 
-fn typedef(alloc: Global, names: &Numbering, ambient: Coding, body: &Typedef) -> Result<Term, Memory>
+fn typedef(
+    alloc: Global,
+    names: &Numbering,
+    ambient: Coding,
+    body: &Typedef,
+) -> Result<Term, Memory>
     ensures made { IfOk result (λ made. made ≡ constrained_type_of names.now (type_of names.now ambient body.now.of) body.now.constraint) }
 {
     let inner = type_term(alloc, names, ambient, &body.of)?;

@@ -47,9 +47,7 @@ fn meaning(alloc: Global, names: &Numbering, meaning: &Meaning) -> Result<Expr, 
         Meaning::Variable(name) => variable(names, name.as_slice()),
         Meaning::Elts => variable(names, b"@"),
         Meaning::Length => Expr::Len(Boxed::new(alloc, variable(names, b"@"))?),
-        Meaning::Field(number) => {
-            Expr::Part(Boxed::new(alloc, variable(names, b"@"))?, *number)
-        }
+        Meaning::Field(number) => { Expr::Part(Boxed::new(alloc, variable(names, b"@"))?, *number) }
     })
 }
 

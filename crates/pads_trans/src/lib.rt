@@ -12,3 +12,6 @@ mod translation;
 mod types;
 
 pub use translation::translate;
+
+#[cfg(test)]
+mod tests;

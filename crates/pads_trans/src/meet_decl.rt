@@ -7,7 +7,8 @@ ghost use Rattle.pads_trans.specs.Names.{some_name, none_name, with_names};
 use crate::meet_expr::{meet_expr, meet_exprs, meet_option};
 use crate::names::Names;
 use pads_resolved::{
-    Array, ArrayOption, Branch, Case, Constraint, Decl, DeclBody, Expr, Param, Part, Role, Struct, Switch, Type, Typedef, Union,
+    Array, ArrayOption, Branch, Case, Constraint, Decl, DeclBody, Expr, Param, Part, Role, Struct,
+    Switch, Type, Typedef, Union,
 };
 use pads_value::Memory;
 

@@ -8,7 +8,9 @@ use crate::names::Numbering;
 use pads_bases::{Label as Spelled, Labels};
 use pads_calc::{Arm, Arms, Base, Exprs, Key, Result2, Term};
 use pads_code::{Coding, encode};
-use pads_resolved::{BaseType, Computed, Const, Expr as Tree, Label, Literal, Prefix, Type, TypeName};
+use pads_resolved::{
+    BaseType, Computed, Const, Expr as Tree, Label, Literal, Prefix, Type, TypeName,
+};
 use pads_value::{Boxed, Bytes, Items, Memory};
 use std::alloc::Global;
 
@@ -115,11 +117,7 @@ fn labels(alloc: Global, labels: &[Label]) -> Result<Labels, Memory>
     Ok(made)
 }
 
-pub(crate) fn enumeration(
-    alloc: Global,
-    ambient: Coding,
-    list: &[Label],
-) -> Result<Term, Memory>
+pub(crate) fn enumeration(alloc: Global, ambient: Coding, list: &[Label]) -> Result<Term, Memory>
     ensures made { IfOk result (λ made. made ≡ enum_of ambient list.now) }
 {
     let labels = labels(alloc, list)?;

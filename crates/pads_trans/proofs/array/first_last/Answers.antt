@@ -5,7 +5,7 @@ use Rattle.pads_trans.proofs.array.first_last.Goals as goal
 pub returns-in-Some : goal.returns-in-Some
 returns-in-Some c = record {
   first = first-here last c.args.options.now c.loop-option.option-index c.option-item.result c.in-Some.condition.now
-      c.loop-option.invariant c.loop-option-test.true c.option-item.is c.in-Some.ensures.last
+      c.loop-option.invariant c.loop-option-test.true c.option-item.is c.in-Some.ensures.last;
 }
 
 pub loop-option-preserved : goal.loop-option-preserved
@@ -15,5 +15,5 @@ loop-option-preserved c =
 
 pub returns : goal.returns
 returns c = record {
-  first = first-ends last c.args.options.now c.loop-option.option-index c.loop-option.invariant c.loop-option-test.false
+  first = first-ends last c.args.options.now c.loop-option.option-index c.loop-option.invariant c.loop-option-test.false;
 }

@@ -5,7 +5,7 @@ use Rattle.pads_trans.proofs.array.first_terminator.Goals as goal
 pub returns-in-Some : goal.returns-in-Some
 returns-in-Some c = record {
   first = first-here terminator c.args.options.now c.loop-option.option-index c.option-item.result c.in-Some.literal.now
-      c.loop-option.invariant c.loop-option-test.true c.option-item.is c.in-Some.ensures.terminator
+      c.loop-option.invariant c.loop-option-test.true c.option-item.is c.in-Some.ensures.terminator;
 }
 
 pub loop-option-preserved : goal.loop-option-preserved
@@ -15,5 +15,5 @@ loop-option-preserved c =
 
 pub returns : goal.returns
 returns c = record {
-  first = first-ends terminator c.args.options.now c.loop-option.option-index c.loop-option.invariant c.loop-option-test.false
+  first = first-ends terminator c.args.options.now c.loop-option.option-index c.loop-option.invariant c.loop-option-test.false;
 }

@@ -7,5 +7,5 @@ returns-in-Some c = record { met = rw (← c.self.view_is) (stays-there c.self.i
 pub returns : goal.returns
 returns c = record {
   met = rw (← c.self.view_is) (goes-last c.self.inside.set.keys c.args.name.now c.in_ok-from_slice.field-0 c.insert.new.self.keys
-    c.in_default.ensures.index c.in_default.ensures.found c.in_ok-from_slice.ensures.items c.in_ok-insert.ensures.keys)
+      c.in_default.ensures.index c.in_default.ensures.found c.in_ok-from_slice.ensures.items c.in_ok-insert.ensures.keys);
 }
