@@ -1,0 +1,6 @@
+pub mod Expressions
+pub mod Plain
+pub mod Sorted
+pub mod Sorts
+pub mod Terms
+pub mod Values
