@@ -11,7 +11,8 @@ use Rattle.pads_sorted.specs.Expressions.{Scope, sort_in, expr_step, forall_sort
 use Rattle.pads_sorted.specs.Sorts.{Sort, Number, Text, Truth}
 use Rattle.pads_sorted.specs.Values.{has_sort, answer_has, worth_has, HasSorts}
 use Rattle.pads_sorted.proofs.Operators.{Has, on-has, operator-has, minus-has, negation-has, forall-has}
-use Rattle.pads_sorted.proofs.Worths.{worth-has, part-has, branch-has, element-has, chooses-has, length-has, has-Num}
+use Rattle.pads_sorted.proofs.Values.{has-Num}
+use Rattle.pads_sorted.proofs.Worths.{worth-has, part-has, branch-has, element-has, chooses-has, length-has}
 
 -- what is asked of a sort that there is
 and_then-is : {A B : Type 0} (f : A → Option B) (o : Option A) (y : B) → option_and_then f o ≡ Some y → (x : A) × (o ≡ Some x) × (f x ≡ Some y)

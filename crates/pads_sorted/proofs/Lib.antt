@@ -1,3 +1,12 @@
+pub mod Arrays
+pub mod Bases
+pub mod Calls
+pub mod Evaluated
 pub mod Expressions
+pub mod Forms
 pub mod Operators
+pub mod Readings
+pub mod Rows
+pub mod Terms
+pub mod Values
 pub mod Worths

@@ -1,7 +1,6 @@
 -- What a value of a sort is worth in an expression.
 use Rattle.std.proofs.Common.{◌≡◌, ◌∙◌, sym, ap, refl, subst, ℕ, zero, suc, ◌==◌, ℤ, pos, negsuc, nat_lt, Bool, true, false, ◌&&◌, if◌then◌else◌, List, [], ◌∷◌, map, Option, Some, None, slice_get, option_map}
-use Rattle.pads_value.specs.declared.value.Val.{Val, Val-F, out-Val, fold_out-Val, map-Val, out-roll-Val}
-use Rattle.pads_value.specs.declared.value.Val.TheVariants as val
+use Rattle.pads_value.specs.declared.value.Val.{Val, Val-F, out-Val, fold_out-Val, map-Val}
 use Rattle.pads_expr.specs.Parts.{worth_of, worth_or, part_of, arm_of, is_arm_of, element_of, length_of, item_at}
 use Rattle.pads_expr.specs.Worth.{Worth, Answer, Is, Absent, Ill}
 use Rattle.pads_expr.specs.Worth as worth
@@ -13,8 +12,16 @@ use Rattle.pads_sorted.specs.Expressions.{part_sort, branch_sort, element_sort, 
 use Rattle.pads_sorted.specs.Sorts.{Sort, Number, Text, Truth, Nothing, Labels, Struct, Choice, Array, sort_of}
 use Rattle.pads_sorted.specs.Values.{Sorting, value_step, has_sort, is_whole, worth_has, answer_has, each_part, each_element, of_branch}
 
+pub both-left : (a b : Bool) → (a && b) ≡ true → a ≡ true
+both-left true b h = refl
+both-left false b h = cc
+
+pub both-right : (a b : Bool) → (a && b) ≡ true → b ≡ true
+both-right true b h = h
+both-right false b h = cc
+
 module _ (declared : List Sort) where
-  abbrev layer_has : Val-F Val → Sort → Bool
+  abbrev pub layer_has : Val-F Val → Sort → Bool
   layer_has layer sort = value_step declared (map-Val Val Sorting (has_sort declared) layer) sort
 
   -- one layer at a time
@@ -39,14 +46,6 @@ module _ (declared : List Sort) where
 
   pub worth-has : (value : Val) (sort : Sort) → has_sort declared value sort ≡ true → answer_has declared (worth_of value) sort ≡ true
   worth-has value sort h = worth-layer value sort (out-Val value) refl h
-
-  both-left : (a b : Bool) → (a && b) ≡ true → a ≡ true
-  both-left true b h = refl
-  both-left false b h = cc
-
-  both-right : (a b : Bool) → (a && b) ≡ true → b ≡ true
-  both-right true b h = h
-  both-right false b h = cc
 
   -- which worths have the sorts of which operators ask
   whole-number : (layer : Val-F Val) → is_whole layer ≡ true → layer_has layer Number ≡ true → ⊥
@@ -311,6 +310,3 @@ module _ (declared : List Sort) where
   length-has (worth.Part value) (Array elem) asked h is =
       let same : Number ≡ asked = cc in
       rw (← same) (length-layer value (out-Val value) elem refl (whole value (Array elem) h) (here value (Array elem) h))
-
-  pub has-Num : (n : ℤ) → has_sort declared (val.Num n) Number ≡ true
-  has-Num n = has-out (val.Num n) Number ∙ ap (λ layer. layer_has layer Number) (ap out-Val (sym (val.rolls-Num n)) ∙ out-roll-Val (Val-F.Num n))

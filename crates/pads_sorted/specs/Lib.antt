@@ -1,3 +1,4 @@
+pub mod Evaluated
 pub mod Expressions
 pub mod Plain
 pub mod Sorted

@@ -9,4 +9,7 @@
 
 mod laws;
 
-pub use laws::sorted_expressions_keep_their_sorts;
+pub use laws::{
+    readings_have_their_sorts, sorted_expressions_keep_their_sorts,
+    sorted_modules_evaluate_nothing_ill_sorted,
+};
