@@ -1,11 +1,15 @@
+pub mod Accepted
 pub mod Arrays
 pub mod Bases
 pub mod Calls
 pub mod Evaluated
 pub mod Expressions
 pub mod Forms
+pub mod Made
 pub mod Operators
+pub mod PlainSorts
 pub mod Readings
+pub mod Refused
 pub mod Rows
 pub mod Terms
 pub mod Values

@@ -12,6 +12,7 @@ ghost use Rattle.pads_calc.specs.Calculus.{meaning};
 ghost use Rattle.pads_calc.specs.Rows.{deepest, type_of, row_of};
 ghost use Rattle.pads_sorted.specs.Evaluated.{Moment, moment, Evaluates};
 ghost use Rattle.pads_sorted.specs.Expressions.{Scope, sort_in};
+ghost use Rattle.pads_sorted.specs.Plain.{Plain};
 ghost use Rattle.pads_sorted.specs.Sorted.{Sorts, AreSorted, IsSorted, Sorted};
 ghost use Rattle.pads_sorted.specs.Sorts.{Sort, sort_at, sort_of, AreSorts};
 ghost use Rattle.pads_sorted.specs.Values.{has_sort, worth_has, HasSorts};
@@ -48,4 +49,10 @@ pub fn sorted_modules_evaluate_nothing_ill_sorted()
         → Evaluates origin bytes decls now e env → value e env ≢ Ill }
     ensures record_type { (origin : ℕ) (bytes : List ℕ) (decls : List Decl) (number : ℕ) (e : Expr) (env : Pairs)
         → Sorted decls → Evaluates origin bytes decls (moment deepest (Call number []) [] 0) e env → value e env ≢ Ill }
+{}
+
+/// The law of plain modules: the values of their declarations have sorts, and each but one.
+pub fn plain_modules_have_sorts()
+    ensures there { (decls : List Decl) → Plain decls → (declared : List Sort) × AreSorts declared decls }
+    ensures unique { (decls : List Decl) (one other : List Sort) → Plain decls → AreSorts one decls → AreSorts other decls → one ≡ other }
 {}

@@ -10,6 +10,6 @@
 mod laws;
 
 pub use laws::{
-    readings_have_their_sorts, sorted_expressions_keep_their_sorts,
+    plain_modules_have_sorts, readings_have_their_sorts, sorted_expressions_keep_their_sorts,
     sorted_modules_evaluate_nothing_ill_sorted,
 };
