@@ -5,6 +5,7 @@ pub mod Calls
 pub mod Evaluated
 pub mod Expressions
 pub mod Forms
+pub mod Layers
 pub mod Made
 pub mod Operators
 pub mod PlainSorts

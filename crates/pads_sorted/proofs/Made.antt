@@ -5,7 +5,7 @@ use Rattle.pads_calc.specs.declared.term.Arm.{Arm}
 use Rattle.pads_calc.specs.declared.term.Case.{Case}
 use Rattle.pads_calc.specs.declared.term.Part.{Part}
 use Rattle.pads_calc.specs.declared.term.Seq.{Seq}
-use Rattle.pads_calc.specs.declared.term.Term.{Term, Term-F, roll-Term, out-roll-Term}
+use Rattle.pads_calc.specs.declared.term.Term.{Term, Term-F, out-Term, roll-Term, out-roll-Term}
 use Rattle.pads_sorted.specs.Expressions.{Scope}
 use Rattle.pads_sorted.specs.Plain.{IsPlain, IsPlainHere, plain}
 use Rattle.pads_sorted.specs.Sorted.{Sorts, fits, Standing, standing_in, IsSorted, sorted}
@@ -25,28 +25,37 @@ module _ (sorts : Sorts) (scope : Scope) where
   abbrev pub Stands : Standing → Type 0
   Stands inner = IsSorted sorts inner.scope inner.term
 
-  -- a layer whose expressions fit, and in which each term is sorted where it stands
-  pub sorted-made : (layer : Term-F Term Arm Case Part Seq) → fits sorts scope layer ≡ true → Each Stands (standing_in sorts.declared scope layer) → IsSorted sorts scope (roll-Term layer)
-  sorted-made layer fit all =
-      sorted (ap (fits sorts scope) (out-roll-Term layer) ∙ fit)
+  -- a term of this layer, whose expressions fit, and in which each term is sorted where it stands
+  pub sorted-as : (t : Term) (layer : Term-F Term Arm Case Part Seq) → out-Term t ≡ layer → fits sorts scope layer ≡ true → Each Stands (standing_in sorts.declared scope layer)
+      → IsSorted sorts scope t
+  sorted-as t layer is fit all =
+      sorted (ap (fits sorts scope) is ∙ fit)
       (λ n inner there. each-there Stands (standing_in sorts.declared scope layer) all n inner
-      (ap (λ layer. slice_get (standing_in sorts.declared scope layer) n) (sym (out-roll-Term layer)) ∙ there))
+      (ap (λ layer. slice_get (standing_in sorts.declared scope layer) n) (sym is) ∙ there))
+
+  pub sorted-made : (layer : Term-F Term Arm Case Part Seq) → fits sorts scope layer ≡ true → Each Stands (standing_in sorts.declared scope layer) → IsSorted sorts scope (roll-Term layer)
+  sorted-made layer = sorted-as (roll-Term layer) layer (out-roll-Term layer)
 
   -- and what it says
-  pub sorted-fits : (layer : Term-F Term Arm Case Part Seq) → IsSorted sorts scope (roll-Term layer) → fits sorts scope layer ≡ true
-  sorted-fits layer (sorted fit all) = ap (fits sorts scope) (sym (out-roll-Term layer)) ∙ fit
+  pub sorted-fits : (t : Term) (layer : Term-F Term Arm Case Part Seq) → out-Term t ≡ layer → IsSorted sorts scope t → fits sorts scope layer ≡ true
+  sorted-fits t layer is (sorted fit all) = ap (fits sorts scope) (sym is) ∙ fit
 
-  pub sorted-inside : (layer : Term-F Term Arm Case Part Seq) → IsSorted sorts scope (roll-Term layer) → (n : ℕ) (inner : Standing) → slice_get (standing_in sorts.declared scope layer) n ≡ Some inner → Stands inner
-  sorted-inside layer (sorted fit all) n inner there = all n inner (ap (λ layer. slice_get (standing_in sorts.declared scope layer) n) (out-roll-Term layer) ∙ there)
+  pub sorted-inside : (t : Term) (layer : Term-F Term Arm Case Part Seq) → out-Term t ≡ layer → IsSorted sorts scope t
+      → (n : ℕ) (inner : Standing) → slice_get (standing_in sorts.declared scope layer) n ≡ Some inner → Stands inner
+  sorted-inside t layer is (sorted fit all) n inner there = all n inner (ap (λ layer. slice_get (standing_in sorts.declared scope layer) n) is ∙ there)
 
 module _ (number : ℕ) where
+  pub plain-as : (t : Term) (layer : Term-F Term Arm Case Part Seq) → out-Term t ≡ layer → IsPlainHere number layer → Each (IsPlain number) (terms_in layer) → IsPlain number t
+  plain-as t layer is here all =
+      plain (subst (IsPlainHere number) (sym is) here)
+      (λ n inner there. each-there (IsPlain number) (terms_in layer) all n inner (ap (λ layer. slice_get (terms_in layer) n) (sym is) ∙ there))
+
   pub plain-made : (layer : Term-F Term Arm Case Part Seq) → IsPlainHere number layer → Each (IsPlain number) (terms_in layer) → IsPlain number (roll-Term layer)
-  plain-made layer here all =
-      plain (subst (IsPlainHere number) (sym (out-roll-Term layer)) here)
-      (λ n inner there. each-there (IsPlain number) (terms_in layer) all n inner (ap (λ layer. slice_get (terms_in layer) n) (sym (out-roll-Term layer)) ∙ there))
+  plain-made layer = plain-as (roll-Term layer) layer (out-roll-Term layer)
 
-  pub plain-here : (layer : Term-F Term Arm Case Part Seq) → IsPlain number (roll-Term layer) → IsPlainHere number layer
-  plain-here layer (plain here all) = subst (IsPlainHere number) (out-roll-Term layer) here
+  pub plain-here : (t : Term) (layer : Term-F Term Arm Case Part Seq) → out-Term t ≡ layer → IsPlain number t → IsPlainHere number layer
+  plain-here t layer is (plain here all) = subst (IsPlainHere number) is here
 
-  pub plain-inside : (layer : Term-F Term Arm Case Part Seq) → IsPlain number (roll-Term layer) → (n : ℕ) (inner : Term) → slice_get (terms_in layer) n ≡ Some inner → IsPlain number inner
-  plain-inside layer (plain here all) n inner there = all n inner (ap (λ layer. slice_get (terms_in layer) n) (out-roll-Term layer) ∙ there)
+  pub plain-inside : (t : Term) (layer : Term-F Term Arm Case Part Seq) → out-Term t ≡ layer → IsPlain number t
+      → (n : ℕ) (inner : Term) → slice_get (terms_in layer) n ≡ Some inner → IsPlain number inner
+  plain-inside t layer is (plain here all) n inner there = all n inner (ap (λ layer. slice_get (terms_in layer) n) is ∙ there)

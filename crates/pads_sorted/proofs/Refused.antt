@@ -27,18 +27,18 @@ use Rattle.pads_sorted.proofs.Values.{has-Enum}
 
 -- not plain: a number that is absorbed
 pub absorbs_number : (n : ℕ) → IsPlain n (roll-Term (Term-F.Absorb number)) → ⊥
-absorbs_number n h = subst IsMark (out-roll-Term _) (plain-here n (Term-F.Absorb number) h)
+absorbs_number n h = subst IsMark (out-roll-Term _) (plain-here n _ (Term-F.Absorb number) (out-roll-Term _) h)
 
 -- numbers with a comma between them that isn't absorbed, as many as are asked for
 abbrev listed : Option Expr → Seq
 listed size = record { elem = number; sep = Some comma; size = size; last = None; stop = None; elts = above }
 
 pub separates_by_literal : (n : ℕ) → IsPlain n (roll-Term (Term-F.Seq (listed None))) → ⊥
-separates_by_literal n h = subst IsAbsorb (out-roll-Term _) (plain-here n (Term-F.Seq (listed None)) h)
+separates_by_literal n h = subst IsAbsorb (out-roll-Term _) (plain-here n _ (Term-F.Seq (listed None)) (out-roll-Term _) h)
 
 -- a declaration that calls itself, or a later one
 pub calls_itself : (n : ℕ) → IsPlain n (roll-Term (Term-F.Call n [])) → ⊥
-calls_itself n h = let below : n < n = plain-here n (Term-F.Call n []) h in omega (arith, below)
+calls_itself n h = let below : n < n = plain-here n _ (Term-F.Call n []) (out-roll-Term _) h in omega (arith, below)
 
 -- two labels with one spelling
 abbrev label : Label
@@ -46,7 +46,7 @@ label = record { name = 97 ∷ []; spelling = 97 ∷ [] }
 
 pub same_spelling : (n : ℕ) → IsPlain n (roll-Term (Term-F.Base (base.Enum coding.Ascii (label ∷ label ∷ [])) [])) → ⊥
 same_spelling n h =
-    let same : 0 ≡ 1 = plain-here n (Term-F.Base (base.Enum coding.Ascii (label ∷ label ∷ [])) []) h 0 1 label label refl refl refl in
+    let same : 0 ≡ 1 = plain-here n _ (Term-F.Base (base.Enum coding.Ascii (label ∷ label ∷ [])) []) (out-roll-Term _) h 0 1 label label refl refl refl in
     omega (arith, same)
 
 -- not sorted, in any scope: expressions
@@ -86,7 +86,7 @@ nothing_bound name = sort_in-roll declared (Expr-F.Var name) []
 -- and terms: a constraint that is a number
 pub number_as_constraint : (scope : Scope) → IsSorted sorts scope (roll-Term (Term-F.Guard number above one)) → ⊥
 number_as_constraint scope h =
-    let fit = sorted-fits sorts scope (Term-F.Guard number above one) h in
+    let fit = sorted-fits sorts scope _ (Term-F.Guard number above one) (out-roll-Term _) h in
     let given = one-number ((above, _) ∷ scope) in
     let bad : has is_truth (Some Number) ≡ true = ap (has is_truth) (sym given) ∙ fit in
     cc
@@ -94,28 +94,28 @@ number_as_constraint scope h =
 -- a size that is a text
 pub text_as_size : (scope : Scope) → IsSorted sorts scope (roll-Term (Term-F.Seq (listed (Some letter)))) → ⊥
 text_as_size scope h =
-    let fit = sorted-fits sorts scope (Term-F.Seq (listed (Some letter))) h in
+    let fit = sorted-fits sorts scope _ (Term-F.Seq (listed (Some letter))) (out-roll-Term _) h in
     let bad : (has is_number (Some Text) && true) ≡ true = ap (λ sort. has is_number sort && true) (sym (letter-text scope)) ∙ fit in
     cc
 
 -- a text where the parameter is a number, and no argument where there is a parameter
 pub text_as_argument : (scope : Scope) → IsSorted sorts scope (roll-Term (Term-F.Call 0 (letter ∷ []))) → ⊥
 text_as_argument scope h =
-    let fit = sorted-fits sorts scope (Term-F.Call 0 (letter ∷ [])) h in
+    let fit = sorted-fits sorts scope _ (Term-F.Call 0 (letter ∷ [])) (out-roll-Term _) h in
     let bad : calls (Some (Number ∷ [])) (Some Text ∷ []) ≡ true = ap (λ sort. calls (Some (Number ∷ [])) (sort ∷ [])) (sym (letter-text scope)) ∙ fit in
     cc
 
 pub no_argument : (scope : Scope) → IsSorted sorts scope (roll-Term (Term-F.Call 0 [])) → ⊥
-no_argument scope h = let bad : calls (Some (Number ∷ [])) [] ≡ true = sorted-fits sorts scope (Term-F.Call 0 []) h in cc
+no_argument scope h = let bad : calls (Some (Number ∷ [])) [] ≡ true = sorted-fits sorts scope _ (Term-F.Call 0 []) (out-roll-Term _) h in cc
 
 -- an argument of a base type that takes none
 pub argument_of_integer : (scope : Scope) → IsSorted sorts scope (roll-Term (Term-F.Base (base.UntilEor coding.Ascii) (one ∷ []))) → ⊥
-argument_of_integer scope h = let bad : false ≡ true = sorted-fits sorts scope (Term-F.Base (base.UntilEor coding.Ascii) (one ∷ [])) h in cc
+argument_of_integer scope h = let bad : false ≡ true = sorted-fits sorts scope _ (Term-F.Base (base.UntilEor coding.Ascii) (one ∷ [])) (out-roll-Term _) h in cc
 
 -- a number that is computed as a text
 pub number_as_text : (scope : Scope) → IsSorted sorts scope (roll-Term (Term-F.Compute one form.Text)) → ⊥
 number_as_text scope h =
-    let bad : computes form.Text (Some Number) ≡ true = ap (computes form.Text) (sym (one-number scope)) ∙ sorted-fits sorts scope (Term-F.Compute one form.Text) h in
+    let bad : computes form.Text (Some Number) ≡ true = ap (computes form.Text) (sym (one-number scope)) ∙ sorted-fits sorts scope _ (Term-F.Compute one form.Text) (out-roll-Term _) h in
     cc
 
 -- a text as the key of a number
@@ -124,7 +124,7 @@ keyed = record { key = Some (key.Text (97 ∷ [])); arm = record { name = above;
 
 pub text_as_key : (scope : Scope) → IsSorted sorts scope (roll-Term (Term-F.Switch one keyed)) → ⊥
 text_as_key scope h =
-    let fit = sorted-fits sorts scope (Term-F.Switch one keyed) h in
+    let fit = sorted-fits sorts scope _ (Term-F.Switch one keyed) (out-roll-Term _) h in
     let bad : chooses (Some Number) (Some (key.Text (97 ∷ [])) ∷ []) ≡ true = ap (λ sort. chooses sort (Some (key.Text (97 ∷ [])) ∷ [])) (sym (one-number scope)) ∙ fit in
     cc
 

@@ -9,7 +9,7 @@ use Rattle.pads_expr.specs.Worth.{Ill}
 use Rattle.pads_calc.specs.declared.decl.Decl.{Decl}
 use Rattle.pads_calc.specs.declared.decl.Shape.{Shape}
 use Rattle.pads_calc.specs.declared.reading.Reading.{Reading}
-use Rattle.pads_calc.specs.declared.term.Term.{Term-F, out-Term, out-roll-Term}
+use Rattle.pads_calc.specs.declared.term.Term.{Term-F, out-Term}
 use Rattle.pads_calc.specs.declared.term.Term.TheVariants as term
 use Rattle.pads_calc.specs.Arguments.{bound_to}
 use Rattle.pads_calc.specs.Rows.{deepest, type_of, body_reading, row_by, row_of}
@@ -20,6 +20,7 @@ use Rattle.pads_sorted.specs.Sorts.{Sort, sort_at, AreSorts}
 use Rattle.pads_sorted.specs.Values.{has_sort, HasSorts}
 use Rattle.pads_sorted.proofs.Calls.{caller-has}
 use Rattle.pads_sorted.proofs.Evaluated.{evaluated-never_ill}
+use Rattle.pads_sorted.proofs.Layers.{out-Call}
 use Rattle.pads_sorted.proofs.Values.{has-Missing}
 
 module _ (declared : List Sort) (decls : List Decl) (are : AreSorts declared decls) where
@@ -37,9 +38,6 @@ module _ (declared : List Sort) (decls : List Decl) (are : AreSorts declared dec
 bound-none : (names : List ℕ) (env : Pairs) → bound_to names [] env ≡ env
 bound-none [] env = refl
 bound-none (name ∷ names) env = refl
-
-out-Call : (number : ℕ) (args : List Expr) → out-Term (term.Call number args) ≡ Term-F.Call number args
-out-Call number args = ap out-Term (sym (term.rolls-Call number args)) ∙ out-roll-Term (Term-F.Call number args)
 
 module _ (sorts : Sorts) (decls : List Decl) (are : AreSorted sorts decls) (origin : ℕ) (bytes : List ℕ) where
   -- where nothing is bound

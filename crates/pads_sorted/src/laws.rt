@@ -9,7 +9,7 @@ ghost use Rattle.pads_calc.specs.declared.decl.Shape.{Shape};
 ghost use Rattle.pads_calc.specs.declared.term.Term.{Term};
 ghost use Rattle.pads_calc.specs.declared.term.Term.TheVariants.{Call};
 ghost use Rattle.pads_calc.specs.Calculus.{meaning};
-ghost use Rattle.pads_calc.specs.Rows.{deepest, type_of, row_of};
+ghost use Rattle.pads_calc.specs.Rows.{deepest, type_of, body_reading, row_of};
 ghost use Rattle.pads_sorted.specs.Evaluated.{Moment, moment, Evaluates};
 ghost use Rattle.pads_sorted.specs.Expressions.{Scope, sort_in};
 ghost use Rattle.pads_sorted.specs.Plain.{Plain};
@@ -42,13 +42,16 @@ pub fn readings_have_their_sorts()
 
 /// The law of well-sorted modules: no expression that the calculus evaluates is ill-sorted, where a
 /// sorted term is read in an environment whose bindings have the sorts of their names or are Missing, and
-/// where a record of a type of the module is read.
+/// where a record of a type of the module is read. That is a call of the type without arguments at the
+/// record's first byte.
 pub fn sorted_modules_evaluate_nothing_ill_sorted()
     ensures term { (origin : ℕ) (bytes : List ℕ) (decls : List Decl) (sorts : Sorts) (scope : Scope) (now : Moment) (e : Expr) (env : Pairs)
         → AreSorted sorts decls → IsSorted sorts scope now.term → HasSorts sorts.declared scope now.env
         → Evaluates origin bytes decls now e env → value e env ≢ Ill }
     ensures record_type { (origin : ℕ) (bytes : List ℕ) (decls : List Decl) (number : ℕ) (e : Expr) (env : Pairs)
         → Sorted decls → Evaluates origin bytes decls (moment deepest (Call number []) [] 0) e env → value e env ≢ Ill }
+    ensures record_reading { (decls : List Decl) (number : ℕ) (cut : Cut)
+        → body_reading decls number cut ≡ meaning cut.first cut.bytes decls deepest (Call number []) [] 0 }
 {}
 
 /// The law of plain modules: the values of their declarations have sorts, and each but one.
