@@ -109,8 +109,8 @@ pub no_argument : (scope : Scope) → IsSorted sorts scope (roll-Term (Term-F.Ca
 no_argument scope h = let bad : calls (Some (Number ∷ [])) [] ≡ true = sorted-fits sorts scope _ (Term-F.Call 0 []) (out-roll-Term _) h in cc
 
 -- an argument of a base type that takes none
-pub argument_of_integer : (scope : Scope) → IsSorted sorts scope (roll-Term (Term-F.Base (base.UntilEor coding.Ascii) (one ∷ []))) → ⊥
-argument_of_integer scope h = let bad : false ≡ true = sorted-fits sorts scope _ (Term-F.Base (base.UntilEor coding.Ascii) (one ∷ [])) (out-roll-Term _) h in cc
+pub argument_that_none_takes : (scope : Scope) → IsSorted sorts scope (roll-Term (Term-F.Base (base.UntilEor coding.Ascii) (one ∷ []))) → ⊥
+argument_that_none_takes scope h = let bad : false ≡ true = sorted-fits sorts scope _ (Term-F.Base (base.UntilEor coding.Ascii) (one ∷ [])) (out-roll-Term _) h in cc
 
 -- a number that is computed as a text
 pub number_as_text : (scope : Scope) → IsSorted sorts scope (roll-Term (Term-F.Compute one form.Text)) → ⊥
