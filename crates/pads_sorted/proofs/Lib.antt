@@ -1,0 +1,17 @@
+pub mod Accepted
+pub mod Arrays
+pub mod Bases
+pub mod Calls
+pub mod Evaluated
+pub mod Expressions
+pub mod Forms
+pub mod Layers
+pub mod Made
+pub mod Operators
+pub mod PlainSorts
+pub mod Readings
+pub mod Refused
+pub mod Rows
+pub mod Terms
+pub mod Values
+pub mod Worths
