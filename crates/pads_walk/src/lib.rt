@@ -3,5 +3,6 @@
 
 mod reader;
 mod row;
+mod search;
 
 pub use row::walk;

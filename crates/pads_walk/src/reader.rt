@@ -10,6 +10,7 @@ ghost use Rattle.pads_calc.specs.Structs.{in_turn, struct_of};
 ghost use Rattle.pads_calc.specs.Wrappers.{scan};
 ghost use Rattle.pads_walk.specs.Reads.{calls, reads, reads_part, reads_arm, reads_case, reads_seq};
 
+use crate::search::{find, sought};
 use pads_calc::{
     Arm, Case, Decl, Ending, Part, Reading, Record, Run, Seq, Term, Turn, arguments, bind_part,
     bound, chosen, guarded, is_full, short_of, size_at,
@@ -324,6 +325,9 @@ impl Reader<'_> {
         ensures within { IfOk result (λ r. EndsWithin self.now.record.bytes.now place r) }
         ensures env { OnOk result (env.new.pairs ≡ env.old.pairs) }
     {
+        if let Some(literal) = sought(inner) {
+            return Ok(find(self.alloc, &self.record, literal, place));
+        }
         let first = self.read(inner, env, place, depth)?;
         if first.is_ok() {
             return Ok(first);

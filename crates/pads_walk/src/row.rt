@@ -79,38 +79,38 @@ fn row_without(alloc: Global, record_no: u64, frame: &Frame, cause: Cause) -> Ro
 /// The reading of a record's type at its first byte.
 fn read_body<'x>(
     alloc: Global,
-    module: &'x Module,
+    rules: &'x Module,
     record_no: u64,
     frame: &'x Frame<'x>,
 ) -> Result<Reading, Memory>
-    ensures body { IfOk result (λ r. r ≡ body_reading module.now.decls (type_of module.now.shape record_no) (cut_of_frame frame.now)) }
+    ensures body { IfOk result (λ r. r ≡ body_reading rules.now.decls (type_of rules.now.shape record_no) (cut_of_frame frame.now)) }
     ensures within { IfOk result (λ r. r.place ≤ length frame.now.bytes.now) }
 {
     let reader = Reader {
         alloc,
-        decls: module.decls.as_slice(),
+        decls: rules.decls.as_slice(),
         record: Record {
             origin: frame.first,
             bytes: frame.bytes,
         },
     };
-    let number = type_number(&module.shape, record_no);
+    let number = type_number(&rules.shape, record_no);
     let env = Env::new(alloc, 0)?;
     reader.read_call(number, &[], &env, 0, DEEPEST)
 }
 
 /// The row of a record, by recursion on terms: its value, its descriptor and where its reading ended.
 /// A frame without its bytes isn't read, and its row has the cause of its mark.
-pub fn walk(alloc: Global, module: &Module, record_no: u64, frame: &Frame) -> Result<Row, Memory>
-    ensures row { IfOk result (λ row. row ≡ row_of module.now.decls module.now.shape record_no (cut_of_frame frame.now)) }
+pub fn walk(alloc: Global, rules: &Module, record_no: u64, frame: &Frame) -> Result<Row, Memory>
+    ensures row { IfOk result (λ row. row ≡ row_of rules.now.decls rules.now.shape record_no (cut_of_frame frame.now)) }
 {
     match frame.mark {
         Mark::Plain => {
-            let body = read_body(alloc, module, record_no, frame)?;
+            let body = read_body(alloc, rules, record_no, frame)?;
             row_over(alloc, record_no, frame, None, body)
         }
         Mark::Short => {
-            let body = read_body(alloc, module, record_no, frame)?;
+            let body = read_body(alloc, rules, record_no, frame)?;
             let own = Own {
                 cause: Cause::RecordShort,
                 fails: false,

@@ -1,5 +1,4 @@
-use Rattle.std.proofs.Common.{◌≡◌, ◌≢◌, ◌∙◌, sym, ap, subst, ℕ, suc, ◌+◌, ◌-◌, ◌*◌, ◌<◌, ◌≤◌, Bool, true, false, List, [], ◌∷◌, ◌++◌, length, refl, length-append, map, drop, IfOk, IfSome, OnOk, Option, Some, None, slice_get, arith, rules}
-use Rattle.std.proofs.lemmas.Grind.{common_steps}
+use Rattle.std.proofs.Common.{◌≡◌, ◌∙◌, sym, ap, ◌+◌, ◌-◌, ◌*◌, ◌<◌, true, false, [], ◌∷◌, length, refl, length-append, map, Some, None, slice_get, arith}
 use Rattle.pads_calc.specs.declared.term.Term.TheVariants as term
 use denote.Param.Weighed.{most}
 use Rattle.pads_calc.specs.declared.term.Arm.{size-Arm}
@@ -9,15 +8,16 @@ use Rattle.pads_calc.specs.declared.term.Seq.{size-Seq}
 use Rattle.pads_calc.specs.declared.term.Term.{size-Term}
 use Rattle.pads_calc.proofs.Sizes.{size-Struct, size-Alt, size-Switch, size-Guard, size-of_Seq, size-Absorb, size-Scan, size-in_Case, most-there}
 use Rattle.pads_calc.specs.Arguments.{argument, arguments}
-use Rattle.pads_calc.specs.Arrays.{elements, turns_from, size_at, ending_at, turn_from, turn_of, is_empty, is_full, is_last}
+use Rattle.pads_calc.specs.Arrays.{elements, turns_from, size_at, ending_at, turn_of, is_empty, is_full, is_last}
 use Rattle.pads_calc.specs.Choices.{chosen}
 use Rattle.pads_calc.specs.Places.{TurnsWithin}
 use Rattle.pads_calc.specs.declared.turn.Ending.TheVariants as ending
 use Rattle.pads_calc.specs.declared.turn.Turn.TheVariants as turn
 use Rattle.pads_calc.specs.Counts.{counts_fit}
-use Rattle.pads_calc.specs.Readings.{is_ok}
+use Rattle.pads_calc.specs.Readings.{Reader, is_ok}
+use Rattle.pads_calc.specs.Wrappers.{scan}
 use Rattle.pads_calc.proofs.Rolls.{read-Unit, read-Base, read-Lit, read-Eor, read-Struct, read-Alt, read-Switch, read-Guard, read-Seq, read-Call, read-Compute, read-Absorb, read-Scan}
-use Rattle.pads_calc.proofs.CountRolls.{counts-Base, counts-Guard, counts-Absorb, counts-Scan, few-parts, fit-parts, few-arms, fit-arms, few-cases, fit-cases, fit-elem, fit-sep, fit-stop, fit-body, all-there}
+use Rattle.pads_calc.proofs.CountRolls.{counts-Base, counts-Guard, counts-Absorb, counts-Scan, fit-parts, few-arms, fit-arms, few-cases, fit-cases, fit-elem, fit-sep, fit-stop, fit-body, all-there}
 use Rattle.pads_calc.proofs.Calls.{call-deep, call-unargued, call-undeclared, call-found}
 use Rattle.pads_calc.proofs.Scans.{scan-here, scan-on, scan-found, scan-next, scan-over}
 use Rattle.pads_calc.proofs.Runs.{follows-push, parts-next, extends-bind}
@@ -25,6 +25,7 @@ use Rattle.pads_calc.proofs.Choices.{switch-found}
 use Rattle.pads_calc.proofs.Elements.{gathers-start, gathers-ended, gathers-undone, gathers-kept, seq-sized}
 use Rattle.pads_calc.proofs.Turns.{turn-without, turn-with, turns-room, ending-full, ending-last, ending-stop, ending-over, ending-on}
 use Rattle.pads_walk.specs.Reads.{calls, reads, reads_seq}
+use Rattle.pads_walk.proofs.Searches.{literal-reads}
 use Rattle.pads_walk.proofs.Weights.{weight, weight-call}
 use Rattle.pads_walk.proofs.reader.Reader.+reader.Goals as goal
 
@@ -143,6 +144,13 @@ read_scan-returns-then-is_ok-clause-value t c =
     let f = reads c.args.self.now.record c.args.self.now.decls.now c.args.depth c.args.inner.now in
     let ok : is_ok (f c.args.env.now.pairs c.args.place) ≡ true = ap is_ok (sym c.in_ok-first.ensures.value) ∙ sym c.is_ok.ensures.ok ∙ c.if-is_ok.true in
     c.in_ok-first.ensures.value ∙ sym (scan-here c.args.self.now.record.origin f c.args.env.now.pairs c.args.place c.args.self.now.record.bytes.now ok)
+
+pub read_scan-returns-in-Some-clause-value : goal.read_scan-returns-in-Some-clause-value
+read_scan-returns-in-Some-clause-value t c =
+    let from = c.args.self.now.record in
+    c.find.ensures.found c.args.env.now.pairs
+    ∙ ap (λ (f : Reader). scan from.origin from.bytes.now f c.args.env.now.pairs c.args.place)
+    (sym (literal-reads from c.args.self.now.decls.now c.args.depth c.args.inner.now c.in-Some.literal.now c.in-Some.ensures.literal))
 
 pub read_scan-loop-at-init : goal.read_scan-loop-at-init
 read_scan-loop-at-init t c =

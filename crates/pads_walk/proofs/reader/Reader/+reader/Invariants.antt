@@ -1,4 +1,4 @@
-use Rattle.std.proofs.Common.{◌≡◌, ℕ, ◌+◌, ◌-◌, ◌*◌, ◌≤◌, length, map, drop, []}
+use Rattle.std.proofs.Common.{◌≡◌, ◌+◌, ◌-◌, ◌*◌, ◌≤◌, length, map, drop, []}
 use denote.Param.Weighed.{most}
 use Rattle.pads_calc.specs.declared.term.Arm.{size-Arm}
 use Rattle.pads_calc.specs.declared.term.Case.{size-Case}
@@ -11,7 +11,7 @@ use Rattle.pads_calc.specs.Structs.{in_turn}
 use Rattle.pads_calc.specs.Wrappers.{scan, scan_from}
 use Rattle.pads_calc.proofs.Elements.{Kept}
 use Rattle.pads_calc.proofs.Runs.{Follows, Extends}
-use Rattle.pads_walk.specs.Reads.{calls, reads, reads_part, reads_arm, reads_seq}
+use Rattle.pads_walk.specs.Reads.{reads, reads_part, reads_arm, reads_seq}
 use Rattle.pads_walk.proofs.Weights.{weight}
 use Rattle.pads_walk.proofs.reader.Reader.+reader.Given as goal
 

@@ -1,0 +1,55 @@
+ghost use Rattle.pads_calc.specs.declared.term.Term.TheVariants as term_of;
+ghost use Rattle.std.specs.Prelude.{◌≡◌, ◌≤◌, drop, length, IfSome};
+ghost use Rattle.pads_calc.specs.Places.{EndsWithin};
+ghost use Rattle.pads_walk.specs.Literals.{IsLiteral, IsFound};
+
+use memchr::memmem;
+use pads_calc::{Reading, Record, Term};
+use pads_value::Cause;
+use std::alloc::Global;
+
+/// The literal that a term is, whether its value is kept or not. What isn't told to be a literal can be one
+/// all the same.
+pub(crate) fn sought(term: &Term) -> Option<&[u8]>
+    ensures literal { IfSome result (λ literal. IsLiteral term.now literal.now) }
+{
+    match term {
+        Term::Lit(literal) => Some(literal.as_slice()),
+        Term::Absorb(inner) => plain(inner.get()),
+        _ => None,
+    }
+}
+
+/// The literal that a term is, where its value is kept.
+fn plain(term: &Term) -> Option<&[u8]>
+    ensures literal { IfSome result (λ literal. term.now ≡ term_of.Lit literal.now) }
+{
+    match term {
+        Term::Lit(literal) => Some(literal.as_slice()),
+        _ => None,
+    }
+}
+
+/// The bytes from a place on.
+fn rest<'a>(from: &Record<'a>, place: u64) -> &'a [u8]
+    requires within { place ≤ length from.now.bytes.now }
+    ensures rest { result.now ≡ drop place from.now.bytes.now }
+{
+    &from.bytes[place as usize..]
+}
+
+/// A literal at the first place from here to the record's end where its bytes stand.
+pub(crate) fn find(alloc: Global, from: &Record, literal: &[u8], place: u64) -> Reading
+    requires within { place ≤ length from.now.bytes.now }
+    ensures found { IsFound from.now literal.now place result }
+    ensures within { EndsWithin from.now.bytes.now place result }
+{
+    match memmem::find(rest(from, place), literal) {
+        Some(skipped) => {
+            let at = place + skipped as u64;
+            from.literal(alloc, literal, at)
+                .found(from.origin, place, at)
+        }
+        None => Reading::fails(alloc, from.origin, Cause::MissingLiteral, place),
+    }
+}
