@@ -1,0 +1,16 @@
+//! The judging of expressions: their sorts and the least violation of the rules in them.
+//!
+//! [`judge`] computes what the rules say of an expression, without taking memory.
+#![tactic(auto)]
+
+mod forms;
+mod judgement;
+mod judging;
+mod members;
+mod scope;
+#[cfg(test)]
+mod tests;
+
+pub use judgement::Judgement;
+pub use judging::judge;
+pub use scope::Scope;
