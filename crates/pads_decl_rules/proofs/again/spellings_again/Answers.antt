@@ -1,0 +1,19 @@
+use Rattle.std.proofs.Common.{◌∙◌}
+use Rattle.pads_rules.specs.DeclRules.{same_spelling, spelling_of}
+use Rattle.pads_rules.specs.Faults.{breaks}
+use Rattle.pads_decl_rules.specs.Again.{spellings_again_told}
+use Rattle.pads_pieces.proofs.Steps.{none-lesser, again-end}
+use Rattle.pads_decl_rules.proofs.AgainSteps.{plain-step}
+use Rattle.pads_decl_rules.proofs.again.spellings_again.Goals as goal
+
+pub loop-number-init : goal.loop-number-init
+loop-number-init c = none-lesser _
+
+pub loop-number-preserved : goal.loop-number-preserved
+loop-number-preserved c =
+    rw (c.lesser-best.ensures.least, c.fault_if.ensures.least, c.is_spelling-again.ensures.any, c.spelling_place.ensures.place)
+    (plain-step same_spelling (λ label. breaks 15 (spelling_of label).1) c.args.labels.now c.loop-number.number c.index-labels-number.result c.loop-number.best c.loop-number-test.true c.index-labels-number.is ∙ c.loop-number.invariant)
+
+pub returns : goal.returns
+unfolding spellings_again_told
+returns c = record { told = again-end same_spelling (λ label. breaks 15 (spelling_of label).1) c.args.labels.now c.loop-number.number c.loop-number.best _ c.loop-number-test.false c.loop-number.invariant }

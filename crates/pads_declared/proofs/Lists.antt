@@ -1,0 +1,32 @@
+-- Steps of loops over the parts of a tree.
+use Rattle.std.proofs.Common.{◌≡◌, ◌∙◌, sym, ap, ℕ, ◌+◌, ◌<◌, List, [], ◌∷◌, ◌++◌, length, take, drop, map, flat_map, get_or, append_assoc}
+use Rattle.std.proofs.lemmas.List.{take_more, map-append, append-nil, at_drop_more}
+use Rattle.std.proofs.lemmas.Simd.{map-map}
+use Rattle.std.proofs.lemmas.List.Concat.{flat_map-append}
+use Rattle.pads_ast.specs.declared.decl.Decl.{Decl}
+use Rattle.pads_ast.specs.declared.decl.Part.{Part}
+use Rattle.pads_rules.specs.declared.declared.Declared.{Declared}
+use Rattle.pads_rules.specs.declared.declared.Named.{Named}
+use Rattle.pads_rules.specs.Pieces.{names_after, names_after_all}
+use Rattle.pads_rules.specs.Resolving.{declare, declared_from, named}
+use Rattle.pads_rules.specs.Trees.{named_part}
+
+-- one element more
+pub taken : {X : Type 0} (xs : List X) (i : ℕ) (x : X) → i < length xs → x ≡ get_or xs i x → take (i + 1) xs ≡ take i xs ++ x ∷ []
+taken xs i x there is = take_more xs i x there ∙ ap (λ y. take i xs ++ y ∷ []) (sym is)
+
+pub names-more : (types : List Declared) (names : List Named) (parts : List Part) (i : ℕ) (p : Part) → i < length parts → p ≡ get_or parts i p →
+    names_after types (names_after_all types names (take i parts)) p ≡ names_after_all types names (take (i + 1) parts)
+names-more types names parts i p there is =
+    rw (taken parts i p there is, flat_map-append named_part (take i parts) (p ∷ []), append-nil (named_part p), map-append (named types) (flat_map named_part (take i parts)) (named_part p))
+    (append_assoc names (map (named types) (flat_map named_part (take i parts))) (map (named types) (named_part p)))
+
+pub declared-more : (env : List Declared) (decls : List Decl) (i : ℕ) (d : Decl) → i < length decls → d ≡ get_or decls i d →
+    declared_from (env ++ declare env d ∷ []) (drop (i + 1) decls) ≡ declared_from env (drop i decls)
+declared-more env decls i d there is =
+    ap (λ x. declared_from (env ++ declare env x ∷ []) (drop (i + 1) decls)) is ∙ sym (at_drop_more (declared_from env) decls i d there)
+
+pub map-taken : {X Y : Type 0} (f : X → Y) (xs : List X) (i : ℕ) (x : X) → i < length xs → x ≡ get_or xs i x → map f (take i xs) ++ f x ∷ [] ≡ map f (take (i + 1) xs)
+map-taken f xs i x there is = sym (ap (map f) (taken xs i x there is) ∙ map-append f (take i xs) (x ∷ []))
+
+pub ruleset lists = (map-append, map-map, map-taken)

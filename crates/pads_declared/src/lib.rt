@@ -1,0 +1,23 @@
+//! The declared types of a description: what its type names mean, and what each declaration declares.
+//!
+//! [`declared`] gives the declared types in order, by the definitions of the rules. The other calls are the
+//! steps on the way, and what the rules ask of trees and types.
+#![tactic(auto)]
+
+mod copies;
+mod environment;
+mod name_set;
+mod records;
+#[cfg(test)]
+mod tests;
+mod trees;
+mod types;
+
+pub use copies::{add_branch, add_part, add_parts, branch_names, param_names};
+pub use environment::{declare, declared};
+pub use name_set::NameSet;
+pub use records::{is_precord, is_precord_type, is_psource, is_record_list, is_record_list_type};
+pub use trees::{branches_of, name_of, params_of};
+pub use types::{
+    Meaning, base_sort, declared_as, meaning_of, meaning_sort, plain_meaning, same_text, type_sort,
+};

@@ -1,0 +1,75 @@
+//! Record types and record lists.
+
+ghost use Rattle.std.specs.Prelude.{◌≡◌};
+ghost use Rattle.pads_rules.specs.Resolving as resolving;
+ghost use Rattle.pads_rules.specs.Trees as trees;
+ghost use Rattle.pads_declared.specs.Meanings.{meant, is_bare_array};
+
+use crate::trees::written;
+use crate::types::{Meaning, plain_meaning};
+use pads_ast::{Array, Decl, DeclBody, DeclMark};
+use pads_rules::Declared;
+
+/// Whether a declaration is marked `Precord`.
+pub fn is_precord(mark: Option<DeclMark>) -> bool
+    ensures marked { result ≡ trees.is_precord mark }
+{
+    match mark {
+        Some(DeclMark::Precord) => true,
+        Some(DeclMark::Psource) | None => false,
+    }
+}
+
+/// Whether a declaration is marked `Psource`.
+pub fn is_psource(mark: Option<DeclMark>) -> bool
+    ensures marked { result ≡ trees.is_psource mark }
+{
+    match mark {
+        Some(DeclMark::Psource) => true,
+        Some(DeclMark::Precord) | None => false,
+    }
+}
+
+/// Whether a name means a type marked `Precord`.
+pub fn is_precord_type(meaning: Meaning<'_>) -> bool
+    ensures record { result ≡ resolving.is_precord_type (meant meaning.entry) }
+{
+    match meaning {
+        Meaning::Earlier(declared) => is_precord(declared.mark),
+        Meaning::Base(_) | Meaning::Undeclared => false,
+    }
+}
+
+/// Whether a name means a record list.
+pub fn is_record_list_type(meaning: Meaning<'_>) -> bool
+    ensures list { result ≡ resolving.is_record_list_type (meant meaning.entry) }
+{
+    match meaning {
+        Meaning::Earlier(declared) => declared.record_list,
+        Meaning::Base(_) | Meaning::Undeclared => false,
+    }
+}
+
+/// Whether an array has nothing written to it but its type.
+fn is_bare(array: &Array) -> bool
+    ensures bare { result ≡ is_bare_array array.now }
+{
+    written(&array.params).is_empty()
+        && array.size.is_none()
+        && array.options.is_empty()
+        && array.condition.is_none()
+}
+
+/// Whether a declaration declares a record list.
+pub fn is_record_list(earlier: &[Declared], decl: &Decl) -> bool
+    ensures list { result ≡ resolving.is_record_list earlier.now decl.now }
+{
+    match &decl.body {
+        DeclBody::Array(array) => {
+            let bare = is_bare(array);
+            let records = is_precord_type(plain_meaning(earlier, &array.of));
+            !is_precord(decl.mark) && bare && records
+        }
+        _ => false,
+    }
+}
