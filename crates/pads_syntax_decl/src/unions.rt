@@ -1,0 +1,136 @@
+ghost use Rattle.std.specs.Prelude.{◌≡◌};
+ghost use Rattle.pads_grammar.specs.declared.kind.Kind.TheVariants as kind;
+ghost use Rattle.pads_grammar.specs.Grammar.{reads, begins, optional, many, apply};
+ghost use Rattle.pads_grammar.specs.Reads.{Reads};
+ghost use Rattle.pads_ast.specs.declared.decl.UnionBody.TheVariants as union_form;
+ghost use Rattle.pads_syntax_decl.specs.Types.{branch};
+ghost use Rattle.pads_syntax_decl.specs.Parts.{case_key, case_rule, default_case, switch_value, switch};
+ghost use Rattle.pads_syntax_decl.specs.Declarations.{union_body, union_decl};
+
+use crate::expressions::expression;
+use crate::literals::constant;
+use crate::structure::heading;
+use crate::types::branch;
+use pads_ast::{Branch, Case, Const, Expr, Switch, Union, UnionBody};
+use pads_grammar::{Cursor, Kind, Reading};
+use pads_value::Items;
+use std::alloc::Global;
+
+/// The constant of a case.
+fn case_key(alloc: Global, cursor: &mut Cursor<'_>) -> Reading<Const>
+    ensures reads { Reads (reads case_key cursor.old) result cursor.new }
+{
+    let _keyword = cursor.mark(Kind::Pcase)?;
+    let key = constant(alloc, cursor)?;
+    let _colon = cursor.mark(Kind::Colon)?;
+    Ok(key)
+}
+
+#[tactic(auto, unfolding(crate::specs::Parts::case_rule))]
+fn case_rule(alloc: Global, cursor: &mut Cursor<'_>) -> Reading<Case>
+    ensures reads { Reads (reads case_rule cursor.old) result cursor.new }
+{
+    let key = case_key(alloc, cursor)?;
+    let branch = branch(alloc, cursor)?;
+    Ok(Case { key, branch })
+}
+
+/// Any number of cases.
+#[tactic(auto, using(crate::proofs::DeclLoops::case_loop))]
+fn cases(alloc: Global, cursor: &mut Cursor<'_>) -> Reading<Items<Case>>
+    ensures reads { Reads (reads (many case_rule) cursor.old) result cursor.new }
+{
+    let mut cases = Items::new(alloc);
+    'cases: while begins_case(cursor.peek()) {
+        cases.push(case_rule(alloc, cursor)?)?;
+    }
+    Ok(cases)
+}
+
+/// Whether a token of that kind begins a case.
+#[tactic(auto, unfolding(crate::specs::Parts::case_rule))]
+fn begins_case(kind: Kind) -> bool
+    ensures begins { result ≡ begins case_rule kind }
+{
+    Kind::Pcase.is(kind)
+}
+
+/// The case of every other value, where it is written.
+fn default_case(alloc: Global, cursor: &mut Cursor<'_>) -> Reading<Option<Branch>>
+    ensures reads { Reads (reads (optional default_case) cursor.old) result cursor.new }
+{
+    if !Kind::Pdefault.is(cursor.peek()) {
+        return Ok(None);
+    }
+    let _keyword = cursor.mark(Kind::Pdefault)?;
+    let _colon = cursor.mark(Kind::Colon)?;
+    Ok(Some(branch(alloc, cursor)?))
+}
+
+/// What a switch chooses by, and what stands before its cases.
+fn switch_value(alloc: Global, cursor: &mut Cursor<'_>) -> Reading<Expr>
+    ensures reads { Reads (reads switch_value cursor.old) result cursor.new }
+{
+    let _keyword = cursor.mark(Kind::Pswitch)?;
+    let _open = cursor.mark(Kind::OpenParen)?;
+    let value = expression(alloc, cursor)?;
+    let _close = cursor.mark(Kind::CloseParen)?;
+    let _brace = cursor.mark(Kind::OpenBrace)?;
+    Ok(value)
+}
+
+#[tactic(auto, unfolding(crate::specs::Parts::switch))]
+fn switch(alloc: Global, cursor: &mut Cursor<'_>) -> Reading<Switch>
+    ensures reads { Reads (reads switch cursor.old) result cursor.new }
+{
+    let value = switch_value(alloc, cursor)?;
+    let cases = cases(alloc, cursor)?;
+    let default = default_case(alloc, cursor)?;
+    let _close = cursor.mark(Kind::CloseBrace)?;
+    Ok(Switch {
+        value,
+        cases,
+        default,
+    })
+}
+
+/// Whether a token of that kind begins a branch.
+#[tactic(auto, using(crate::proofs::Firsts::begins_branch))]
+fn begins_branch(kind: Kind) -> bool
+    ensures begins { result ≡ begins branch kind }
+{
+    Kind::Popt.is(kind) || Kind::Name.is(kind)
+}
+
+/// Any number of branches.
+#[tactic(auto, using(crate::proofs::DeclLoops::branch_loop))]
+fn branches(alloc: Global, cursor: &mut Cursor<'_>) -> Reading<Items<Branch>>
+    ensures reads { Reads (reads (many branch) cursor.old) result cursor.new }
+{
+    let mut branches = Items::new(alloc);
+    'branches: while begins_branch(cursor.peek()) {
+        branches.push(branch(alloc, cursor)?)?;
+    }
+    Ok(branches)
+}
+
+#[tactic(auto, using(crate::proofs::Firsts::firsts), unfolding(crate::specs::Declarations::union_body))]
+fn union_body(alloc: Global, cursor: &mut Cursor<'_>) -> Reading<UnionBody>
+    ensures reads { Reads (reads union_body cursor.old) result cursor.new }
+{
+    if Kind::Pswitch.is(cursor.peek()) {
+        Ok(UnionBody::Switch(switch(alloc, cursor)?))
+    } else {
+        Ok(UnionBody::Branches(branches(alloc, cursor)?))
+    }
+}
+
+#[tactic(auto, unfolding(crate::specs::Declarations::union_decl))]
+pub fn union_decl(alloc: Global, cursor: &mut Cursor<'_>) -> Reading<Union>
+    ensures reads { Reads (reads union_decl cursor.old) result cursor.new }
+{
+    let (name, params) = heading(alloc, cursor, Kind::Punion)?;
+    let body = union_body(alloc, cursor)?;
+    let _close = cursor.mark(Kind::CloseBrace)?;
+    Ok(Union { name, params, body })
+}
