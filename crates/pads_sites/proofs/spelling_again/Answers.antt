@@ -1,0 +1,8 @@
+use Rattle.std.proofs.Common.{◌∙◌, sym, ap}
+use Rattle.pads_pieces.specs.Told.{stands}
+use Rattle.pads_decl_rules.specs.Again.{spellings_again_told}
+use Rattle.pads_sites.proofs.SiteLemmas.{told-spellings}
+use Rattle.pads_sites.proofs.spelling_again.Goals as goal
+
+pub returns : goal.returns
+returns c = record { told = c.spellings_again.ensures.told ∙ ap spellings_again_told c.labels_of.ensures.items ∙ sym (told-spellings (stands c.args.site.now)) }
