@@ -1,5 +1,6 @@
 -- What a reader that stops tells of the whole list of tokens, by the tokens that it leaves.
 use Rattle.std.proofs.Common.{◌≡◌, ℕ, ◌+◌, ◌-◌, ◌<◌, ◌≤◌, Bool, true, false, Ok, Err, [], ◌∷◌, ◌++◌, length, refl, sym, ap, subst, length-append, arith}
+use Rattle.pads_lex.specs.Answers.{EndsLast}
 use Rattle.pads_lex.specs.declared.token.Token.{Token}
 use Rattle.pads_lex.specs.declared.token.TokenKind.TheVariants as token_kind
 use Rattle.pads_grammar.specs.declared.kind.Kind.TheVariants as kind
@@ -17,6 +18,15 @@ pub record Ends (ts us : Tokens) (end : Token) : Type 0 where
   pub whole : ts ≡ us ++ end ∷ []
   pub last : end.kind ≡ token_kind.End
 
+-- The last token is that one.
+ends_last : (us : Tokens) (end : Token) → EndsLast (us ++ end ∷ []) → end.kind ≡ token_kind.End
+ends_last [] end h = h
+ends_last (t ∷ []) end h = h
+ends_last (t ∷ next ∷ us) end h = ends_last (next ∷ us) end h
+
+pub last_kind : (ts us : Tokens) (end : Token) → EndsLast ts → ts ≡ us ++ end ∷ [] → end.kind ≡ token_kind.End
+last_kind ts us end h e = ends_last us end (subst (λ (vs : Tokens). EndsLast vs) e h)
+
 count : (ts us : Tokens) (end : Token) → Ends ts us end → length ts ≡ length us + 1
 count ts us end h = rw h.whole (length-append us (end ∷ []))
 
@@ -25,13 +35,13 @@ module _ {A B : Type 0} (g : Grammar A) (make : A → Token → B) (d : Decides 
   found_left us left a e = go (subst (Told (reads g) (Derives g) us) e ((lawful g (is kind.End) d).told us))
     where
       go : Found (reads g) (Derives g) us a left → length left ≤ length us
-      go f = let n = ap length f.whole in omega (arith, length-append f.front left)
+      go f = let n : length us ≡ length (f.front ++ left) = ap length f.whole in omega (arith, length-append f.front left)
 
   met_left : (us left : Tokens) → reads g us ≡ Err left → length left ≤ length us
   met_left us left e = go (subst (Told (reads g) (Derives g) us) e ((lawful g (is kind.End) d).told us))
     where
       go : Fault (reads g) (Derives g) us left → length left ≤ length us
-      go f = let n = ap length f.whole in omega (arith, length-append f.front left)
+      go f = let n : length us ≡ length (f.front ++ left) = ap length f.whole in omega (arith, length-append f.front left)
 
   -- Fewer tokens are left than there are.
   pub fewer_found : (ts us : Tokens) (end : Token) (left : Tokens) (a : A) → Ends ts us end → reads g us ≡ Ok (a, left) → length left < length ts

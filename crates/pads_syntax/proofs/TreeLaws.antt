@@ -2,10 +2,8 @@
 use Rattle.std.proofs.Common.{◌≡◌, ℕ, ◌+◌, ◌-◌, ◌<◌, ◌≤◌, Ok, Err, [], ◌∷◌, ◌++◌, length, take, drop, ◌⊎◌, inl, inr, refl, sym, ◌∙◌, ap, subst, append_assoc, arith}
 use Rattle.std.proofs.lemmas.List.{take-append-drop, take-take}
 use Rattle.std.proofs.lemmas.Bool.{cases_lt}
-use Rattle.std.proofs.Math.Nat.{eq-or-lt_of_le}
 use Rattle.pads_lex.specs.Answers.{EndsLast}
 use Rattle.pads_lex.specs.declared.token.Token.{Token}
-use Rattle.pads_lex.specs.declared.token.TokenKind.TheVariants as token_kind
 use Rattle.pads_grammar.specs.declared.kind.Kind.TheVariants as kind
 use Rattle.pads_grammar.specs.Kinds.{Tokens, is, kind_of}
 use Rattle.pads_grammar.specs.Grammar.{Grammar, Outcome, Derives, reads, Decides}
@@ -19,25 +17,19 @@ append_nil : (us : Tokens) → us ++ [] ≡ us
 append_nil [] = refl
 append_nil (t ∷ us) = ap (λ vs. t ∷ vs) (append_nil us)
 
--- The list of tokens apart, where an end token stands last.
-pub record Apart (ts : Tokens) : Type 0 where
+-- The list of tokens in two, where an end token stands last.
+pub record Ended (ts : Tokens) : Type 0 where
   pub front : Tokens
   pub end : Token
   pub ends : Ends ts front end
 
-apart_more : (t : Token) (ts : Tokens) → Apart ts → Apart (t ∷ ts)
-apart_more t ts a = record { front = t ∷ a.front; end = a.end; ends = record { whole = ap (λ us. t ∷ us) a.ends.whole; last = a.ends.last } }
+ended_more : (t : Token) (ts : Tokens) → Ended ts → Ended (t ∷ ts)
+ended_more t ts a = record { front = t ∷ a.front; end = a.end; ends = record { whole = ap (λ us. t ∷ us) a.ends.whole; last = a.ends.last } }
 
-apart : (ts : Tokens) → EndsLast ts → Apart ts
-apart [] h = absurd h
-apart (t ∷ []) h = record { front = []; end = t; ends = record { whole = refl; last = h } }
-apart (t ∷ next ∷ ts) h = apart_more t (next ∷ ts) (apart (next ∷ ts) h)
-
--- The last token is that one.
-pub ends_last : (us : Tokens) (end : Token) → EndsLast (us ++ end ∷ []) → end.kind ≡ token_kind.End
-ends_last [] end h = h
-ends_last (t ∷ []) end h = h
-ends_last (t ∷ next ∷ us) end h = ends_last (next ∷ us) end h
+ended : (ts : Tokens) → EndsLast ts → Ended ts
+ended [] h = absurd h
+ended (t ∷ []) h = record { front = []; end = t; ends = record { whole = refl; last = h } }
+ended (t ∷ next ∷ ts) h = ended_more t (next ∷ ts) (ended (next ∷ ts) h)
 
 module _ {A B : Type 0} (g : Grammar A) (make : A → Token → B) (d : Decides g (is kind.End)) where
   pub one : (ts : Tokens) (tree other : B) → Whole g make tree ts → Whole g make other ts → tree ≡ other
@@ -64,17 +56,13 @@ module _ {A B : Type 0} (g : Grammar A) (make : A → Token → B) (d : Decides 
   pub one_fault : (ts : Tokens) (m n : ℕ) → IsFirstFault g make ts m → IsFirstFault g make ts n → m ≡ n
   one_fault ts m n f k = go (cases_lt m n)
     where
-      equal : (m ≡ n) ⊎ (n < m) → m ≡ n
-      equal (inl e) = e
-      equal (inr l) = absurd (no_later ts n m l k f)
+      equal : n ≤ m → (n < m) ⊎ (m ≤ n) → m ≡ n
+      equal h (inl l) = absurd (no_later ts n m l k f)
+      equal h (inr l) = omega arith
 
       go : (m < n) ⊎ (n ≤ m) → m ≡ n
       go (inl l) = absurd (no_later ts m n l f k)
-      go (inr l) = equal (swap (eq-or-lt_of_le l))
-        where
-          swap : (n ≡ m) ⊎ (n < m) → (m ≡ n) ⊎ (n < m)
-          swap (inl e) = inl (sym e)
-          swap (inr l) = inr l
+      go (inr l) = equal l (cases_lt n m)
 
   pub not_both : (ts : Tokens) (tree : B) (at : ℕ) → Whole g make tree ts → IsFirstFault g make ts at → ⊥
   not_both ts tree at w f = no_tree g make d ts at tree f w
@@ -96,5 +84,5 @@ module _ {A B : Type 0} (g : Grammar A) (make : A → Token → B) (d : Decides 
 
   pub tree_or_fault : (ts : Tokens) → EndsLast ts → ((tree : B) × Whole g make tree ts) ⊎ ((at : ℕ) × IsFirstFault g make ts at)
   tree_or_fault ts h =
-      let a = apart ts h in
+      let a = ended ts h in
       subst (λ (us : Tokens). Either us) (sym a.ends.whole) (either a.front a.end (ap kind_of a.ends.last) (reads g a.front) refl)

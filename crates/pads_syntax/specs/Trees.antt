@@ -40,4 +40,4 @@ IsExprTreeFault ts at = IsFirstFault expression filter ts at
 
 -- There is a token of that number, from 0, and it begins at that byte.
 abbrev pub StandsAt : Tokens → ℕ → ℕ → Type 0
-StandsAt ts token at = option_map (λ t. t.begin) (slice_get ts token) ≡ Some at
+StandsAt ts token at = option_map (λ (t : Token). t.begin) (slice_get ts token) ≡ Some at
