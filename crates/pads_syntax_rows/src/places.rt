@@ -17,7 +17,7 @@ fn places_in_descriptions(rt: HostRuntime) -> Result<(), Fail> {
         ),
         (
             b"Parray a { t[n] : Psep(',') && Pterm(Peor) && Plast(elts[0].f); };",
-            "(Parray a@7 t@11[n@13] (Psep@18 ','@23) (Pterm@31 Peor@37) (Plast@46 (elts@52 [@56 0@57] .f@60))); end@66",
+            "(Parray a@7 t@11[n@13] (Psep@18 ','@23) (Pterm@31 Peor@37) (Plast@46 (elts@52 @56[0@57] .f@60))); end@66",
         ),
         (
             b"Penum e { A Pfrom(\"x\"), B }; Ptypedef t u : u v => { !v }; Popt Popt t o;",
@@ -37,7 +37,7 @@ fn places_in_filters(rt: HostRuntime) -> Result<(), Fail> {
             b"Pforall (i Pin [0..9] : Pis(x, y) || Plen(z) == 2)",
             "(Pforall@0 i@9 0@16 .. 9@19 : ((Pis@24 x@28 y@31) || ((Plen@37 z@42) == 2@48)))",
         ),
-        (b"(a).b[-1]", "((paren@0 a@1) .b@4 [@5 (-@6 1@7)])"),
+        (b"(a).b[-1]", "((paren@0 a@1) .b@4 @5[(-@6 1@7)])"),
         (
             b" 'c' != \"d\" && false",
             "(('c'@1 != \"d\"@8) && false@15)",

@@ -187,13 +187,18 @@ impl TreeText {
             match step {
                 Step::Name(name) => self.field(name)?,
                 Step::Index { at, index } => {
-                    self.mark(" [", *at)?;
+                    self.bracket(*at)?;
                     self.expr(index)?;
                     self.put("]")?;
                 }
             }
         }
         self.put(")")
+    }
+
+    fn bracket(&mut self, at: u64) -> Result<(), AllocError> {
+        self.mark(" ", at)?;
+        self.put("[")
     }
 
     fn field(&mut self, name: &Name) -> Result<(), AllocError> {
