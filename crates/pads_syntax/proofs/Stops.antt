@@ -18,6 +18,9 @@ pub record Ends (ts us : Tokens) (end : Token) : Type 0 where
   pub whole : ts ≡ us ++ end ∷ []
   pub last : end.kind ≡ token_kind.End
 
+pub ends : (ts us front : Tokens) (end : Token) → us ≡ front → ts ≡ front ++ end ∷ [] → end.kind ≡ token_kind.End → Ends ts us end
+ends ts us front end e w h = record { whole = rw e w; last = h }
+
 -- The last token is that one.
 ends_last : (us : Tokens) (end : Token) → EndsLast (us ++ end ∷ []) → end.kind ≡ token_kind.End
 ends_last [] end h = h

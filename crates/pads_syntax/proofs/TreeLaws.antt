@@ -6,7 +6,7 @@ use Rattle.pads_lex.specs.Answers.{EndsLast}
 use Rattle.pads_lex.specs.declared.token.Token.{Token}
 use Rattle.pads_grammar.specs.declared.kind.Kind.TheVariants as kind
 use Rattle.pads_grammar.specs.Kinds.{Tokens, is, kind_of}
-use Rattle.pads_grammar.specs.Grammar.{Grammar, Outcome, Derives, reads, Decides}
+use Rattle.pads_grammar.specs.Grammar.{Grammar, Outcome, reads, Decides}
 use Rattle.pads_grammar.specs.Whole.{Whole, Begins, IsFirstFault}
 use Rattle.pads_grammar.proofs.Grammars.{lawful}
 use Rattle.pads_grammar.proofs.WholeLaws.{whole_read, fault_met, one_tree, no_tree}

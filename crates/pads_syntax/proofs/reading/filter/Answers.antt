@@ -2,33 +2,33 @@ use Rattle.std.proofs.Common.{sym, ◌∙◌}
 use Rattle.pads_syntax_decl.specs.Types.{expression}
 use Rattle.pads_syntax.proofs.Trees.{filter_ok}
 use Rattle.pads_syntax.specs.Trees.{filter}
-use Rattle.pads_syntax.proofs.Stops.{Ends, fewer_found, fewer_met, completed, stopped_at, stopped_behind}
+use Rattle.pads_syntax.proofs.Stops.{ends, fewer_found, fewer_met, completed, stopped_at, stopped_behind}
 use Rattle.pads_syntax.proofs.reading.filter.Goals as goal
 
 pub fault_behind-requires : goal.fault_behind-requires
 fault_behind-requires c =
-    let h : Ends c.args.tokens.now c.new-cursor.result c.split_end.result.1.now = record { whole = rw c.new-cursor.ensures.left c.split_end.ensures.whole; last = c.split_end.ensures.last } in
-    record { left = fewer_found expression filter filter_ok c.args.tokens.now c.new-cursor.result c.split_end.result.1.now c.expression.new.cursor c.in-Ok-2.field-0 h c.in-Ok-2.ensures.reads }
+    let h = ends c.args.tokens.now c.new-cursor.result _ _ c.new-cursor.ensures.left c.split_end.ensures.whole c.split_end.ensures.last in
+    record { left = fewer_found expression filter filter_ok _ _ _ _ _ h c.in-Ok-2.ensures.reads }
 
 pub next_fault-requires : goal.next_fault-requires
 next_fault-requires c =
-    let h : Ends c.args.tokens.now c.new-cursor.result c.split_end.result.1.now = record { whole = rw c.new-cursor.ensures.left c.split_end.ensures.whole; last = c.split_end.ensures.last } in
-    record { left = fewer_met expression filter filter_ok c.args.tokens.now c.new-cursor.result c.split_end.result.1.now c.expression.new.cursor h (rw c.in-Err-Fault.field-0-is at c.in-Err-Fault.ensures.reads) }
+    let h = ends c.args.tokens.now c.new-cursor.result _ _ c.new-cursor.ensures.left c.split_end.ensures.whole c.split_end.ensures.last in
+    record { left = fewer_met expression filter filter_ok _ _ _ _ h (rw c.in-Err-Fault.field-0-is at c.in-Err-Fault.ensures.reads) }
 
 pub returns-in-Ok : goal.returns-in-Ok
 returns-in-Ok c =
-    let h : Ends c.args.tokens.now c.new-cursor.result c.split_end.result.1.now = record { whole = rw c.new-cursor.ensures.left c.split_end.ensures.whole; last = c.split_end.ensures.last } in
+    let h = ends c.args.tokens.now c.new-cursor.result _ _ c.new-cursor.ensures.left c.split_end.ensures.whole c.split_end.ensures.last in
     record {
-      answers = completed expression filter filter_ok c.args.tokens.now c.new-cursor.result c.split_end.result.1.now c.expression.new.cursor c.in-Ok.expr h c.in-Ok.ensures.reads
+      answers = completed expression filter filter_ok _ _ _ _ _ h c.in-Ok.ensures.reads
           (sym c.left.ensures.left ∙ c.if-left-eq0.true);
     }
 
 pub returns-in-Ok-2 : goal.returns-in-Ok-2
 returns-in-Ok-2 c =
-    let h : Ends c.args.tokens.now c.new-cursor.result c.split_end.result.1.now = record { whole = rw c.new-cursor.ensures.left c.split_end.ensures.whole; last = c.split_end.ensures.last } in
+    let h = ends c.args.tokens.now c.new-cursor.result _ _ c.new-cursor.ensures.left c.split_end.ensures.whole c.split_end.ensures.last in
     record {
       answers = (
-        stopped_behind expression filter filter_ok c.args.tokens.now c.new-cursor.result c.split_end.result.1.now c.expression.new.cursor c.in-Ok-2.field-0 c.fault_behind.result.token h c.in-Ok-2.ensures.reads
+        stopped_behind expression filter filter_ok _ _ _ _ _ _ h c.in-Ok-2.ensures.reads
             (λ n. c.if-left-eq0.false (c.left.ensures.left ∙ n)) c.fault_behind.ensures.token,
         c.fault_behind.ensures.place,
       );
@@ -36,10 +36,10 @@ returns-in-Ok-2 c =
 
 pub returns-in-Err-Fault : goal.returns-in-Err-Fault
 returns-in-Err-Fault c =
-    let h : Ends c.args.tokens.now c.new-cursor.result c.split_end.result.1.now = record { whole = rw c.new-cursor.ensures.left c.split_end.ensures.whole; last = c.split_end.ensures.last } in
+    let h = ends c.args.tokens.now c.new-cursor.result _ _ c.new-cursor.ensures.left c.split_end.ensures.whole c.split_end.ensures.last in
     record {
       answers = (
-        stopped_at expression filter filter_ok c.args.tokens.now c.new-cursor.result c.split_end.result.1.now c.expression.new.cursor c.next_fault.result.token h (rw c.in-Err-Fault.field-0-is at c.in-Err-Fault.ensures.reads) c.next_fault.ensures.token,
+        stopped_at expression filter filter_ok _ _ _ _ _ h (rw c.in-Err-Fault.field-0-is at c.in-Err-Fault.ensures.reads) c.next_fault.ensures.token,
         c.next_fault.ensures.place,
       );
     }
