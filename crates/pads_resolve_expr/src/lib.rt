@@ -1,0 +1,21 @@
+//! The resolving of expressions: what each name in them stands for, and their sorts.
+//!
+//! [`resolve_expr`] gives what an expression resolves to in a scope, by the definitions of `pads_resolution`.
+#![tactic(auto)]
+
+mod members;
+mod names;
+mod nodes;
+mod numbers;
+mod operators;
+mod resolving;
+mod scope;
+#[cfg(test)]
+mod tests;
+mod texts;
+
+pub use names::sort_known;
+pub use numbers::{declared_number, number_of, short};
+pub use resolving::resolve_expr;
+pub use scope::{Scope, Types};
+pub use texts::{points, text};

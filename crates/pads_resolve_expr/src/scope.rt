@@ -1,0 +1,60 @@
+ghost use Rattle.std.specs.Prelude.{◌≡◌, option_map, find};
+ghost use Rattle.pads_rules.specs.Texts as text_words;
+ghost use Rattle.pads_resolution.specs.Scopes.{known_in};
+ghost use Rattle.pads_resolve_expr.specs.Scopes.{names_in_scope};
+
+use pads_ast::Decl;
+use pads_resolution::{Known, Stands, Visible};
+use pads_rules::{Declared, ExprSort};
+
+/// The declarations of a description, and its declared types.
+#[derive(Clone, Copy)]
+pub struct Types<'a> {
+    pub decls: &'a [Decl],
+    pub env: &'a [Declared],
+}
+
+/// The names that an expression may use. A name that hides others lives on the stack.
+#[derive(Clone, Copy)]
+pub enum Scope<'s, 'a> {
+    /// Names, of which the first of a text counts.
+    Names(&'a [Visible]),
+    /// A name that hides others.
+    Hiding(&'a [u8], Stands, ExprSort, &'s Scope<'s, 'a>),
+}
+
+#[tactic(auto, unfolding(pads_rules::specs::Texts::same_text))]
+pub(crate) fn same_text(first: &[u8], second: &[u8]) -> bool
+    ensures same { result ≡ text_words.same_text first.now second.now }
+{
+    first == second
+}
+
+/// What is known of a name among some: the first of that text gives it.
+fn known_among(names: &[Visible], text: &[u8]) -> Option<Known>
+    ensures first { result ≡ known_in names.now text.now }
+{
+    let visible = names
+        .iter()
+        .find(|visible| same_text(visible.text.as_slice(), text))?;
+    Some(visible.known)
+}
+
+/// What is known of a name in a scope.
+pub(crate) fn known(scope: &Scope<'_, '_>, text: &[u8]) -> Option<Known>
+    ensures first { result ≡ known_in (names_in_scope scope.now) text.now }
+{
+    match scope {
+        Scope::Names(names) => known_among(names, text),
+        Scope::Hiding(name, stands, sort, outer) => {
+            if same_text(name, text) {
+                Some(Known {
+                    stands: *stands,
+                    sort: *sort,
+                })
+            } else {
+                known(*outer, text)
+            }
+        }
+    }
+}
