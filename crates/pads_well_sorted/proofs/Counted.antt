@@ -1,14 +1,11 @@
 -- 16 bits count what the term of each form has.
-use Rattle.std.proofs.Common.{◌≡◌, ◌∙◌, sym, ap, refl, ℕ, suc, Bool, true, ◌&&◌, nat_le, List, [], ◌∷◌, ◌++◌, map, length, Option, Some, None, option_map, slice_get}
-use Rattle.std.specs.Prelude.{⊤}
+use Rattle.std.proofs.Common.{◌≡◌, ◌∙◌, sym, ap, refl, ℕ, suc, true, ◌&&◌, nat_le, List, [], ◌∷◌, ◌++◌, map, length, Option, Some, None, option_map}
 use Rattle.std.specs.List.{list_all}
-use Rattle.std.proofs.lemmas.List.{length-map, map-append}
+use Rattle.std.proofs.lemmas.List.{length-map}
 use Rattle.pads_calc.specs.Counts.{few, most, counts_fit, option_counts, decl_counts, module_counts}
-use Rattle.pads_calc.specs.declared.decl.Decl.{Decl}
 use Rattle.pads_calc.specs.declared.term.Arm.{Arm}
 use Rattle.pads_calc.specs.declared.term.Case.{Case}
 use Rattle.pads_calc.specs.declared.term.Part.{Part}
-use Rattle.pads_calc.specs.declared.term.Result2.{Result2}
 use Rattle.pads_calc.specs.declared.term.Term.{Term}
 use Rattle.pads_calc.specs.declared.term.Term.TheVariants as term
 use Rattle.pads_calc.proofs.CountRolls.{counts-Unit, counts-Base, counts-Lit, counts-Eor, counts-Struct, counts-Alt, counts-Switch, counts-Guard, counts-Seq, counts-Call, counts-Compute, counts-Absorb, counts-Scan}
@@ -32,7 +29,6 @@ use Rattle.pads_resolved.specs.declared.decl.Part.TheVariants as part
 use Rattle.pads_resolved.specs.declared.decl.Role.{Role}
 use Rattle.pads_resolved.specs.declared.decl.Role.TheVariants as role
 use Rattle.pads_resolved.specs.declared.decl.Struct.{Struct}
-use Rattle.pads_resolved.specs.declared.decl.Switch.{Switch}
 use Rattle.pads_resolved.specs.declared.decl.Union.{Union}
 use Rattle.pads_resolved.specs.declared.decl.Union.TheVariants as union
 use Rattle.pads_resolved.specs.declared.expr.Expr.{Expr as ExprTree}
@@ -46,9 +42,9 @@ use Rattle.pads_trans.specs.Expressions.{expr_of}
 use Rattle.pads_trans.specs.Met.{names_of}
 use Rattle.pads_trans.specs.Modules.{module_of}
 use Rattle.pads_trans.specs.Names.{Name, at_sign, number_of}
-use Rattle.pads_trans.specs.Terms.{base_of, text_of, literal_of, form_of, label_of, enum_of, first, separator, terminator, separator_of, terminator_of, named_type, constrained, constrained_type, some_arm, none_arm, optional, bare_type, type_of, field_of, part_of, struct_of, arm_of, case_of, default_of, switch_of, union_of, seq_of, array_of, body_of, read_body, decl_of}
+use Rattle.pads_trans.specs.Terms.{base_of, text_of, literal_of, form_of, label_of, enum_of, first, separator, terminator, named_type, constrained, constrained_type, some_arm, none_arm, optional, bare_type, type_of, field_of, part_of, struct_of, arm_of, case_of, default_of, switch_of, union_of, seq_of, array_of, body_of, read_body, decl_of}
 use Rattle.pads_well_sorted.specs.Expressions.{Scope, if_read, if_default, union_branches}
-use Rattle.pads_well_sorted.specs.WellSorted.{IfThere, IsStruct, IsUnion, IsArray, IsEnum, IsTypedef, IsBody, IsDecl, WellSorted, params_scope}
+use Rattle.pads_well_sorted.specs.WellSorted.{IfThere, IsBody, IsDecl, WellSorted, params_scope}
 use Rattle.pads_well_sorted.proofs.Lists.{both-true, either-one, mapped-there, all-at}
 
 -- a list has as many items when it's mapped

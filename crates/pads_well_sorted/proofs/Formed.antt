@@ -1,11 +1,9 @@
 -- The module of a well-sorted description is well formed, and has fewer names than 16 bits count.
-use Rattle.std.proofs.Common.{◌≡◌, ◌∙◌, sym, ap, refl, ℕ, ◌<◌, Bool, true, ◌&&◌, nat_lt, List, map, length, Option, Some, None, slice_get, lt-ltb}
-use Rattle.std.specs.Prelude.{⊤}
+use Rattle.std.proofs.Common.{◌≡◌, ◌∙◌, sym, ap, refl, ℕ, ◌<◌, true, nat_lt, map, length, Option, Some, None, lt-ltb}
 use Rattle.std.specs.List.{list_all}
 use Rattle.std.proofs.lemmas.List.{length-map}
 use Rattle.pads_calc.specs.Counts.{module_counts}
 use Rattle.pads_calc.specs.Scopes.{arities_of, decl_in_scope, name_there, shape_there, module_in_scope}
-use Rattle.pads_calc.specs.declared.decl.Decl.{Decl}
 use Rattle.pads_code.specs.declared.Coding.{Coding}
 use Rattle.pads_resolved.specs.declared.decl.Description.{Description}
 use Rattle.pads_trans.specs.Met.{in_decl, names_of}

@@ -1,6 +1,5 @@
 -- Items of lists, one by one.
-use Rattle.std.proofs.Common.{◌≡◌, ◌∙◌, sym, ap, refl, subst, arith, ℕ, zero, suc, ◌+◌, ◌<◌, nat_lt, ltb-true, lt-ltb, length, Bool, true, false, ◌&&◌, ◌||◌, if◌then◌else◌, List, [], ◌∷◌, ◌++◌, map, Option, Some, None, option_map, slice_get}
-use Rattle.std.specs.Prelude.{⊤}
+use Rattle.std.proofs.Common.{◌≡◌, ◌∙◌, sym, ap, refl, subst, arith, ℕ, zero, suc, nat_lt, ltb-true, lt-ltb, length, Bool, true, false, ◌&&◌, ◌||◌, if◌then◌else◌, List, [], ◌∷◌, ◌++◌, map, Option, Some, None, option_map, slice_get}
 use Rattle.std.specs.List.{flat_map, list_all}
 use Rattle.pads_sorted.proofs.Made.{Each as AllOf}
 use Rattle.pads_sorted.proofs.Readings.{slice_get-map}

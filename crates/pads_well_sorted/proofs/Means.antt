@@ -1,6 +1,5 @@
 -- What the sorts of a description are in its module.
-use Rattle.std.proofs.Common.{◌≡◌, ◌∙◌, sym, ap, refl, subst, arith, ℕ, zero, suc, ◌+◌, ◌<◌, Bool, true, false, if◌then◌else◌, List, [], ◌∷◌, ◌++◌, map, Option, Some, None, option_map, option_and_then, unwrap_or, slice_get}
-use Rattle.std.specs.Prelude.{⊤}
+use Rattle.std.proofs.Common.{◌≡◌, ◌∙◌, sym, ap, refl, subst, arith, ℕ, zero, suc, ◌+◌, ◌<◌, Bool, true, false, if◌then◌else◌, List, [], ◌∷◌, ◌++◌, map, Option, Some, None, unwrap_or, slice_get}
 use Rattle.pads_calc.specs.declared.decl.Decl.{Decl}
 use Rattle.pads_calc.specs.declared.term.Arm.{Arm}
 use Rattle.pads_calc.specs.declared.term.Case.{Case}
@@ -23,12 +22,9 @@ use Rattle.pads_resolved.specs.declared.decl.Decl.{Decl as DeclTree}
 use Rattle.pads_resolved.specs.declared.decl.DeclBody.{DeclBody}
 use Rattle.pads_resolved.specs.declared.decl.DeclBody.TheVariants as body
 use Rattle.pads_resolved.specs.declared.decl.Label.{Label}
-use Rattle.pads_resolved.specs.declared.decl.Part.{Part as PartTree}
-use Rattle.pads_resolved.specs.declared.decl.Part.TheVariants as part
 use Rattle.pads_resolved.specs.declared.decl.Role.{Role}
 use Rattle.pads_resolved.specs.declared.decl.Role.TheVariants as role
 use Rattle.pads_resolved.specs.declared.decl.Struct.{Struct as StructTree}
-use Rattle.pads_resolved.specs.declared.decl.Switch.{Switch}
 use Rattle.pads_resolved.specs.declared.decl.Union.{Union}
 use Rattle.pads_resolved.specs.declared.decl.Union.TheVariants as union
 use Rattle.pads_resolved.specs.declared.expr.Expr.{Expr as ExprTree}
@@ -36,16 +32,16 @@ use Rattle.pads_resolved.specs.declared.types.Branch.{Branch}
 use Rattle.pads_resolved.specs.declared.types.«Type».{«Type» as Typed}
 use Rattle.pads_resolved.specs.declared.types.TypeName.{TypeName}
 use Rattle.pads_resolved.specs.declared.types.TypeName.TheVariants as type_name
-use Rattle.pads_sorted.specs.Sorts.{Sort as TermSort, Number, Text, Truth, Nothing, Labels, Struct, Choice, Array, base_sort, sort_at, sort_of, AreSorts}
+use Rattle.pads_sorted.specs.Sorts.{Sort as TermSort, Number, Text, Truth, Nothing, Struct, Choice, Array, base_sort, sort_at, sort_of, AreSorts}
 use Rattle.pads_sorted.proofs.Forms.{layer_sort, sort-out}
-use Rattle.pads_sorted.proofs.Layers.{out-Unit, out-Base, out-Struct, out-Alt, out-Switch, out-Guard, out-Seq, out-Call, out-Compute}
+use Rattle.pads_sorted.proofs.Layers.{out-Base, out-Struct, out-Alt, out-Switch, out-Guard, out-Seq, out-Call, out-Compute}
 use Rattle.pads_trans.specs.Expressions.{expr_of}
 use Rattle.pads_trans.specs.Names.{Name, at_sign, number_of}
-use Rattle.pads_trans.specs.Terms.{base_of, form_of, label_of, enum_of, named_type, constrained, constrained_type, some_arm, none_arm, optional, bare_type, type_of, field_of, part_of, struct_of, arm_of, case_of, default_of, switch_of, union_of, seq_of, array_of, body_of, read_body, decl_of}
-use Rattle.pads_well_sorted.specs.Expressions.{Scope, if_read, if_default, union_branches, body_at}
+use Rattle.pads_trans.specs.Terms.{base_of, label_of, enum_of, named_type, constrained, constrained_type, some_arm, none_arm, optional, bare_type, type_of, field_of, part_of, struct_of, arm_of, case_of, default_of, switch_of, union_of, seq_of, array_of, body_of, read_body, decl_of}
+use Rattle.pads_well_sorted.specs.Expressions.{Scope, if_read, if_default, union_branches}
 use Rattle.pads_well_sorted.specs.Sorts as sorts_of
 use Rattle.pads_well_sorted.specs.Sorts.{num, text, named_sort, type_sort, behind_popt, body_sort}
-use Rattle.pads_well_sorted.specs.WellSorted.{AreSorts as AreSortsOf, IsNamed, IsType, IsTypedef, IsBody, IsDecl, IfThere, params_scope}
+use Rattle.pads_well_sorted.specs.WellSorted.{AreSorts as AreSortsOf, IsNamed, IsType, IsBody, IsDecl, IfThere, params_scope}
 use Rattle.pads_well_sorted.proofs.Lists.{there-mapped}
 
 module _ (declared : List TermSort) where

@@ -1,7 +1,6 @@
 -- The expression that is made of a well-sorted one has the sort that its own sort is in the module.
-use Rattle.std.proofs.Common.{◌≡◌, ◌∙◌, sym, ap, refl, subst, ℕ, ℤ, Bool, true, false, cond, ◌==◌, nat_eq, List, [], ◌∷◌, ◌++◌, map, find, Option, Some, None, option_map, option_and_then, slice_get, append_assoc}
-use Rattle.std.specs.Prelude.{⊤}
-use lib.Pointwise.{pointwise, bytes_decides}
+use Rattle.std.proofs.Common.{◌≡◌, ◌∙◌, sym, ap, refl, subst, ℕ, ℤ, Bool, true, false, cond, ◌==◌, nat_eq, List, ◌∷◌, ◌++◌, map, find, Option, Some, option_map, option_and_then, slice_get, append_assoc}
+use lib.Pointwise.{pointwise}
 use Rattle.pads_code.specs.declared.Coding.{Coding}
 use Rattle.pads_expr.specs.declared.expr.BinOp.{BinOp}
 use Rattle.pads_expr.specs.declared.expr.Expr.{Expr as Made, Expr-F as Made-F}
@@ -23,7 +22,7 @@ use Rattle.pads_well_sorted.specs.Expressions.{Scope, sort_in_scope, plainly, pa
 use Rattle.pads_well_sorted.specs.Sorts.{num, text, truth}
 use Rattle.pads_well_sorted.specs.WellSorted.{AreSorts as AreSortsOf, Each, IsDecl}
 use Rattle.pads_well_sorted.proofs.Lists.{each-left, each-right}
-use Rattle.pads_well_sorted.proofs.Means.{FormMeans, Means}
+use Rattle.pads_well_sorted.proofs.Means.{Means}
 use Rattle.pads_well_sorted.proofs.MeantOperators.{Gives, plain-is, binary-gives, minus-gives, not-gives, length-gives, forall-gives}
 use Rattle.pads_well_sorted.proofs.MeantParts.{part-gives, branch-gives, choice-gives, element-gives}
 use Rattle.pads_well_sorted.proofs.Names.{Known, same-number}
@@ -109,7 +108,6 @@ module _ (declared : List TermSort) (names : List Name) where
 module _ (declared : List TermSort) (names : List Name) (ambient : Coding) (decls : List Decl) (sorts : List Sort)
     (are : AreSorts declared (map (decl_of names ambient) decls)) (are_of : AreSortsOf sorts decls)
     (each : (number : ℕ) (d : Decl) → slice_get decls number ≡ Some d → IsDecl decls sorts number d) where
-
   abbrev pub IsMeant : Expr → Type 0
   IsMeant e = (scope : Scope) (bound : made.Scope) (sort : Sort) → ScopeMeans declared names scope bound → Each (Known names) (in_expr e) → sort_in decls sorts e scope ≡ Some sort
       → Gives declared (made.sort_in declared (expr_of names e) bound) sort
@@ -220,12 +218,12 @@ module _ (declared : List TermSort) (names : List Name) (ambient : Coding) (decl
       let z = and_then-is _ (sort_in decls sorts inner ((variable, num) ∷ scope)) sort y.2 in
       let n = number_of names variable in
       let met : Each (Known names) (in_expr low ++ (in_expr high ++ in_expr inner)) =
-          subst (Each (Known names)) (append_assoc (in_expr low) (in_expr high) (in_expr inner)) met'.1 in
+      subst (Each (Known names)) (append_assoc (in_expr low) (in_expr high) (in_expr inner)) met'.1 in
       let later = each-right (Known names) (in_expr low) (in_expr high ++ in_expr inner) met in
       let a = one scope bound x.0 scoped (each-left (Known names) (in_expr low) (in_expr high ++ in_expr inner) met) x.1 in
       let b = other scope bound y.0 scoped (each-left (Known names) (in_expr high) (in_expr inner) later) y.1 in
       let c = law ((variable, num) ∷ scope) ((n, Number) ∷ bound) z.0 (scope-more declared names scope bound variable num Number met'.0 refl scoped)
-          (each-right (Known names) (in_expr high) (in_expr inner) later) z.1 in
+      (each-right (Known names) (in_expr high) (in_expr inner) later) z.1 in
       gives-by declared bound _ _ sort (sort-Forall declared bound n (expr_of names low) (expr_of names high) (expr_of names inner))
       (gives-then declared bound (λ a. option_and_then (λ b. option_and_then (made.forall_sort a b) (made.sort_in declared (expr_of names inner) ((n, Number) ∷ bound))) (made.sort_in declared (expr_of names high) bound))
       (made.sort_in declared (expr_of names low) bound) a.0 sort a.1

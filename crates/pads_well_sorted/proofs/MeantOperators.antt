@@ -1,16 +1,15 @@
 -- What operators give of sorts, in the module.
-use Rattle.std.proofs.Common.{◌≡◌, ◌∙◌, sym, ap, refl, subst, ℕ, zero, suc, List, [], ◌∷◌, Option, Some, None, option_and_then}
-use Rattle.pads_calc.specs.declared.term.Term.{Term}
+use Rattle.std.proofs.Common.{◌≡◌, ap, refl, subst, ℕ, zero, suc, List, Option, Some}
 use Rattle.pads_sorts.specs.declared.sort.Form.{Form}
 use Rattle.pads_sorts.specs.declared.sort.Form.TheVariants as form
 use Rattle.pads_sorts.specs.declared.sort.Sort.{Sort}
 use Rattle.pads_resolved.specs.declared.expr.BinaryOperator.{BinaryOperator}
 use Rattle.pads_resolved.specs.declared.expr.BinaryOperator.TheVariants as operator
 use Rattle.pads_sorted.specs.Expressions as made
-use Rattle.pads_sorted.specs.Sorts.{Sort as TermSort, Number, Text, Truth, Array, sort_at}
+use Rattle.pads_sorted.specs.Sorts.{Sort as TermSort, Number, Truth}
 use Rattle.pads_trans.specs.Expressions.{operator_of}
 use Rattle.pads_well_sorted.specs.Expressions.{of_plain, plainly, of_numbers, of_texts, of_truths, of_forms, binary_sort, number_alone, truth_alone, length_sort, forall_sort}
-use Rattle.pads_well_sorted.specs.Sorts.{num, text, truth}
+use Rattle.pads_well_sorted.specs.Sorts.{num, truth}
 use Rattle.pads_well_sorted.proofs.Means.{FormMeans, MeansBy, Means}
 use Rattle.pads_well_sorted.proofs.Trees.{and_then-is}
 

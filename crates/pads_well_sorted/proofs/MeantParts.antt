@@ -1,6 +1,5 @@
 -- What parts, branches, labels and elements are in the module.
-use Rattle.std.proofs.Common.{◌≡◌, ◌∙◌, sym, ap, refl, subst, ℕ, zero, suc, Bool, true, false, if◌then◌else◌, nat_lt, List, [], ◌∷◌, ◌++◌, map, length, Option, Some, None, option_map, option_and_then, slice_get}
-use Rattle.std.specs.Prelude.{⊤}
+use Rattle.std.proofs.Common.{◌≡◌, ◌∙◌, sym, ap, refl, subst, ℕ, zero, suc, Bool, true, false, if◌then◌else◌, nat_lt, List, [], ◌∷◌, map, length, Option, Some, None, option_map, slice_get}
 use Rattle.std.proofs.lemmas.List.{length-map}
 use Rattle.pads_calc.specs.declared.term.Part.{Part}
 use Rattle.pads_calc.specs.declared.term.Term.{Term, Term-F}
@@ -21,15 +20,15 @@ use Rattle.pads_resolved.specs.declared.decl.Role.{Role}
 use Rattle.pads_resolved.specs.declared.decl.Role.TheVariants as role
 use Rattle.pads_resolved.specs.declared.types.Branch.{Branch}
 use Rattle.pads_sorted.specs.Expressions as made
-use Rattle.pads_sorted.specs.Sorts.{Sort as TermSort, Number, Truth, Labels, Struct, Choice, Array, sort_at, sort_of, AreSorts}
+use Rattle.pads_sorted.specs.Sorts.{Sort as TermSort, Number, Truth, Choice, sort_at, sort_of, AreSorts}
 use Rattle.pads_sorted.proofs.Forms.{layer_sort}
 use Rattle.pads_trans.specs.Expressions.{expr_of}
 use Rattle.pads_trans.specs.Names.{Name}
-use Rattle.pads_trans.specs.Terms.{form_of, label_of, type_of, field_of, part_of, struct_of, union_of, array_of, body_of, decl_of}
+use Rattle.pads_trans.specs.Terms.{form_of, label_of, type_of, field_of, part_of, body_of, decl_of}
 use Rattle.pads_well_sorted.specs.Expressions as sorting
 use Rattle.pads_well_sorted.specs.Expressions.{Scope, plainly, number_alone, if_read, body_at, union_branches, value_of, part_sort, branch_of, union_branch, branch_by, branch_sort, optional_branch, plain_choice, choice_by, choice_sort, element_of, of_elements, element_sort}
 use Rattle.pads_well_sorted.specs.Sorts.{truth, computed_sort, type_sort}
-use Rattle.pads_well_sorted.specs.WellSorted.{AreSorts as AreSortsOf, Each, IsBranch, IsPart, behind, AreParts, IsBody, IsDecl, params_scope}
+use Rattle.pads_well_sorted.specs.WellSorted.{AreSorts as AreSortsOf, IsBranch, IsPart, behind, AreParts, IsBody, IsDecl, params_scope}
 use Rattle.pads_well_sorted.proofs.Lists.{some-map, there-mapped, each-there, below-there}
 use Rattle.pads_well_sorted.proofs.Means.{FormMeans, MeansBy, Means, compute-sort, field-sort, struct-sort, union-sort, array-sort, enum-sort, read-sort, read-body, any-type-means}
 use Rattle.pads_well_sorted.proofs.MeantOperators.{Gives, plain-is, number-is}
@@ -47,7 +46,6 @@ if-true false sort is = cc
 module _ (declared : List TermSort) (names : List Name) (ambient : Coding) (decls : List Decl) (sorts : List Sort)
     (are : AreSorts declared (map (decl_of names ambient) decls)) (are_of : AreSortsOf sorts decls)
     (each : (number : ℕ) (d : Decl) → slice_get decls number ≡ Some d → IsDecl decls sorts number d) where
-
   abbrev Given : Option TermSort → Sort → Type 0
   Given = Gives declared
 
@@ -57,10 +55,11 @@ module _ (declared : List TermSort) (names : List Name) (ambient : Coding) (decl
       let x = and_then-is (λ (d : Decl). if_read d.role d.body) (slice_get decls n) inner is in
       let d = x.0 in
       let same = same-body d.role d.body inner x.2 in
-      let is_read : if_read d.role d.body ≡ Some d.body = x.2 ∙ ap (λ b. Some b) (sym same) in
-      (read-sort declared names ambient decls sorts are are_of each n d x.1 is_read ∙ ap (λ b. sort_of declared (body_of names ambient b)) same,
-      params_scope d.params [],
-      subst (IsBody decls sorts n (params_scope d.params [])) same (read-body declared names ambient decls sorts are are_of each n d x.1 is_read))
+      let is_read : if_read d.role d.body ≡ Some d.body = x.2 ∙ ap (λ b. Some b) (sym same) in (
+        read-sort declared names ambient decls sorts are are_of each n d x.1 is_read ∙ ap (λ b. sort_of declared (body_of names ambient b)) same,
+        params_scope d.params [],
+        subst (IsBody decls sorts n (params_scope d.params [])) same (read-body declared names ambient decls sorts are are_of each n d x.1 is_read),
+      )
 
   -- parts of a struct
   part-there : (number : ℕ) (parts : List PartTree) (scope : Scope) (n : ℕ) (p : PartTree) → AreParts decls sorts number scope parts → slice_get parts n ≡ Some p
@@ -96,11 +95,12 @@ module _ (declared : List TermSort) (names : List Name) (ambient : Coding) (decl
   struct-gives k n t sort (body.Struct s) means there is =
       let b = body-there k (body.Struct s) there in
       let x = and_then-is (value_of decls sorts) (slice_get s.parts n) sort is in
-      let here = part-there k s.parts b.1 n x.0 (b.2).1 x.1 in
-      (sort_of declared (part_of names ambient x.0).term,
-      ap (made.part_sort declared n) (means ∙ b.0 ∙ struct-sort declared names ambient s)
-      ∙ ap (option_map (λ (p : Part). sort_of declared p.term)) (there-mapped (part_of names ambient) s.parts n x.0 x.1),
-      value-means k here.0 x.0 sort here.1 x.2)
+      let here = part-there k s.parts b.1 n x.0 (b.2).1 x.1 in (
+        sort_of declared (part_of names ambient x.0).term,
+        ap (made.part_sort declared n) (means ∙ b.0 ∙ struct-sort declared names ambient s)
+            ∙ ap (option_map (λ (p : Part). sort_of declared p.term)) (there-mapped (part_of names ambient) s.parts n x.0 x.1),
+        value-means k here.0 x.0 sort here.1 x.2,
+      )
   struct-gives k n t sort _ means there is = cc
 
   pub part-gives : (n : ℕ) (f : Form) (t : TermSort) (sort : Sort) → FormMeans declared f t → part_sort decls sorts n f ≡ Some sort → Given (made.part_sort declared n t) sort
@@ -115,11 +115,12 @@ module _ (declared : List TermSort) (names : List Name) (ambient : Coding) (decl
   union-gives k n t sort (body.Union u) means there is =
       let b = body-there k (body.Union u) there in
       let x = some-map (λ (f : Branch). type_sort sorts f.of) (slice_get (union_branches u) n) sort is in
-      let here = each-there (IsBranch decls sorts k b.1) (union_branches u) n x.0 (b.2).2 x.1 in
-      (sort_of declared (field_of names ambient x.0),
-      ap (made.branch_sort declared n) (means ∙ b.0 ∙ union-sort declared names ambient u)
-      ∙ ap (option_map (sort_of declared)) (there-mapped (field_of names ambient) (union_branches u) n x.0 x.1),
-      subst (λ s. Means declared s (sort_of declared (field_of names ambient x.0))) x.2 (field-means k b.1 x.0 here))
+      let here = each-there (IsBranch decls sorts k b.1) (union_branches u) n x.0 (b.2).2 x.1 in (
+        sort_of declared (field_of names ambient x.0),
+        ap (made.branch_sort declared n) (means ∙ b.0 ∙ union-sort declared names ambient u)
+            ∙ ap (option_map (sort_of declared)) (there-mapped (field_of names ambient) (union_branches u) n x.0 x.1),
+        subst (λ s. Means declared s (sort_of declared (field_of names ambient x.0))) x.2 (field-means k b.1 x.0 here),
+      )
   union-gives k n t sort _ means there is = cc
 
   plain-branch-gives : (n : ℕ) (f : Form) (t : TermSort) (sort : Sort) → FormMeans declared f t → union_branch decls sorts n f ≡ Some sort → Given (made.branch_sort declared n t) sort
@@ -195,10 +196,11 @@ module _ (declared : List TermSort) (names : List Name) (ambient : Coding) (decl
   array-gives k a sort (body.Array array) means there is =
       let b = body-there k (body.Array array) there in
       let same : type_sort sorts array.of ≡ sort = cc in
-      let elem = type_of names ambient array.of in
-      (sort_of declared elem,
-      ap (λ a. made.element_sort declared a Number) (means ∙ b.0 ∙ array-sort declared names ambient array),
-      subst (λ s. Means declared s (sort_of declared elem)) same (any-type-means declared names ambient decls sorts are are_of each k b.1 array.of (b.2).0))
+      let elem = type_of names ambient array.of in (
+        sort_of declared elem,
+        ap (λ a. made.element_sort declared a Number) (means ∙ b.0 ∙ array-sort declared names ambient array),
+        subst (λ s. Means declared s (sort_of declared elem)) same (any-type-means declared names ambient decls sorts are are_of each k b.1 array.of (b.2).0),
+      )
   array-gives k a sort _ means there is = cc
 
   of-elements-gives : (f : Form) (a : TermSort) (sort : Sort) → FormMeans declared f a → of_elements decls sorts f ≡ Some sort → Given (made.element_sort declared a Number) sort

@@ -1,16 +1,14 @@
 -- The numbers of the names that a description gives: each name has its own, below the number of names.
-use Rattle.std.proofs.Common.{◌≡◌, ◌∙◌, sym, ap, refl, subst, arith, ℕ, zero, suc, ◌+◌, ◌<◌, ◌≤◌, Bool, true, false, not, cond, ◌&&◌, ◌||◌, ◌==◌, nat_eq, nat_lt, List, [], ◌∷◌, ◌++◌, length, length-append, get_or, position, Option, Some, None, ltb-true, lt-ltb, ltb-false, le-ltb, eq-eqb, ne_eqb, eqb-true, true≢false}
-use Rattle.std.specs.Prelude.{⊤}
-use Rattle.std.specs.List.{flat_map, list_any, prefix_len, position_or_len}
+use Rattle.std.proofs.Common.{◌≡◌, ◌∙◌, sym, ap, refl, subst, arith, ℕ, suc, ◌+◌, Bool, true, false, not, cond, ◌||◌, ◌==◌, nat_eq, nat_lt, List, [], ◌∷◌, ◌++◌, length, get_or, Option, Some, None, ltb-true, lt-ltb, ltb-false, le-ltb, eq-eqb, ne_eqb, true≢false}
+use Rattle.std.specs.List.{flat_map, list_any, position_or_len}
 use Rattle.std.proofs.lemmas.List.Folds.{list_any-append}
 use Rattle.std.proofs.lemmas.List.Sums.{passes_at_first}
 use lib.Pointwise.{pointwise, bytes_decides}
-use Rattle.pads_resolved.specs.declared.decl.Decl.{Decl}
 use Rattle.pads_resolved.specs.declared.decl.Description.{Description}
 use Rattle.pads_trans.specs.Met.{in_decl, names_of}
 use Rattle.pads_trans.specs.Names.{Name, place_of, number_at, number_of, names_at, with_name, with_names}
 use Rattle.pads_well_sorted.specs.WellSorted.{Each}
-use Rattle.pads_well_sorted.proofs.Lists.{either-true, each-weaker}
+use Rattle.pads_well_sorted.proofs.Lists.{either-true}
 
 abbrev pub is_among : List Name → Name → Bool
 is_among names name = list_any (pointwise nat_eq name) names

@@ -1,12 +1,6 @@
 -- The term of each form of a well-sorted description is plain.
-use Rattle.std.proofs.Common.{◌≡◌, ◌∙◌, sym, ap, refl, subst, ℕ, true, List, [], ◌∷◌, ◌++◌, map, Option, Some, None, option_map, slice_get}
-use Rattle.std.specs.Prelude.{⊤}
-use Rattle.pads_bases.specs.Enums.{SpellingsDiffer}
+use Rattle.std.proofs.Common.{sym, subst, ℕ, List, [], ◌∷◌, ◌++◌, map, Option, Some, None, option_map}
 use Rattle.pads_calc.specs.declared.decl.Decl.{Decl}
-use Rattle.pads_calc.specs.declared.term.Arm.{Arm}
-use Rattle.pads_calc.specs.declared.term.Case.{Case}
-use Rattle.pads_calc.specs.declared.term.Part.{Part}
-use Rattle.pads_calc.specs.declared.term.Seq.{Seq}
 use Rattle.pads_calc.specs.declared.term.Term.{Term, Term-F, out-Term}
 use Rattle.pads_calc.specs.declared.term.Term.TheVariants as term
 use Rattle.pads_code.specs.declared.Coding.{Coding}
@@ -16,7 +10,6 @@ use Rattle.pads_sorts.specs.declared.sort.Sort.{Sort}
 use Rattle.pads_resolved.specs.declared.base_type.BaseType.{BaseType}
 use Rattle.pads_resolved.specs.declared.base_type.BaseType.TheVariants as base_type
 use Rattle.pads_resolved.specs.declared.decl.Array.{Array}
-use Rattle.pads_resolved.specs.declared.decl.ArrayOption.{ArrayOption}
 use Rattle.pads_resolved.specs.declared.decl.Case.{Case as CaseTree}
 use Rattle.pads_resolved.specs.declared.decl.Constraint.{Constraint}
 use Rattle.pads_resolved.specs.declared.decl.Decl.{Decl as DeclTree}
@@ -28,7 +21,6 @@ use Rattle.pads_resolved.specs.declared.decl.Part.TheVariants as part
 use Rattle.pads_resolved.specs.declared.decl.Role.{Role}
 use Rattle.pads_resolved.specs.declared.decl.Role.TheVariants as role
 use Rattle.pads_resolved.specs.declared.decl.Struct.{Struct}
-use Rattle.pads_resolved.specs.declared.decl.Switch.{Switch}
 use Rattle.pads_resolved.specs.declared.decl.Union.{Union}
 use Rattle.pads_resolved.specs.declared.decl.Union.TheVariants as union
 use Rattle.pads_resolved.specs.declared.expr.Expr.{Expr as ExprTree}
@@ -39,16 +31,16 @@ use Rattle.pads_resolved.specs.declared.types.«Type».{«Type» as Typed}
 use Rattle.pads_resolved.specs.declared.types.TypeName.{TypeName}
 use Rattle.pads_resolved.specs.declared.types.TypeName.TheVariants as type_name
 use Rattle.pads_sorted.specs.Plain.{IsPlain, Plain, HasPlainLabels, IsMark, IsAbsorb, IsSeparator}
-use Rattle.pads_sorted.specs.Terms.{terms_in, if_there}
+use Rattle.pads_sorted.specs.Terms.{if_there}
 use Rattle.pads_sorted.proofs.Layers.{out-Unit, out-Base, out-Lit, out-Eor, out-Struct, out-Alt, out-Switch, out-Guard, out-Seq, out-Call, out-Compute, out-Absorb, out-Scan}
 use Rattle.pads_sorted.proofs.Made.{Each as AllOf, plain-as}
 use Rattle.pads_trans.specs.Expressions.{expr_of}
 use Rattle.pads_trans.specs.Met.{names_of}
 use Rattle.pads_trans.specs.Modules.{module_of}
 use Rattle.pads_trans.specs.Names.{Name, at_sign, number_of}
-use Rattle.pads_trans.specs.Terms.{base_of, text_of, literal_of, form_of, label_of, enum_of, first, separator, terminator, separator_of, terminator_of, named_type, literal_part, option_of, constrained, constrained_type, some_arm, none_arm, optional, bare_type, type_of, field_of, part_of, struct_of, arm_of, case_of, default_of, switch_of, union_of, seq_of, array_of, body_of, read_body, decl_of}
-use Rattle.pads_well_sorted.specs.Expressions.{Scope, if_read, if_default, union_branches}
-use Rattle.pads_well_sorted.specs.WellSorted.{Each, IfThere, IsNamed, IsType, IsBranch, IsPart, behind, AreParts, IsStruct, IsUnion, IsArray, IsEnum, IsTypedef, IsBody, IsDecl, WellSorted, params_scope}
+use Rattle.pads_trans.specs.Terms.{base_of, text_of, literal_of, form_of, label_of, enum_of, first, separator, terminator, named_type, constrained, constrained_type, some_arm, none_arm, optional, bare_type, type_of, field_of, part_of, struct_of, arm_of, case_of, default_of, switch_of, union_of, seq_of, array_of, body_of, read_body, decl_of}
+use Rattle.pads_well_sorted.specs.Expressions.{Scope, if_read, if_default}
+use Rattle.pads_well_sorted.specs.WellSorted.{Each, IfThere, IsNamed, IsType, IsBranch, IsPart, behind, AreParts, IsStruct, IsUnion, IsArray, IsEnum, IsBody, IsDecl, WellSorted, params_scope}
 use Rattle.pads_well_sorted.proofs.Lists.{all-append, either-one, mapped-there}
 
 module _ (names : List Name) (ambient : Coding) (decls : List DeclTree) (sorts : List Sort) (number : ℕ) where

@@ -1,9 +1,7 @@
 -- The expression that is made of a well-sorted one speaks of names that are there and bound.
-use Rattle.std.proofs.Common.{◌≡◌, ◌∙◌, sym, ap, refl, subst, ℕ, Bool, true, false, if◌then◌else◌, cond, ◌&&◌, ◌||◌, ◌==◌, nat_eq, nat_lt, List, [], ◌∷◌, ◌++◌, map, length, find, Option, Some, None, option_map, option_and_then, eq-eqb, append_assoc}
-use Rattle.std.specs.Prelude.{⊤}
-use Rattle.std.specs.List.{list_all}
+use Rattle.std.proofs.Common.{◌≡◌, ◌∙◌, sym, ap, refl, subst, ℕ, Bool, true, false, if◌then◌else◌, cond, ◌&&◌, ◌||◌, ◌==◌, nat_eq, nat_lt, List, ◌∷◌, ◌++◌, length, find, Option, Some, None, option_map, eq-eqb, append_assoc}
 use lib.Pointwise.{pointwise, bytes_decides}
-use Rattle.pads_calc.specs.Scopes.{is_bound, expr_in_scope, exprs_in_scope, option_in_scope}
+use Rattle.pads_calc.specs.Scopes.{is_bound, expr_in_scope}
 use Rattle.pads_calc.proofs.ExprRolls.{scope-Num, scope-Text, scope-Truth, scope-Var, scope-Part, scope-Arm, scope-Elem, scope-IsArm, scope-Len, scope-Neg, scope-Not, scope-Bin, scope-Forall}
 use Rattle.pads_expr.specs.declared.expr.Expr.{Expr as Made}
 use Rattle.pads_expr.specs.declared.expr.Expr.TheVariants as made
@@ -16,9 +14,9 @@ use Rattle.pads_resolved.specs.declared.expr.Meaning.TheVariants as meaning
 use Rattle.pads_trans.specs.Expressions.{expr_of, expr_step as made_step, meaning_of, operator_of}
 use Rattle.pads_trans.specs.Met.{Met, in_expr, expr_met}
 use Rattle.pads_trans.specs.Names.{Name, at_sign, number_of}
-use Rattle.pads_well_sorted.specs.Expressions.{Scope, sort_in_scope, if_told, as_told, same_form, sort_in, expr_step, meaning_sort}
+use Rattle.pads_well_sorted.specs.Expressions.{Scope, sort_in_scope, as_told, same_form, sort_in, expr_step, meaning_sort}
 use Rattle.pads_well_sorted.specs.Sorts.{num}
-use Rattle.pads_well_sorted.specs.WellSorted.{Each, HaveSorts}
+use Rattle.pads_well_sorted.specs.WellSorted.{Each}
 use Rattle.pads_well_sorted.proofs.Lists.{each-left, each-right, both-true, either-true}
 use Rattle.pads_well_sorted.proofs.Names.{Known, number-below}
 use Rattle.pads_well_sorted.proofs.Trees.{Inside, all-layers, sort-roll, made-roll, met-roll, and_then-is}
@@ -115,7 +113,7 @@ module _ (names : List Name) where
         let count = length names in
         let n = number_of names variable in
         let met : Each (Known names) (in_expr low ++ (in_expr high ++ in_expr inner)) =
-            subst (Each (Known names)) (append_assoc (in_expr low) (in_expr high) (in_expr inner)) met'.1 in
+        subst (Each (Known names)) (append_assoc (in_expr low) (in_expr high) (in_expr inner)) met'.1 in
         let later = each-right (Known names) (in_expr low) (in_expr high ++ in_expr inner) met in
         scope-Forall count n (expr_of names low) (expr_of names high) (expr_of names inner) bound
         ∙ both-true (nat_lt n count && expr_in_scope count (expr_of names low) bound && expr_in_scope count (expr_of names high) bound)

@@ -1,9 +1,8 @@
 -- The term of each form of a well-sorted description speaks of names, declarations and variables that are there.
-use Rattle.std.proofs.Common.{◌≡◌, ◌∙◌, sym, ap, refl, subst, ⊎_elim, ℕ, suc, ◌<◌, Bool, true, false, if◌then◌else◌, ◌&&◌, ◌||◌, nat_eq, nat_lt, List, [], ◌∷◌, ◌++◌, map, length, Option, Some, None, option_map, slice_get, eq-eqb, lt-ltb, append_assoc}
-use Rattle.std.specs.Prelude.{⊤}
+use Rattle.std.proofs.Common.{◌≡◌, ◌∙◌, sym, ap, refl, subst, ⊎_elim, ℕ, suc, Bool, true, false, if◌then◌else◌, ◌&&◌, ◌||◌, nat_eq, nat_lt, List, [], ◌∷◌, ◌++◌, map, length, Option, Some, None, option_map, slice_get, eq-eqb, append_assoc}
 use Rattle.std.specs.List.{flat_map, list_all, list_any}
 use Rattle.std.proofs.lemmas.List.{length-map}
-use Rattle.pads_calc.specs.Scopes.{is_bound, bind_name, name_there, in_scope, expr_in_scope, exprs_in_scope, option_in_scope, option_term_in, has_arity, arm_in, case_in, binding_of, parts_in, seq_in, arities_of, decl_in_scope, shape_there, module_in_scope}
+use Rattle.pads_calc.specs.Scopes.{is_bound, bind_name, name_there, in_scope, expr_in_scope, exprs_in_scope, option_in_scope, option_term_in, has_arity, arm_in, case_in, binding_of, parts_in, arities_of, decl_in_scope}
 use Rattle.pads_calc.specs.declared.decl.Decl.{Decl}
 use Rattle.pads_calc.specs.declared.term.Arm.{Arm}
 use Rattle.pads_calc.specs.declared.term.Case.{Case}
@@ -25,15 +24,12 @@ use Rattle.pads_resolved.specs.declared.decl.Constraint.{Constraint}
 use Rattle.pads_resolved.specs.declared.decl.Decl.{Decl as DeclTree}
 use Rattle.pads_resolved.specs.declared.decl.DeclBody.{DeclBody}
 use Rattle.pads_resolved.specs.declared.decl.DeclBody.TheVariants as body
-use Rattle.pads_resolved.specs.declared.decl.Description.{Description}
-use Rattle.pads_resolved.specs.declared.decl.Label.{Label}
 use Rattle.pads_resolved.specs.declared.decl.Part.{Part as PartTree}
 use Rattle.pads_resolved.specs.declared.decl.Part.TheVariants as part
 use Rattle.pads_resolved.specs.declared.decl.Role.{Role}
 use Rattle.pads_resolved.specs.declared.decl.Role.TheVariants as role
 use Rattle.pads_resolved.specs.declared.decl.Struct.{Struct}
 use Rattle.pads_resolved.specs.declared.decl.Switch.{Switch}
-use Rattle.pads_resolved.specs.declared.decl.Typedef.{Typedef}
 use Rattle.pads_resolved.specs.declared.decl.Union.{Union}
 use Rattle.pads_resolved.specs.declared.decl.Union.TheVariants as union
 use Rattle.pads_resolved.specs.declared.expr.Expr.{Expr as ExprTree}
@@ -47,11 +43,11 @@ use Rattle.pads_resolved.specs.declared.types.TypeName.TheVariants as type_name
 use Rattle.pads_trans.specs.Expressions.{expr_of}
 use Rattle.pads_trans.specs.Met.{Met, in_expr, in_option, in_type, in_branch, in_part, in_where, in_struct, in_case, in_default, in_switch, in_union, in_array_option, in_array, in_constraint, in_typedef, in_body, in_read_body, in_decl}
 use Rattle.pads_trans.specs.Names.{Name, at_sign, some_name, none_name, number_of}
-use Rattle.pads_trans.specs.Terms.{base_of, text_of, literal_of, form_of, label_of, enum_of, first, separator, terminator, last, separator_of, terminator_of, named_type, option_of, constrained, constrained_type, some_arm, none_arm, optional, bare_type, type_of, field_of, part_of, struct_of, arm_of, case_of, default_of, switch_of, union_of, seq_of, array_of, body_of, read_body, decl_of}
-use Rattle.pads_well_sorted.specs.Expressions.{Scope, if_read, if_default, union_branches}
+use Rattle.pads_trans.specs.Terms.{base_of, text_of, literal_of, form_of, label_of, first, separator, terminator, last, named_type, option_of, constrained, constrained_type, some_arm, none_arm, optional, bare_type, type_of, field_of, part_of, struct_of, arm_of, case_of, default_of, switch_of, union_of, seq_of, array_of, body_of, read_body, decl_of}
+use Rattle.pads_well_sorted.specs.Expressions.{Scope, if_read, if_default}
 use Rattle.pads_well_sorted.specs.Sorts.{plain, num, computed_sort, type_sort}
-use Rattle.pads_well_sorted.specs.WellSorted.{Each, IfThere, Takes, HaveSorts, IsTruth, IsNumber, IsConstraint, IsNamed, IsType, IsBranch, IsPart, behind, AreParts, IsStruct, Chooses, IsChosen, IsUnion, IsOption, IsArray, IsTypedef, IsBody, IsDecl, WellSorted, params_scope, param_sorts}
-use Rattle.pads_well_sorted.proofs.Lists.{each-left, each-right, each-weaker, both-true, either-true, there-mapped, all-passes}
+use Rattle.pads_well_sorted.specs.WellSorted.{Each, IfThere, Takes, HaveSorts, IsTruth, IsNumber, IsConstraint, IsNamed, IsType, IsBranch, IsPart, behind, AreParts, IsStruct, Chooses, IsUnion, IsOption, IsArray, IsBody, IsDecl, params_scope, param_sorts}
+use Rattle.pads_well_sorted.proofs.Lists.{each-left, each-right, each-weaker, both-true, either-true, there-mapped}
 use Rattle.pads_well_sorted.proofs.Names.{Known, number-below}
 use Rattle.pads_well_sorted.proofs.Scoped.{Covers, covers-also, covers-more, scoped}
 
@@ -178,10 +174,11 @@ module _ (names : List Name) (ambient : Coding) (decls : List DeclTree) (sorts :
       → (nat_lt (number_of names f.name) count ≡ true) × Fits (field_of names ambient f) bound
   unfolding field_of in_branch
   field-scoped number scope bound f covers met h =
-      let named = each-right (Known names) (in_type f.of) (f.name ∷ in_option f.constraint) met in
-      (number-below names f.name named.0,
-      constrained-scoped (type_of names ambient f.of) f.name f.constraint scope bound (type_sort sorts f.of) covers named.0 named.1 h.1
-      (type-scoped number scope bound f.of covers (each-left (Known names) (in_type f.of) (f.name ∷ in_option f.constraint) met) h.0))
+      let named = each-right (Known names) (in_type f.of) (f.name ∷ in_option f.constraint) met in (
+        number-below names f.name named.0,
+        constrained-scoped (type_of names ambient f.of) f.name f.constraint scope bound (type_sort sorts f.of) covers named.0 named.1 h.1
+            (type-scoped number scope bound f.of covers (each-left (Known names) (in_type f.of) (f.name ∷ in_option f.constraint) met) h.0),
+      )
 
   literal-scoped : (l : Literal) (bound : List ℕ) → Fits (literal_of ambient l) bound
   literal-scoped (literal.Word points) bound = in-Lit count arities _ bound
@@ -193,10 +190,11 @@ module _ (names : List Name) (ambient : Coding) (decls : List DeclTree) (sorts :
   unfolding part_of in_part in_branch
   part-scoped number scope bound (part.Literal l) covers met h =
       (refl, in-Scan count arities (term.Absorb (literal_of ambient l)) bound ∙ in-Absorb count arities (literal_of ambient l) bound ∙ literal-scoped l bound, covers)
-  part-scoped number scope bound (part.Pcompute of name value) covers met h =
-      (number-below names name met.0,
-      in-Compute count arities (expr_of names value) (form_of of) bound ∙ scoped names decls sorts value scope bound (computed_sort of) covers met.1 h,
-      covers-more names scope bound name (computed_sort of) covers)
+  part-scoped number scope bound (part.Pcompute of name value) covers met h = (
+    number-below names name met.0,
+    in-Compute count arities (expr_of names value) (form_of of) bound ∙ scoped names decls sorts value scope bound (computed_sort of) covers met.1 h,
+    covers-more names scope bound name (computed_sort of) covers,
+  )
   part-scoped number scope bound (part.Field f) covers met h =
       let field = field-scoped number scope bound f covers met h in
       (field.0, field.1, covers-more names scope bound f.name (type_sort sorts f.of) covers)
@@ -208,9 +206,10 @@ module _ (names : List Name) (ambient : Coding) (decls : List DeclTree) (sorts :
   parts-scoped number scope bound (p ∷ parts) covers met h =
       let here = part-scoped number scope bound p covers (each-left (Known names) (in_part p) (flat_map in_part parts) met) h.0 in
       let later = parts-scoped number (behind decls sorts number p scope) (bind_name (part_of names ambient p).name bound) parts here.2
-          (each-right (Known names) (in_part p) (flat_map in_part parts) met) h.1 in
-      (both-true (name_there count (part_of names ambient p).name) _ here.0 later.0,
-      both-true (in_scope count arities (part_of names ambient p).term bound) _ here.1 later.1)
+      (each-right (Known names) (in_part p) (flat_map in_part parts) met) h.1 in (
+        both-true (name_there count (part_of names ambient p).name) _ here.0 later.0,
+        both-true (in_scope count arities (part_of names ambient p).term bound) _ here.1 later.1,
+      )
 
   struct-scoped : (number : ℕ) (scope : Scope) (bound : List ℕ) (s : Struct) → Covers names scope bound → AllKnown (in_struct s) → IsStruct decls sorts number scope s
       → Fits (struct_of names ambient s) bound
@@ -248,7 +247,7 @@ module _ (names : List Name) (ambient : Coding) (decls : List DeclTree) (sorts :
       both-true (nat_lt (number_of names f.name) count && in_scope count arities (field_of names ambient f) bound) true (case-scoped number scope bound f covers met h.0) refl
   cases-scoped number scope bound (c ∷ cases) default covers met h =
       let split : AllKnown (in_branch c.branch ++ (flat_map in_case cases ++ in_default default)) =
-          subst AllKnown (append_assoc (in_branch c.branch) (flat_map in_case cases) (in_default default)) met in
+      subst AllKnown (append_assoc (in_branch c.branch) (flat_map in_case cases) (in_default default)) met in
       both-true (nat_lt (number_of names (c.branch).name) count && in_scope count arities (field_of names ambient c.branch) bound) _
       (case-scoped number scope bound c.branch covers (each-left (Known names) (in_branch c.branch) (flat_map in_case cases ++ in_default default) split) h.0)
       (cases-scoped number scope bound cases default covers (each-right (Known names) (in_branch c.branch) (flat_map in_case cases ++ in_default default) split) h.1)
@@ -296,10 +295,11 @@ module _ (names : List Name) (ambient : Coding) (decls : List DeclTree) (sorts :
   options-scoped number scope bound [] covers met h = tt
   options-scoped number scope bound (option.Psep points ∷ options) covers met h = (tt, options-scoped number scope bound options covers met h.1)
   options-scoped number scope bound (option.Pterm l ∷ options) covers met h = (tt, options-scoped number scope bound options covers met h.1)
-  options-scoped number scope bound (option.Plast e ∷ options) covers met h =
-      (scoped names decls sorts e ((at_sign, plain (form.Array number)) ∷ scope) (number_of names at_sign ∷ bound) _
-      (covers-more names scope bound at_sign (plain (form.Array number)) covers) (each-left (Known names) (in_expr e) (flat_map in_array_option options) met) h.0,
-      options-scoped number scope bound options covers (each-right (Known names) (in_expr e) (flat_map in_array_option options) met) h.1)
+  options-scoped number scope bound (option.Plast e ∷ options) covers met h = (
+    scoped names decls sorts e ((at_sign, plain (form.Array number)) ∷ scope) (number_of names at_sign ∷ bound) _
+        (covers-more names scope bound at_sign (plain (form.Array number)) covers) (each-left (Known names) (in_expr e) (flat_map in_array_option options) met) h.0,
+    options-scoped number scope bound options covers (each-right (Known names) (in_expr e) (flat_map in_array_option options) met) h.1,
+  )
 
   last-scoped : (o : Option ExprTree) (bound : List ℕ) → IfThere (Lasts bound) o → option_in_scope count (option_of names o) bound ≡ true
   last-scoped None bound h = refl
@@ -371,10 +371,11 @@ module _ (names : List Name) (ambient : Coding) (decls : List DeclTree) (sorts :
 
   params-bound : (params : List Param) → Each (Bound (map name_number params)) params
   params-bound [] = tt
-  params-bound (param ∷ params) =
-      (ap (λ b. b || is_bound (name_number param) (map name_number params)) (eq-eqb (name_number param) (name_number param) refl),
-      each-weaker (Bound (map name_number params)) (Bound (name_number param ∷ map name_number params))
-      (λ other h. either-true (nat_eq (name_number other) (name_number param)) (is_bound (name_number other) (map name_number params)) h) params (params-bound params))
+  params-bound (param ∷ params) = (
+    ap (λ b. b || is_bound (name_number param) (map name_number params)) (eq-eqb (name_number param) (name_number param) refl),
+    each-weaker (Bound (map name_number params)) (Bound (name_number param ∷ map name_number params))
+        (λ other h. either-true (nat_eq (name_number other) (name_number param)) (is_bound (name_number other) (map name_number params)) h) params (params-bound params),
+  )
 
   params-cover : (params : List Param) (scope : Scope) (bound : List ℕ) → Covers names scope bound → Each (Bound bound) params → Covers names (params_scope params scope) bound
   params-cover [] scope bound covers all = covers

@@ -1,19 +1,14 @@
 -- The term of each form of a well-sorted description is well-sorted.
-use Rattle.std.proofs.Common.{◌≡◌, ◌∙◌, sym, ap, refl, subst, ⊎_elim, ℕ, Bool, true, false, if◌then◌else◌, ◌&&◌, ◌||◌, List, [], ◌∷◌, ◌++◌, map, Option, Some, None, option_map, slice_get, append_assoc}
-use Rattle.std.specs.Prelude.{⊤}
+use Rattle.std.proofs.Common.{◌≡◌, ◌∙◌, sym, ap, refl, subst, ⊎_elim, ℕ, Bool, true, if◌then◌else◌, ◌&&◌, ◌||◌, List, [], ◌∷◌, ◌++◌, map, Option, Some, None, option_map, slice_get, append_assoc}
 use Rattle.std.specs.List.{flat_map, list_all}
 use Rattle.pads_calc.specs.declared.decl.Decl.{Decl}
 use Rattle.pads_calc.specs.declared.term.Arm.{Arm}
 use Rattle.pads_calc.specs.declared.term.Case.{Case}
 use Rattle.pads_calc.specs.declared.term.Key.{Key}
-use Rattle.pads_calc.specs.declared.term.Part.{Part}
-use Rattle.pads_calc.specs.declared.term.Result2.{Result2}
-use Rattle.pads_calc.specs.declared.term.Seq.{Seq}
 use Rattle.pads_calc.specs.declared.term.Term.{Term, Term-F}
 use Rattle.pads_calc.specs.declared.term.Term.TheVariants as term
 use Rattle.pads_code.specs.declared.Coding.{Coding}
 use Rattle.pads_dispatch.specs.declared.base.Base.TheVariants as base
-use Rattle.pads_expr.specs.declared.expr.Expr.{Expr}
 use Rattle.pads_sorts.specs.declared.sort.Form.{Form}
 use Rattle.pads_sorts.specs.declared.sort.Form.TheVariants as form
 use Rattle.pads_sorts.specs.declared.sort.Sort.{Sort}
@@ -51,8 +46,8 @@ use Rattle.pads_resolved.specs.declared.types.TypeName.TheVariants as type_name
 use Rattle.pads_sorted.specs.Expressions as made
 use Rattle.pads_sorted.specs.Sorted as sorting
 use Rattle.pads_sorted.specs.Sorted.{Sorts, Sorted, AreSorted, IsSorted, IsSortedDecl, Standing, stands, bind_sort, parts_standing, has, takes, no_argument, one_number, one_text, is_argument, are_arguments, calls, computes, chooses, is_number_key, is_text_key, sorts_in, size_fits, last_fits, are_parameters}
-use Rattle.pads_sorted.specs.Sorts.{Sort as TermSort, Number, Text, Truth, Nothing, Struct, Array, is_number, is_text, is_truth, sort_at, sort_of, AreSorts}
-use Rattle.pads_sorted.specs.Terms.{terms_in, if_there}
+use Rattle.pads_sorted.specs.Sorts.{Sort as TermSort, Number, Text, Nothing, Array, is_number, is_text, is_truth, sort_at, sort_of, AreSorts}
+use Rattle.pads_sorted.specs.Terms.{if_there}
 use Rattle.pads_sorted.proofs.Layers.{out-Unit, out-Base, out-Lit, out-Eor, out-Struct, out-Alt, out-Switch, out-Guard, out-Seq, out-Call, out-Compute, out-Absorb, out-Scan}
 use Rattle.pads_sorted.proofs.Made.{Each as AllOf, sorted-as}
 use Rattle.pads_sorted.proofs.PlainSorts.{plain-sorts}
@@ -60,10 +55,10 @@ use Rattle.pads_trans.specs.Expressions.{expr_of}
 use Rattle.pads_trans.specs.Met.{Met, names_of, in_expr, in_option, in_type, in_branch, in_part, in_where, in_struct, in_case, in_default, in_switch, in_union, in_array_option, in_array, in_constraint, in_typedef, in_body, in_read_body, in_decl}
 use Rattle.pads_trans.specs.Modules.{module_of}
 use Rattle.pads_trans.specs.Names.{Name, at_sign, some_name, none_name, number_of}
-use Rattle.pads_trans.specs.Terms.{base_of, text_of, literal_of, form_of, key_of, label_of, enum_of, first, separator, terminator, last, separator_of, terminator_of, named_type, option_of, constrained, constrained_type, some_arm, none_arm, optional, bare_type, type_of, field_of, part_of, struct_of, arm_of, case_of, default_of, switch_of, union_of, seq_of, array_of, body_of, read_body, decl_of}
-use Rattle.pads_well_sorted.specs.Expressions.{Scope, if_read, if_default, union_branches}
+use Rattle.pads_trans.specs.Terms.{base_of, text_of, literal_of, form_of, key_of, label_of, first, separator, terminator, last, named_type, option_of, constrained, constrained_type, some_arm, none_arm, optional, bare_type, type_of, field_of, part_of, struct_of, arm_of, case_of, default_of, switch_of, union_of, seq_of, array_of, body_of, read_body, decl_of}
+use Rattle.pads_well_sorted.specs.Expressions.{Scope, if_read, if_default}
 use Rattle.pads_well_sorted.specs.Sorts.{plain, num, text, truth, computed_sort, type_sort}
-use Rattle.pads_well_sorted.specs.WellSorted.{AreSorts as AreSortsOf, Each, IfThere, IsNumberKey, IsTextKey, Takes, HasSort, HaveSorts, IsTruth, IsNumber, IsConstraint, IsNamed, IsType, IsBranch, IsPart, IsParam, behind, AreParts, IsStruct, Chooses, IsChosen, IsUnion, IsOption, IsArray, IsTypedef, IsBody, IsDecl, WellSorted, params_scope, param_sorts}
+use Rattle.pads_well_sorted.specs.WellSorted.{AreSorts as AreSortsOf, Each, IfThere, IsNumberKey, IsTextKey, Takes, HasSort, HaveSorts, IsTruth, IsNumber, IsConstraint, IsNamed, IsType, IsBranch, IsPart, IsParam, behind, AreParts, IsStruct, Chooses, IsUnion, IsOption, IsArray, IsBody, IsDecl, WellSorted, params_scope, param_sorts}
 use Rattle.pads_well_sorted.proofs.Lists.{all-append, each-left, each-right, both-true, either-true, either-one, there-mapped, mapped-there, each-flat}
 use Rattle.pads_well_sorted.proofs.Means.{Means, sort-by, struct-sort, array-sort, read-sort, any-type-means}
 use Rattle.pads_well_sorted.proofs.Meant.{ScopeMeans, scope-more, meant}
@@ -106,7 +101,6 @@ module _ (declared : List TermSort) where
 module _ (declared : List TermSort) (names : List Name) (ambient : Coding) (decls : List DeclTree) (sorts : List Sort)
     (are : AreSorts declared (map (decl_of names ambient) decls)) (are_of : AreSortsOf sorts decls)
     (each : (number : ℕ) (d : DeclTree) → slice_get decls number ≡ Some d → IsDecl decls sorts number d) where
-
   abbrev made_sorts : Sorts
   made_sorts = record { declared = declared; params = params_of decls }
 
@@ -267,28 +261,33 @@ module _ (declared : List TermSort) (names : List Name) (ambient : Coding) (decl
       → IsMade bound (part_of names ambient p).term
       × ScopeIs (behind decls sorts number p scope) (bind_sort (part_of names ambient p).name (sort_of declared (part_of names ambient p).term) bound)
   unfolding part_of in_part
-  part-sorted number scope bound (part.Literal l) means met h =
-      (sorted-as made_sorts bound (term.Scan (term.Absorb (literal_of ambient l))) (Term-F.Scan (term.Absorb (literal_of ambient l))) (out-Scan (term.Absorb (literal_of ambient l)))
-      refl (absorbed-sorted bound l, tt), means)
+  part-sorted number scope bound (part.Literal l) means met h = (
+    sorted-as made_sorts bound (term.Scan (term.Absorb (literal_of ambient l))) (Term-F.Scan (term.Absorb (literal_of ambient l))) (out-Scan (term.Absorb (literal_of ambient l)))
+        refl (absorbed-sorted bound l, tt),
+    means,
+  )
   part-sorted number scope bound (part.Pcompute of name value) means met h =
-      let e = expr_of names value in
-      (sorted-as made_sorts bound (term.Compute e (form_of of)) (Term-F.Compute e (form_of of)) (out-Compute e (form_of of))
-      (computed-fits of (sort_made value bound) (expr-meant value scope bound (computed_sort of) means met.1 h)) tt,
-      scope-more declared names scope bound name (computed_sort of) (sort_of declared (term.Compute e (form_of of))) met.0
-      (value-means declared names ambient decls sorts are are_of each number scope (part.Pcompute of name value) (computed_sort of) h refl) means)
-  part-sorted number scope bound (part.Field f) means met h =
-      (field-sorted number scope bound f means met h,
-      scope-more declared names scope bound f.name (type_sort sorts f.of) (sort_of declared (field_of names ambient f)) (field-known f met)
-      (field-means declared names ambient decls sorts are are_of each number scope f h) means)
+      let e = expr_of names value in (
+        sorted-as made_sorts bound (term.Compute e (form_of of)) (Term-F.Compute e (form_of of)) (out-Compute e (form_of of))
+            (computed-fits of (sort_made value bound) (expr-meant value scope bound (computed_sort of) means met.1 h)) tt,
+        scope-more declared names scope bound name (computed_sort of) (sort_of declared (term.Compute e (form_of of))) met.0
+            (value-means declared names ambient decls sorts are are_of each number scope (part.Pcompute of name value) (computed_sort of) h refl) means,
+      )
+  part-sorted number scope bound (part.Field f) means met h = (
+    field-sorted number scope bound f means met h,
+    scope-more declared names scope bound f.name (type_sort sorts f.of) (sort_of declared (field_of names ambient f)) (field-known f met)
+        (field-means declared names ambient decls sorts are are_of each number scope f h) means,
+  )
 
   parts-sorted : (number : ℕ) (scope : Scope) (bound : made.Scope) (parts : List PartTree) → ScopeIs scope bound → AllKnown (flat_map in_part parts) → AreParts decls sorts number scope parts
       → AllOf StandsMade (parts_standing declared bound (map (part_of names ambient) parts))
   parts-sorted number scope bound [] means met h = tt
   parts-sorted number scope bound (p ∷ parts) means met h =
-      let here = part-sorted number scope bound p means (each-left (Known names) (in_part p) (flat_map in_part parts) met) h.0 in
-      (here.0,
-      parts-sorted number (behind decls sorts number p scope) (bind_sort (part_of names ambient p).name (sort_of declared (part_of names ambient p).term) bound) parts here.1
-      (each-right (Known names) (in_part p) (flat_map in_part parts) met) h.1)
+      let here = part-sorted number scope bound p means (each-left (Known names) (in_part p) (flat_map in_part parts) met) h.0 in (
+        here.0,
+        parts-sorted number (behind decls sorts number p scope) (bind_sort (part_of names ambient p).name (sort_of declared (part_of names ambient p).term) bound) parts here.1
+            (each-right (Known names) (in_part p) (flat_map in_part parts) met) h.1,
+      )
 
   struct-sorted : (number : ℕ) (scope : Scope) (bound : made.Scope) (s : StructTree) → sort_at declared number ≡ sort_of declared (struct_of names ambient s) → ScopeIs scope bound → AllKnown (in_struct s)
       → IsStruct decls sorts number scope s → IsMade bound (struct_of names ambient s)
@@ -304,9 +303,10 @@ module _ (declared : List TermSort) (names : List Name) (ambient : Coding) (decl
       → AllOf (IsMade bound) (map (λ (arm : Arm). arm.term) (map (arm_of names ambient) branches))
   unfolding arm_of
   arms-sorted number scope bound [] means met h = tt
-  arms-sorted number scope bound (f ∷ branches) means met h =
-      (field-sorted number scope bound f means (each-left (Known names) (in_branch f) (flat_map in_branch branches) met) h.0,
-      arms-sorted number scope bound branches means (each-right (Known names) (in_branch f) (flat_map in_branch branches) met) h.1)
+  arms-sorted number scope bound (f ∷ branches) means met h = (
+    field-sorted number scope bound f means (each-left (Known names) (in_branch f) (flat_map in_branch branches) met) h.0,
+    arms-sorted number scope bound branches means (each-right (Known names) (in_branch f) (flat_map in_branch branches) met) h.1,
+  )
 
   cases-sorted : (number : ℕ) (scope : Scope) (bound : made.Scope) (cases : List CaseTree) (default : Option Branch) → ScopeIs scope bound → AllKnown (flat_map in_case cases ++ in_default default)
       → Each (IsBranch decls sorts number scope) (map (λ (c : CaseTree). c.branch) cases ++ if_default default)
@@ -316,9 +316,10 @@ module _ (declared : List TermSort) (names : List Name) (ambient : Coding) (decl
   cases-sorted number scope bound [] (Some f) means met h = (field-sorted number scope bound f means met h.0, tt)
   cases-sorted number scope bound (c ∷ cases) default means met h =
       let split : AllKnown (in_branch c.branch ++ (flat_map in_case cases ++ in_default default)) =
-          subst AllKnown (append_assoc (in_branch c.branch) (flat_map in_case cases) (in_default default)) met in
-      (field-sorted number scope bound c.branch means (each-left (Known names) (in_branch c.branch) (flat_map in_case cases ++ in_default default) split) h.0,
-      cases-sorted number scope bound cases default means (each-right (Known names) (in_branch c.branch) (flat_map in_case cases ++ in_default default) split) h.1)
+      subst AllKnown (append_assoc (in_branch c.branch) (flat_map in_case cases) (in_default default)) met in (
+        field-sorted number scope bound c.branch means (each-left (Known names) (in_branch c.branch) (flat_map in_case cases ++ in_default default) split) h.0,
+        cases-sorted number scope bound cases default means (each-right (Known names) (in_branch c.branch) (flat_map in_case cases ++ in_default default) split) h.1,
+      )
 
   -- the keys of a switch
   number-key : (key : Const) → IsNumberKey key → is_number_key (Some (key_of key)) ≡ true
@@ -395,9 +396,10 @@ module _ (declared : List TermSort) (names : List Name) (ambient : Coding) (decl
   options-sorted number scope bound [] means met h = tt
   options-sorted number scope bound (option.Psep points ∷ options) means met h = (tt, options-sorted number scope bound options means met h.1)
   options-sorted number scope bound (option.Pterm l ∷ options) means met h = (tt, options-sorted number scope bound options means met h.1)
-  options-sorted number scope bound (option.Plast e ∷ options) means met h =
-      (truth-has declared (sort_made e bound) (expr-meant e ((at_sign, plain (form.Array number)) ∷ scope) bound truth means (each-left (Known names) (in_expr e) (flat_map in_array_option options) met) h.0),
-      options-sorted number scope bound options means (each-right (Known names) (in_expr e) (flat_map in_array_option options) met) h.1)
+  options-sorted number scope bound (option.Plast e ∷ options) means met h = (
+    truth-has declared (sort_made e bound) (expr-meant e ((at_sign, plain (form.Array number)) ∷ scope) bound truth means (each-left (Known names) (in_expr e) (flat_map in_array_option options) met) h.0),
+    options-sorted number scope bound options means (each-right (Known names) (in_expr e) (flat_map in_array_option options) met) h.1,
+  )
 
   last-sorted : (bound : made.Scope) (o : Option ExprTree) → IfThere (Lasts bound) o → last_fits made_sorts (option_of names o) bound ≡ true
   last-sorted bound None h = refl
@@ -422,7 +424,7 @@ module _ (declared : List TermSort) (names : List Name) (ambient : Coding) (decl
       let value : Means declared (plain (form.Array number)) (Array elem) = (is, elem, refl) in
       let so_far = (n, Array elem) ∷ bound in
       let lasts = options-sorted number scope so_far a.options (scope-more declared names scope bound at_sign (plain (form.Array number)) (Array elem) inside.0 value means)
-          lasts_met h.2 in
+      lasts_met h.2 in
       constrained-sorted (term.Seq s) at_sign a.condition scope bound (plain (form.Array number)) means inside.0
       conditions
       (subst (Means declared (plain (form.Array number))) (sym (sort-by declared (term.Seq s) (Term-F.Seq s) (out-Seq s))) value) h.3
@@ -430,9 +432,10 @@ module _ (declared : List TermSort) (names : List Name) (ambient : Coding) (decl
       (both-true (size_fits made_sorts s.size bound) (last_fits made_sorts s.last so_far)
       (size-sorted scope bound a.size means inside.1 h.1)
       (last-sorted so_far (first last a.options) (first-holds (Lasts so_far) last a.options lasts)))
-      (each-stands bound (s.elem ∷ if_there s.sep ++ if_there s.stop)
-      (type-sorted number scope bound a.of means (each-left (Known names) (in_type a.of) so_many sized) h.0,
-      all-append (IsMade bound) (if_there s.sep) (if_there s.stop) (separators-sorted bound (first separator a.options)) (terminators-sorted bound (first terminator a.options)))))
+      (each-stands bound (s.elem ∷ if_there s.sep ++ if_there s.stop) (
+        type-sorted number scope bound a.of means (each-left (Known names) (in_type a.of) so_many sized) h.0,
+        all-append (IsMade bound) (if_there s.sep) (if_there s.stop) (separators-sorted bound (first separator a.options)) (terminators-sorted bound (first terminator a.options)),
+      )))
 
   -- bodies
   typedef-sorted : (scope : Scope) (bound : made.Scope) (inner : Term) (sort : Sort) (constraint : Option Constraint) → ScopeIs scope bound → AllKnown (in_constraint constraint)
@@ -494,14 +497,15 @@ module _ (declared : List TermSort) (names : List Name) (ambient : Coding) (decl
       × IsSortedDecl made_sorts (decl_of names ambient d) params
   unfolding decl_of in_decl
   decl-sorted number d there met h =
-      let given = map (λ (param : Param). param.name) d.params in
-      (map param_sort d.params,
-      there-mapped (λ (d : DeclTree). map param_sort d.params) decls number d there,
-      parameters-are d.params h.1,
-      read-sorted number (params_scope d.params []) (sorting.params_scope (map name_number d.params) (map param_sort d.params) []) d.role d.body
-      (λ is_read. read-sort declared names ambient decls sorts are are_of each number d there is_read)
-      (params-mean d.params [] [] h.1 (each-left (Known names) given (in_read_body d.role d.body) met.1) nothing-means)
-      (each-right (Known names) given (in_read_body d.role d.body) met.1) h.2)
+      let given = map (λ (param : Param). param.name) d.params in (
+        map param_sort d.params,
+        there-mapped (λ (d : DeclTree). map param_sort d.params) decls number d there,
+        parameters-are d.params h.1,
+        read-sorted number (params_scope d.params []) (sorting.params_scope (map name_number d.params) (map param_sort d.params) []) d.role d.body
+            (λ is_read. read-sort declared names ambient decls sorts are are_of each number d there is_read)
+            (params-mean d.params [] [] h.1 (each-left (Known names) given (in_read_body d.role d.body) met.1) nothing-means)
+            (each-right (Known names) given (in_read_body d.role d.body) met.1) h.2,
+      )
 
 module _ (d : Description) (ambient : Coding) (well : WellSorted d) (declared : List TermSort) (are : AreSorts declared (module_of d ambient).decls) where
   abbrev Bodies : Decl → ℕ → Type 0

@@ -1,5 +1,5 @@
 -- Expressions, one layer after another.
-use Rattle.std.proofs.Common.{◌≡◌, ◌∙◌, sym, ap, refl, subst, arith, ℕ, zero, suc, ◌+◌, ◌<◌, ◌≤◌, ◌++◌, ◌∷◌, List, Option, Some, None, option_and_then}
+use Rattle.std.proofs.Common.{◌≡◌, ap, refl, subst, arith, ℕ, zero, suc, ◌+◌, ◌<◌, ◌≤◌, List, Option, Some, None, option_and_then}
 use Rattle.std.specs.Prelude.{⊤}
 use Rattle.pads_expr.specs.declared.expr.Expr.{Expr as Made}
 use Rattle.pads_sorts.specs.declared.sort.Sort.{Sort}

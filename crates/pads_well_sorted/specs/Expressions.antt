@@ -5,7 +5,6 @@ use lib.Pointwise.{pointwise}
 use Rattle.pads_sorts.specs.declared.sort.Form.{Form}
 use Rattle.pads_sorts.specs.declared.sort.Form.TheVariants as form
 use Rattle.pads_sorts.specs.declared.sort.Sort.{Sort}
-use Rattle.pads_resolved.specs.declared.decl.Case.{Case}
 use Rattle.pads_resolved.specs.declared.decl.Decl.{Decl}
 use Rattle.pads_resolved.specs.declared.decl.DeclBody.{DeclBody}
 use Rattle.pads_resolved.specs.declared.decl.DeclBody.TheVariants as body

@@ -11,7 +11,6 @@ use Rattle.pads_resolved.specs.declared.decl.Array.{Array}
 use Rattle.pads_resolved.specs.declared.decl.ArrayOption.{ArrayOption}
 use Rattle.pads_resolved.specs.declared.decl.ArrayOption.TheVariants as option
 use Rattle.pads_resolved.specs.declared.decl.Case.{Case}
-use Rattle.pads_resolved.specs.declared.decl.Constraint.{Constraint}
 use Rattle.pads_resolved.specs.declared.decl.Decl.{Decl}
 use Rattle.pads_resolved.specs.declared.decl.DeclBody.{DeclBody}
 use Rattle.pads_resolved.specs.declared.decl.DeclBody.TheVariants as body
@@ -20,7 +19,6 @@ use Rattle.pads_resolved.specs.declared.decl.Label.{Label}
 use Rattle.pads_resolved.specs.declared.decl.Part.{Part}
 use Rattle.pads_resolved.specs.declared.decl.Part.TheVariants as part
 use Rattle.pads_resolved.specs.declared.decl.Struct.{Struct}
-use Rattle.pads_resolved.specs.declared.decl.Switch.{Switch}
 use Rattle.pads_resolved.specs.declared.decl.Typedef.{Typedef}
 use Rattle.pads_resolved.specs.declared.decl.Union.{Union}
 use Rattle.pads_resolved.specs.declared.decl.Union.TheVariants as union
