@@ -1,0 +1,7 @@
+pub mod Numbers
+pub mod Scopes
+pub mod Expressions
+pub mod Chains
+pub mod Types
+pub mod Bodies
+pub mod Resolution

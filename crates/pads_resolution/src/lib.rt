@@ -1,0 +1,11 @@
+//! What an accepted description resolves to.
+//!
+//! `specs/Resolution.antt` gives the resolved tree of a syntax tree, with what its types, expressions and
+//! declarations resolve to in the files beside it. It is total: where a rule is broken, which an accepted
+//! description never meets, it has a default. Here stand the types that its words share with the code that
+//! resolves.
+#![tactic(auto)]
+
+mod visible;
+
+pub use visible::{Known, ResolvedExpr, Stands, Visible};
