@@ -1,0 +1,13 @@
+pub mod Counted
+pub mod Formed
+pub mod Lists
+pub mod Means
+pub mod Meant
+pub mod MeantOperators
+pub mod MeantParts
+pub mod Names
+pub mod PlainTerms
+pub mod Scoped
+pub mod ScopedTerms
+pub mod SortedTerms
+pub mod Trees
