@@ -90,25 +90,41 @@ fn run_words(alloc: Global, texts: &[&str]) -> Result<Left, Memory> {
     )
 }
 
-#[test]
-fn the_pair_over_objects_that_never_fail(rt: HostRuntime) -> Result<(), Fail> {
-    let words = words_of(rt.alloc(), &["parse", "pair.pads"])?;
-    let mut files = SureFiles::new(two_files(rt.alloc())?);
-    let mut source = SureSource::new(Bytes::from_slice(rt.alloc(), INPUT)?, 0);
-    let mut out = SureSink::new(rt.alloc(), 0, 1000)?;
-    let mut notes = SureSink::new(rt.alloc(), 0, 1000)?;
+/// What a run over objects that never fail writes for an input, and how it ends.
+fn never_fails(
+    rt: &impl Abort,
+    alloc: Global,
+    input: &[u8],
+    lines: &[u8],
+    wanted: Status,
+) -> Result<(), Fail> {
+    let words = words_of(alloc, &["parse", "pair.pads"])?;
+    let mut files = SureFiles::new(two_files(alloc)?);
+    let mut source = SureSource::new(Bytes::from_slice(alloc, input)?, 0);
+    let mut out = SureSink::new(alloc, 0, 1000)?;
+    let mut notes = SureSink::new(alloc, 0, 1000)?;
     let status = run(
-        rt.alloc(),
+        alloc,
         &words,
         &mut files,
         &mut source,
         &mut out,
         &mut notes,
     );
-    assert_eq!(rt; status, Status::Dirty);
-    assert_eq!(rt; out.bytes(), LINES);
+    assert_eq!(rt; status, wanted);
+    assert_eq!(rt; out.bytes(), lines);
     assert_eq!(rt; notes.bytes(), b"".as_slice());
     Ok(())
+}
+
+#[test]
+fn the_pair_over_objects_that_never_fail(rt: HostRuntime) -> Result<(), Fail> {
+    never_fails(&rt, rt.alloc(), INPUT, LINES, Status::Dirty)
+}
+
+#[test]
+fn an_empty_input_over_objects_that_never_fail(rt: HostRuntime) -> Result<(), Fail> {
+    never_fails(&rt, rt.alloc(), b"", b"", Status::Done)
 }
 
 #[test]
