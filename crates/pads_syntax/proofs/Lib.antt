@@ -1,0 +1,4 @@
+pub mod Stops
+pub mod TreeLaws
+pub mod Answered
+pub mod Trees
