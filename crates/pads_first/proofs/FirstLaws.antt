@@ -1,5 +1,5 @@
 -- The violations of all declarations, one declaration after the other.
-use Rattle.std.proofs.Common.{◌≡◌, ◌∙◌, sym, ap, refl, ℕ, suc, ◌+◌, ◌<◌, ◌≤◌, List, [], ◌∷◌, ◌++◌, length, take, drop, flat_map, get_or, Option, Some, append-nil, add-one}
+use Rattle.std.proofs.Common.{◌≡◌, ◌∙◌, sym, ap, refl, ℕ, ◌+◌, ◌<◌, ◌≤◌, List, [], ◌∷◌, ◌++◌, length, take, drop, flat_map, get_or, Option, Some, append-nil, add-one}
 use Rattle.std.specs.List.{enumerate_from, slice_get}
 use Rattle.std.proofs.lemmas.List.Concat.{flat_map-append}
 use Rattle.std.proofs.lemmas.Option.{get_or_from_slice_get, slice_get_within}
@@ -9,13 +9,12 @@ use Rattle.pads_rules.specs.declared.fault.CheckFault.{CheckFault}
 use Rattle.pads_rules.specs.DeclRules.{token_count, too_much}
 use Rattle.pads_rules.specs.Faults.{lesser, least, each}
 use Rattle.pads_rules.specs.NameTokens.{Names, names_in_decl, with_names}
-use Rattle.pads_rules.specs.Pieces.{Site, sites}
+use Rattle.pads_rules.specs.Pieces.{Site}
 use Rattle.pads_rules.specs.Resolving.{declared}
-use Rattle.pads_rules.specs.Violations.{violations, no_record_type}
+use Rattle.pads_rules.specs.Violations.{violations}
 use Rattle.pads_rules.proofs.Least.{each-map}
-use Rattle.pads_parts.specs.Parts.{all_faults}
 use Rattle.pads_parts.proofs.PartLaws.{least-violations}
-use Rattle.pads_pieces.proofs.Steps.{none-lesser, taken, enumerated-step, enumerated-end}
+use Rattle.pads_pieces.proofs.Steps.{taken, enumerated-step, enumerated-end}
 use Rattle.pads_counts.specs.Met.{met}
 use Rattle.pads_counts.proofs.MetLaws.{met-append}
 use Rattle.pads_sites.specs.Joined as joined
@@ -66,10 +65,10 @@ pub names-counted : (site : Site) → length (names_up_to site.decls (site.numbe
 unfolding names_up_to met
 names-counted site = ap (λ n. length (with_names [] (flat_map (λ (d : Decl). names_in_decl d.body) (take n site.decls)))) (add-one site.number)
 
-pub told-site : (site : Site) → lesser (joined.site_told site) (least (too_much site)) ≡ site_told site
+pub site-joined : (site : Site) → lesser (joined.site_told site) (least (too_much site)) ≡ site_told site
 unfolding site_told faults_at
-told-site site = sym (told-all site)
+site-joined site = sym (told-all site)
 
-pub told-tree : (tree : Ast) → lesser (decls_told tree.decls) (record_told tree) ≡ least (violations tree)
+pub tree-joined : (tree : Ast) → lesser (decls_told tree.decls) (record_told tree) ≡ least (violations tree)
 unfolding decls_told record_told faults_at
-told-tree tree = sym (least-violations tree)
+tree-joined tree = sym (least-violations tree)

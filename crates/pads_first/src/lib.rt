@@ -2,8 +2,10 @@
 //! declarations.
 #![tactic(auto)]
 
-ghost use Rattle.std.specs.Prelude.{◌≡◌, ◌+◌, ◌<◌, length, slice_get, Some, IfOk, OnOk};
+ghost use Rattle.std.specs.Prelude.{◌≡◌, ◌+◌, slice_get, Some, IfOk, OnOk};
+ghost use Rattle.std.specs.List.{list_any};
 ghost use Rattle.pads_rules.specs.Faults.{least};
+ghost use Rattle.pads_rules.specs.Trees as trees;
 ghost use Rattle.pads_rules.specs.Violations.{violations};
 ghost use Rattle.pads_pieces.specs.Told.{stands};
 ghost use Rattle.pads_first.specs.First.{site_told, decls_told, record_told, names_up_to};
@@ -54,16 +56,18 @@ fn in_decls(alloc: Global, decls: &[Decl]) -> Result<Option<CheckFault>, Memory>
     Ok(best)
 }
 
+fn has_record_type(decls: &[Decl]) -> bool
+    ensures any { result ≡ list_any (λ decl. trees.is_precord decl.mark) decls.now }
+{
+    decls.iter().any(|decl| is_precord(decl.mark))
+}
+
 /// No declaration is marked `Precord`.
 #[tactic(auto, unfolding(crate::specs::First::record_told))]
 fn no_record_type(tree: &Ast) -> Option<CheckFault>
     ensures told { result ≡ record_told tree.now }
 {
-    let marked = tree
-        .decls
-        .as_slice()
-        .iter()
-        .any(|decl| is_precord(decl.mark));
+    let marked = has_record_type(tree.decls.as_slice());
     fault_if(!marked, 23, tree.end)
 }
 
