@@ -1,5 +1,5 @@
 use super::resolve;
-use pads_ast::{Ast, Decl, DeclBody, Enum};
+use pads_ast::{Ast, Decl, DeclBody, Enum, Name};
 use pads_resolved::Role;
 use pads_value::{Items, Memory};
 use std::alloc::Global;
@@ -12,7 +12,7 @@ fn empty_enum(alloc: Global) -> Result<Ast, Memory> {
     decls.push(Decl {
         mark: None,
         body: DeclBody::Enum(Enum {
-            name: pads_ast::Name { text, at: 6 },
+            name: Name { text, at: 6 },
             labels: Items::new(alloc),
         }),
     })?;
