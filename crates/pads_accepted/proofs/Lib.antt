@@ -1,0 +1,4 @@
+pub mod Faultless
+pub mod Forms
+pub mod Trees
+pub mod Typed
