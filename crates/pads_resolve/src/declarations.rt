@@ -1,0 +1,66 @@
+//! Declarations.
+
+ghost use Rattle.std.specs.Prelude.{◌≡◌, map, IfOk};
+ghost use Rattle.pads_pieces.specs.Told.{stands};
+ghost use Rattle.pads_resolution.specs.Resolution as resolution;
+ghost use Rattle.pads_resolve.specs.Places.{sites_among};
+
+use crate::bodies::body_at;
+use crate::scopes::variables;
+use crate::sources::role_of;
+use crate::types::params_of;
+use pads_ast::Decl as WrittenDecl;
+use pads_declared::{name_of, params_of as params_in};
+use pads_pieces::{Site, earlier};
+use pads_resolution::Visible;
+use pads_resolve_expr::text;
+use pads_resolved::Decl;
+use pads_rules::Declared;
+use pads_value::{Items, Memory};
+use std::alloc::Global;
+
+/// The parameters of a declaration as variables.
+#[tactic(auto, unfolding(pads_resolution::specs::Resolution::params_scope))]
+fn params_scope(alloc: Global, site: &Site<'_>) -> Result<Items<Visible>, Memory>
+    ensures made { IfOk result (λ made. made ≡ resolution.params_scope (stands site.now)) }
+{
+    variables(alloc, earlier(site), params_in(&site.decl.body))
+}
+
+/// A declaration.
+#[tactic(auto, unfolding(pads_resolution::specs::Resolution::decl_at))]
+fn decl_at(alloc: Global, site: &Site<'_>) -> Result<Decl, Memory>
+    ensures made { IfOk result (λ made. made ≡ resolution.decl_at (stands site.now)) }
+{
+    let name = text(alloc, name_of(&site.decl.body).text.as_slice())?;
+    let params = params_of(alloc, earlier(site), params_in(&site.decl.body))?;
+    let scope = params_scope(alloc, site)?;
+    let body = body_at(alloc, site, scope, &site.decl.body)?;
+    Ok(Decl {
+        role: role_of(site),
+        name,
+        params,
+        body,
+    })
+}
+
+/// The declarations of a description, in order.
+pub(crate) fn decls_of(
+    alloc: Global,
+    decls: &[WrittenDecl],
+    env: &[Declared],
+) -> Result<Items<Decl>, Memory>
+    ensures made { IfOk result (λ made. made ≡ map resolution.decl_at (sites_among decls.now env.now)) }
+{
+    let mut made = Items::new(alloc);
+    for number in 0..decls.len() {
+        let site = Site {
+            decls,
+            env,
+            number,
+            decl: &decls[number],
+        };
+        made.push(decl_at(alloc, &site)?)?;
+    }
+    Ok(made)
+}

@@ -1,0 +1,193 @@
+//! Types with their arguments, and the parameters of declarations.
+
+ghost use Rattle.std.specs.Prelude.{◌≡◌, ◌++◌, map, IfOk, OnOk};
+ghost use Rattle.pads_pieces.specs.Told.{stands};
+ghost use Rattle.pads_resolution.specs.Types as types;
+ghost use Rattle.pads_resolve_expr.specs.Scopes.{names_in_scope};
+ghost use Rattle.pads_rules.specs.Trees as trees;
+
+use crate::expressions::expr_at;
+use pads_ast::{Arg, Param as WrittenParam, Type as WrittenType};
+use pads_base_names::{BaseName, ByteOrder, NamedCoding, base_name};
+use pads_bases::Order;
+use pads_declared::type_sort;
+use pads_pieces::{Site, earlier};
+use pads_resolve_expr::{Scope, declared_number, short, sort_known, text};
+use pads_resolved::{BaseType, Computed, Expr, Param, Params, Prefix, Type, TypeName};
+use pads_rules::Declared;
+use pads_value::{Items, Memory};
+use std::alloc::Global;
+
+fn prefix_of(coding: NamedCoding) -> Prefix
+    ensures prefix { result ≡ types.prefix_of coding }
+{
+    match coding {
+        NamedCoding::Ambient => Prefix::Ambient,
+        NamedCoding::Ascii => Prefix::Ascii,
+        NamedCoding::Ebcdic => Prefix::Ebcdic,
+    }
+}
+
+fn order_of(order: ByteOrder) -> Order
+    ensures order { result ≡ types.order_of order }
+{
+    match order {
+        ByteOrder::LowFirst => Order::Low,
+        ByteOrder::HighFirst => Order::High,
+    }
+}
+
+/// Whether `Peor` is the one argument.
+fn is_end(args: &[Arg]) -> bool
+    ensures end { result ≡ types.is_end args.now }
+{
+    matches!(args, [Arg::Peor { .. }])
+}
+
+/// A text up to a stop, or up to the record's end.
+fn until(to_end: bool, prefix: Prefix) -> BaseType
+    ensures until { result ≡ types.until to_end prefix }
+{
+    if to_end {
+        BaseType::UntilEor(prefix)
+    } else {
+        BaseType::Until(prefix)
+    }
+}
+
+/// A base type by its name, and by whether its one argument is `Peor`.
+fn base_type_of(to_end: bool, name: BaseName) -> BaseType
+    ensures base { result ≡ types.base_type_of to_end name }
+{
+    match name {
+        BaseName::Int(coding, kind) => BaseType::Int(prefix_of(coding), kind),
+        BaseName::IntFw(coding, kind) => BaseType::IntFw(prefix_of(coding), kind),
+        BaseName::Bin(kind) => BaseType::Bin(Order::Low, kind),
+        BaseName::SizedBin(order, kind) => BaseType::Bin(order_of(order), kind),
+        BaseName::Until(coding) => until(to_end, prefix_of(coding)),
+        BaseName::Fixed(coding) => BaseType::Fixed(prefix_of(coding)),
+        BaseName::Class(coding) => BaseType::Class(prefix_of(coding)),
+        BaseName::Char(coding) => BaseType::Char(prefix_of(coding)),
+        BaseName::Ip(coding) => BaseType::Ip(prefix_of(coding)),
+    }
+}
+
+/// A declared type by its number; one that is declared nowhere is a character.
+fn declared_type(number: Option<usize>) -> TypeName
+    ensures named { result ≡ types.declared_type number }
+{
+    match number {
+        Some(number) => TypeName::Declared(short(number)),
+        None => TypeName::Base(BaseType::Char(Prefix::Ambient)),
+    }
+}
+
+/// The arguments of a type.
+fn args_of(of: &WrittenType) -> &[Arg]
+    ensures items { result.now ≡ trees.args_of of.now }
+{
+    match &of.args {
+        Some(args) => args.as_slice(),
+        None => &[],
+    }
+}
+
+/// A type's name among the types that are declared before.
+#[tactic(auto, unfolding(pads_resolution::specs::Types::named_type))]
+fn named_type(earlier: &[Declared], of: &WrittenType) -> TypeName
+    ensures named { result ≡ types.named_type earlier.now of.now }
+{
+    let name = of.name.text.as_slice();
+    match base_name(name) {
+        Some(base) => TypeName::Base(base_type_of(is_end(args_of(of)), base)),
+        None => declared_type(declared_number(earlier, name)),
+    }
+}
+
+/// Puts an argument behind some others, where it is an expression.
+#[tactic(auto, unfolding(pads_resolution::specs::Bodies::expr_at), using(crate::proofs::Steps::nothing_more))]
+fn add_arg(
+    alloc: Global,
+    site: &Site<'_>,
+    scope: &Scope<'_, '_>,
+    args: &mut Items<Expr>,
+    arg: &Arg,
+) -> Result<(), Memory>
+    ensures added { OnOk result (args.new ≡ args.old ++ types.arg_exprs (stands site.now).decls (stands site.now).env (names_in_scope scope.now) arg.now) }
+{
+    match arg {
+        Arg::Expr(e) => args.push(expr_at(alloc, site, scope, e)?),
+        Arg::Peor { .. } => Ok(()),
+    }
+}
+
+/// The expressions among some arguments.
+#[tactic(auto, unfolding(pads_resolution::specs::Types::args))]
+fn args(
+    alloc: Global,
+    site: &Site<'_>,
+    scope: &Scope<'_, '_>,
+    written: &[Arg],
+) -> Result<Items<Expr>, Memory>
+    ensures made { IfOk result (λ made. made ≡ types.args (stands site.now).decls (stands site.now).env (names_in_scope scope.now) written.now) }
+{
+    let mut made = Items::new(alloc);
+    for arg in written {
+        add_arg(alloc, site, scope, &mut made, arg)?;
+    }
+    Ok(made)
+}
+
+/// A type where it stands in a declaration, in a scope.
+#[tactic(auto, unfolding(pads_resolution::specs::Types::type_at))]
+pub(crate) fn type_at(
+    alloc: Global,
+    site: &Site<'_>,
+    scope: &Scope<'_, '_>,
+    of: &WrittenType,
+) -> Result<Type, Memory>
+    ensures made { IfOk result (λ made. made ≡ types.type_at (stands site.now) (names_in_scope scope.now) of.now) }
+{
+    let args = args(alloc, site, scope, args_of(of))?;
+    Ok(Type {
+        optional: of.optional.is_some(),
+        name: named_type(earlier(site), of),
+        args,
+    })
+}
+
+/// What a `Pcompute` of a type's name is to give: a number of the kind's range, else a text.
+#[tactic(auto, unfolding(pads_resolution::specs::Types::computed_of))]
+pub(crate) fn computed_of(of: &WrittenType) -> Computed
+    ensures computed { result ≡ types.computed_of of.now }
+{
+    match base_name(of.name.text.as_slice()) {
+        Some(BaseName::Int(_, kind)) => Computed::Int(kind),
+        _ => Computed::Text,
+    }
+}
+
+/// A parameter: its name, and the sort of its type.
+#[tactic(auto, unfolding(pads_resolution::specs::Types::param_of))]
+fn param_of(alloc: Global, earlier: &[Declared], param: &WrittenParam) -> Result<Param, Memory>
+    ensures made { IfOk result (λ made. made ≡ types.param_of earlier.now param.now) }
+{
+    let name = text(alloc, param.name.text.as_slice())?;
+    let sort = sort_known(type_sort(earlier, &param.of));
+    Ok(Param { name, sort })
+}
+
+/// The parameters of a declaration.
+pub(crate) fn params_of(
+    alloc: Global,
+    earlier: &[Declared],
+    written: &[WrittenParam],
+) -> Result<Params, Memory>
+    ensures made { IfOk result (λ made. made ≡ map (types.param_of earlier.now) written.now) }
+{
+    let mut made = Items::new(alloc);
+    for param in written {
+        made.push(param_of(alloc, earlier, param)?)?;
+    }
+    Ok(made)
+}
