@@ -1,0 +1,3 @@
+pub mod MetLaws
+pub mod ExprLaws
+pub mod CountLaws
