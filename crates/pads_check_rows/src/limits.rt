@@ -1,5 +1,7 @@
 //! Descriptions at the limits of what a declaration, a description and an expression may hold, and one past them.
 
+ghost use Rattle.std.specs.Prelude.{◌+◌, ◌<◌};
+
 use crate::told::told;
 use std::alloc::{AllocError, Global};
 use std::fmt::Write;
