@@ -1,5 +1,5 @@
 -- How far the reading was, over several steps.
-use Rattle.std.proofs.Common.{◌≡◌, ℕ, ◌+◌, ◌-◌, ◌^◌, ◌<◌, ◌≤◌, min, Bool, true, false, Option, None, Some, IfSome, List, [], ◌∷◌, ◌++◌, length, take, map, refl, sym, ap, subst, ◌∙◌, inl, inr, append_assoc, append-nil, arith}
+use Rattle.std.proofs.Common.{◌≡◌, ℕ, ◌+◌, ◌-◌, ◌^◌, ◌<◌, ◌≤◌, min, Bool, true, false, Option, None, Some, IfSome, Result, Err, List, [], ◌∷◌, ◌++◌, length, take, map, refl, sym, ap, subst, ◌∙◌, inl, inr, append_assoc, append-nil, arith}
 use Rattle.std.proofs.lemmas.Bool.{true≢false}
 use Rattle.std.proofs.lemmas.List.{length-append, length-map, map-append}
 use Rattle.std.specs.Io.KnownBytes.{Appends, Consumes, IsAtEnd, Keeps}
@@ -20,10 +20,15 @@ use Rattle.pads_tool.specs.Ends.{Anything, Reads, ReadsToEnd}
 use Rattle.pads_tool.specs.Halting.{Caught, Halts, HaltsAt, HasWritten, IsLittleAhead, IsSized, WroteNear, met}
 use Rattle.pads_tool.specs.Outputs.{written_for}
 use Rattle.pads_tool.specs.Progress.{Moment, Progresses}
+use Rattle.pads_tool.specs.declared.stop.Stop.{Stop}
 use Rattle.pads_tool.specs.declared.refill.Refill.{Refill}
 use Rattle.pads_tool.specs.declared.refill.Refill.TheVariants as refill
 use Rattle.pads_tool.proofs.Driven.{Starts}
 use Rattle.pads_tool.proofs.Outputs.{written_for-append}
+
+-- The same stop, handed on.
+pub same_stop : {T : Type 0} (s t : Stop) (a b : Result T Stop) → a ≡ Err s → b ≡ Err t → a ≡ b → s ≡ t
+same_stop s t a b h k e = cc
 
 -- A batch that is empty, and one with one frame more.
 pub sized-none : (size : ℕ) → IsSized [] size
@@ -40,8 +45,8 @@ light (x ∷ frames) size counted h = let few : size < 4194304 = h (omega arith)
 pub sized-more : (frames : List Kept) (kept : Kept) (size : ℕ) → IsSized (map cut_of_kept frames) size → length frames < 256 → (0 < length frames → size < 4194304)
     → IsSized (map cut_of_kept (frames ++ kept ∷ [])) (min (size + length kept.bytes) (2 ^ 64 - 1))
 sized-more frames kept size s few room =
-    let cuts : map cut_of_kept (frames ++ kept ∷ []) ≡ map cut_of_kept frames ++ cut_of_kept kept ∷ [] = map-append cut_of_kept frames (kept ∷ []) in
-    let count : length (map cut_of_kept frames) ≡ length frames = length-map cut_of_kept frames in
+    let cuts : map cut_of_kept (frames ++ kept ∷ []) ≡ map cut_of_kept frames ++ cut_of_kept kept ∷ [] = rw map-append refl in
+    let count : length (map cut_of_kept frames) ≡ length frames = length-map frames cut_of_kept in
     let weigh = weight-one (map cut_of_kept frames) (cut_of_kept kept) in
     rw cuts record {
       batch = inr record {
@@ -212,6 +217,7 @@ module _ (out : ℕ → Cut → List ℕ) (d : Discipline) (max : ℕ) (fits : F
 module _ (out notes : ℕ → Cut → List ℕ) (clean : ℕ → Cut → Bool) (d : Discipline) (max : ℕ) (fits : FitsLimit d max) where
   pub ahead-finishing : (left left' o mid o' n n' : Option (List ℕ)) (f f' : ℕ) (old new : Moment) (end : Refill) → Starts d max old → ReadsToEnd out notes clean left left' o mid n n' f f' old new end
       → Caught left left' old new → Halts out mid o' new [] (MayCome new.framer) → IfSome left (λ input. IsLittleAhead out d max left' o o' input)
+  unfolding halts-read
   ahead-finishing None left' o mid o' n n' f f' old new end start r c h = tt
   ahead-finishing (Some input) left' o mid o' n n' f f' old new refill.More start r c h = absurd r
   ahead-finishing (Some input) None o mid o' n n' f f' old new refill.End start r c h = absurd r.0.consumed

@@ -10,7 +10,7 @@ pub returns-in-Err-clause-err : goal.returns-in-Err-clause-err
 returns-in-Err-clause-err g c = stops-waiting _ _ _ _ _ _ _ _ c.in-Ok.output (rw c.as_slice-frames.ensures.items at c.in-Ok.ensures.output) c.in-Err.ensures.err
 
 pub returns-in-Err-clause-halts : goal.returns-in-Err-clause-halts
-returns-in-Err-clause-halts g c = λ e. halts-hand _ _ _ _ _ _ _ c.requires.filled.batch c.in-Err.ensures.err.out_grows
+returns-in-Err-clause-halts g c = λ e. halts-hand _ _ _ _ _ c.requires.filled.batch c.in-Err.ensures.err.out_grows
 
 pub returns-in-Err-clause-cause : goal.returns-in-Err-clause-cause
 returns-in-Err-clause-cause g c =

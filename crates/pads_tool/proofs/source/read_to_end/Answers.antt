@@ -1,8 +1,8 @@
-use Rattle.std.proofs.Common.{◌≡◌, ℕ, Bool, true, List, [], ◌∙◌, sym, refl, ap, arith}
+use Rattle.std.proofs.Common.{◌≡◌, ℕ, Bool, true, Err, List, [], ◌∙◌, sym, refl, ap, arith}
 use Rattle.std.proofs.lemmas.Bool.{true≢false}
 use Rattle.pads_frame.specs.State.{MayCome, State, reach, rest}
 use Rattle.pads_tool.specs.Ends.{Anything}
-use Rattle.pads_tool.proofs.Halting.{caught-none, caught-took, caught-kept, halts-read, halts-when}
+use Rattle.pads_tool.proofs.Halting.{caught-none, caught-took, caught-kept, halts-read, halts-when, same_stop}
 use Rattle.pads_tool.proofs.ReadSteps.{reads-none, reads-pumped, reads-more, reads-kept, reads-stopped}
 use Rattle.pads_tool.proofs.source.read_to_end.Goals as goal
 
@@ -26,7 +26,7 @@ pub returns-in-Err-clause-halts : goal.returns-in-Err-clause-halts
 returns-in-Err-clause-halts g c = λ e.
     let never = λ (ended : Bool) (more : List ℕ) (any : Unit {0}) (over : c.reads.reading.framer.ended ≡ true). absurd (true≢false (sym over ∙ c.reads.invariant.open_still)) in
     halts-read _ _ _ _ _ _ _ _ _ _ _ _ [] Anything never c.reads.invariant.reads c.reads.invariant.caught
-    (halts-when _ _ _ _ [] (MayCome c.reads.reading.framer) Anything never (c.in-Err.ensures.halts e))
+    (halts-when _ _ _ _ [] (MayCome c.reads.reading.framer) Anything never (c.in-Err.ensures.halts (ap Err (same_stop _ _ _ _ refl refl e))))
 
 pub returns-in-End-clause-caught : goal.returns-in-End-clause-caught
 returns-in-End-clause-caught g c =
