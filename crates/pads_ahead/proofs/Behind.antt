@@ -1,5 +1,5 @@
 -- How far bytes lie ahead of the frames that they complete.
-use Rattle.std.proofs.Common.{◌≡◌, ℕ, zero, suc, ◌+◌, ◌-◌, ◌<◌, ◌≤◌, Bool, true, false, ◌&&◌, ◌||◌, leb, ltb, List, [], ◌∷◌, ◌++◌, length, take, drop, refl, sym, ap, subst, ◌∙◌, ◌⊎◌, inl, inr, append_assoc, arith, min}
+use Rattle.std.proofs.Common.{◌≡◌, ℕ, zero, suc, ◌+◌, ◌-◌, ◌≤◌, Bool, true, false, ◌||◌, leb, ltb, List, [], ◌∷◌, ◌++◌, length, take, drop, refl, sym, ap, subst, ◌∙◌, ◌⊎◌, inl, inr, arith}
 use Rattle.std.proofs.lemmas.Bool.{cases_Bool, and_parts, leb-true, leb-false, ltb-false, false≢true}
 use Rattle.std.proofs.lemmas.List.{length-append, length-take, length-drop, take-append-le, take-append-drop}
 use Rattle.std.proofs.Math.Seq.{take-length}
@@ -145,8 +145,7 @@ module _ (d : Discipline) (max : ℕ) (fits : FitsLimit d max) where
       → (has_bytes (extent d max (b ∷ xs)).mark ≡ true) × (all_have_bytes (cuts d max true (at + 1) (size_of (extent d max (b ∷ xs)) - 1) (xs ++ ys)) ≡ true)
   closed_parts at b xs ys c h =
       let same : extent d max (b ∷ (xs ++ ys)) ≡ extent d max (b ∷ xs) = extent_grows d max (b ∷ xs) ys c in
-      let p = first_parts at b (xs ++ ys) h in
-      (
+      let p = first_parts at b (xs ++ ys) h in (
         subst (λ (e : Extent). has_bytes e.mark ≡ true) same p.0,
         subst (λ (e : Extent). all_have_bytes (cuts d max true (at + 1) (size_of e - 1) (xs ++ ys)) ≡ true) same p.1,
       )
@@ -163,7 +162,7 @@ module _ (d : Discipline) (max : ℕ) (fits : FitsLimit d max) where
   ]
     where
       closes : (all_have_bytes (cuts d max true (at + 1) (size_of (extent d max (b ∷ xs)) - 1) (xs ++ ys)) ≡ true
-              → length xs ≤ (size_of (extent d max (b ∷ xs)) - 1) + (spread (cuts d max false (at + 1) (size_of (extent d max (b ∷ xs)) - 1) xs) + (max + 4)))
+          → length xs ≤ (size_of (extent d max (b ∷ xs)) - 1) + (spread (cuts d max false (at + 1) (size_of (extent d max (b ∷ xs)) - 1) xs) + (max + 4)))
           → (extent d max (b ∷ xs)).closed ≡ true → (has_bytes (extent d max (b ∷ xs)).mark ≡ true) × (all_have_bytes (cuts d max true (at + 1) (size_of (extent d max (b ∷ xs)) - 1) (xs ++ ys)) ≡ true)
           → length (b ∷ xs) ≤ 0 + (spread (cuts d max false at 0 (b ∷ xs)) + (max + 4))
       closes more c p =
@@ -192,8 +191,8 @@ module _ (d : Discipline) (max : ℕ) (fits : FitsLimit d max) where
       closes k =
           let same : extent d max (b ∷ xs) ≡ extent d max (b ∷ take n xs) = ap (extent d max) (sym whole) ∙ extent_grows d max (b ∷ take n xs) (drop n xs) k in
           let cut : cut_at at (b ∷ xs) (extent d max (b ∷ xs)) ≡ cut_at at (b ∷ take n xs) (extent d max (b ∷ take n xs)) =
-              ap (λ l. cut_at at l (extent d max (b ∷ xs))) (sym whole) ∙ ap (λ (e : Extent). cut_at at (b ∷ take n xs ++ drop n xs) e) same
-              ∙ cut_grows at (b ∷ take n xs) (drop n xs) (extent d max (b ∷ take n xs)) (extent_within d max (b ∷ take n xs)).0 in
+          ap (λ l. cut_at at l (extent d max (b ∷ xs))) (sym whole) ∙ ap (λ (e : Extent). cut_at at (b ∷ take n xs ++ drop n xs) e) same
+          ∙ cut_grows at (b ∷ take n xs) (drop n xs) (extent d max (b ∷ take n xs)) (extent_within d max (b ∷ take n xs)).0 in
           let others = subst (λ (e : Extent). BeginsWith done (cuts d max false (at + 1) (size_of e - 1) (take n xs))) same front in
           (others.0, rw (step false at b (take n xs) (or-false (extent d max (b ∷ take n xs)).closed true k), ← cut, is) (ap (λ l. f ∷ l) others.1))
 
@@ -218,7 +217,7 @@ module _ (d : Discipline) (max : ℕ) (fits : FitsLimit d max) where
       nothing e = cc
 
       closes : (all_have_bytes (cuts d max true (at + 1) (size_of (extent d max (b ∷ xs)) - 1) (xs ++ ys)) ≡ true → cuts d max false (at + 1) (size_of (extent d max (b ∷ xs)) - 1) xs ≡ done ++ hand
-              → Behind (at + 1) (size_of (extent d max (b ∷ xs)) - 1) xs done hand)
+          → Behind (at + 1) (size_of (extent d max (b ∷ xs)) - 1) xs done hand)
           → (extent d max (b ∷ xs)).closed ≡ true → (has_bytes (extent d max (b ∷ xs)).mark ≡ true) × (all_have_bytes (cuts d max true (at + 1) (size_of (extent d max (b ∷ xs)) - 1) (xs ++ ys)) ≡ true)
           → cut_at at (b ∷ xs) (extent d max (b ∷ xs)) ∷ cuts d max false (at + 1) (size_of (extent d max (b ∷ xs)) - 1) xs ≡ (f ∷ done) ++ hand → Behind at 0 (b ∷ xs) (f ∷ done) hand
       closes more c p both =
@@ -232,9 +231,9 @@ module _ (d : Discipline) (max : ℕ) (fits : FitsLimit d max) where
   close bytes more done hand h f = elim (fronts (closed d max bytes) f.0 done hand (sym f.1)) [
     | inl g ↦ (length bytes, rw (take-length bytes) g, omega arith)
     | inr g ↦
-      let b = behind 0 0 bytes more done g.0 h g.1 in
-      let s = spread_front g.0 hand g.2 in
-      (b.n, b.front, omega (arith, b.near, s))
+        let b = behind 0 0 bytes more done g.0 h g.1 in
+        let s = spread_front g.0 hand g.2 in
+        (b.n, b.front, omega (arith, b.near, s))
   ]
 
   -- The frames that bytes complete are the first of the whole input.
@@ -255,6 +254,6 @@ module _ (d : Discipline) (max : ℕ) (fits : FitsLimit d max) where
           let cut = cut_grows at (b ∷ xs) ys (extent d max (b ∷ xs)) (extent_within d max (b ∷ xs)).0 in
           let one = step true at b (xs ++ ys) (or-true (extent d max (b ∷ (xs ++ ys))).closed) in
           let two : cut_at at (b ∷ (xs ++ ys)) (extent d max (b ∷ (xs ++ ys))) ∷ cuts d max true (at + 1) (size_of (extent d max (b ∷ (xs ++ ys))) - 1) (xs ++ ys)
-              ≡ cut_at at (b ∷ xs) (extent d max (b ∷ xs)) ∷ cuts d max true (at + 1) (size_of (extent d max (b ∷ xs)) - 1) (xs ++ ys) = rw (same, cut) refl in
+          ≡ cut_at at (b ∷ xs) (extent d max (b ∷ xs)) ∷ cuts d max true (at + 1) (size_of (extent d max (b ∷ xs)) - 1) (xs ++ ys) = rw (same, cut) refl in
           let three = step false at b xs (or-false (extent d max (b ∷ xs)).closed true c) in
           (i.0, one ∙ two ∙ ap (λ l. cut_at at (b ∷ xs) (extent d max (b ∷ xs)) ∷ l) i.1 ∙ ap (λ l. l ++ i.0) (sym three))

@@ -1,21 +1,18 @@
 -- No frame carries more bytes than the limit, and a batch has little more than it may have.
-use Rattle.std.proofs.Common.{◌≡◌, ℕ, zero, suc, ◌+◌, ◌-◌, ◌*◌, ◌<◌, ◌≤◌, Bool, true, false, ◌||◌, if◌then◌else◌, leb, List, [], ◌∷◌, ◌++◌, length, take, drop, refl, sym, ap, subst, ◌∙◌, ◌⊎◌, inl, inr, append_assoc, arith, min}
+use Rattle.std.proofs.Common.{◌≡◌, ℕ, zero, suc, ◌+◌, ◌-◌, ◌≤◌, Bool, true, false, ◌||◌, if◌then◌else◌, leb, List, [], ◌∷◌, ◌++◌, length, drop, sym, ap, subst, ◌∙◌, inl, inr, append_assoc, arith}
 use Rattle.std.proofs.lemmas.Bool.{cases_Bool, leb-true, leb-false}
 use Rattle.std.proofs.lemmas.List.{length-append, length-take}
 use Rattle.pads_value.specs.Cuts.{Cut}
 use Rattle.pads_value.specs.Marks.{bytes_of}
-use Rattle.pads_value.specs.declared.frame.Mark.TheVariants as mark
 use Rattle.pads_frame.specs.declared.discipline.Discipline.{Discipline}
 use Rattle.pads_frame.specs.declared.discipline.Discipline.TheVariants.{Term, Fixed, Rdw, Whole}
-use Rattle.pads_frame.specs.declared.discipline.Extent.{Extent}
 use Rattle.pads_frame.specs.Cutting.{cuts, records}
 use Rattle.pads_frame.specs.Extents.{extent, has_record, mark_of, run, word_length}
 use Rattle.pads_frame.specs.Fits.{FitsLimit}
 use Rattle.pads_frame.specs.Placed.{cut_at, size_of}
-use Rattle.pads_frame.proofs.CuttingLemmas.{cuts_nil}
 use Rattle.pads_frame.proofs.ExtentLemmas.{rdw_broken, rdw_record}
 use Rattle.pads_frame.proofs.Owing.{long_mark}
-use Rattle.pads_ahead.specs.Ahead.{IsBatch, IsFull, spread, weight}
+use Rattle.pads_ahead.specs.Ahead.{IsBatch, spread, weight}
 
 carried_mark : (max n : ℕ) → bytes_of (mark_of max n) n ≤ max
 carried_mark max n = elim (cases_Bool (leb n max)) [
@@ -71,8 +68,8 @@ pub batch_small : (d : Discipline) (max : ℕ) (input : List ℕ) (done hand oth
 batch_small d max input done hand others fits e (inl none) = rw none (omega arith)
 batch_small d max input done hand others fits e (inr full) =
     let apart : done ++ hand ++ others ≡ (done ++ full.front) ++ full.last ∷ others =
-        ap (λ l. done ++ l ++ others) full.whole ∙ append_assoc done (full.front ++ full.last ∷ []) others
-        ∙ ap (λ l. done ++ l) (append_assoc full.front (full.last ∷ []) others) ∙ sym (append_assoc done full.front (full.last ∷ others)) in
+    ap (λ l. done ++ l ++ others) full.whole ∙ append_assoc done (full.front ++ full.last ∷ []) others
+    ∙ ap (λ l. done ++ l) (append_assoc full.front (full.last ∷ []) others) ∙ sym (append_assoc done full.front (full.last ∷ others)) in
     let small = small_at max (done ++ full.front) full.last others (subst (Small max) (e ∙ apart) (all_small d max fits 0 0 input)) in
     let count = length-append full.front (full.last ∷ []) in
     rw full.whole (omega (arith, small, full.few, full.light, weight-last full.front full.last, count))

@@ -4,7 +4,6 @@ use Rattle.pads_ast.specs.declared.decl.Ast.{Ast}
 use Rattle.pads_grammar.specs.Kinds.{Tokens}
 use Rattle.pads_lex.proofs.CutLaws.{one_cut, one_break, no_cut_breaks}
 use Rattle.pads_lex.specs.declared.fault.LexKind.{LexKind}
-use Rattle.pads_lex.specs.declared.token.Token.{Token}
 use Rattle.pads_rules.specs.declared.fault.CheckFault.{CheckFault}
 use Rattle.pads_rules.specs.Faults.{breaks, least}
 use Rattle.pads_rules.specs.Violations.{violations}

@@ -2,11 +2,11 @@
 use Rattle.std.proofs.Common.{◌≡◌, ℕ, ◌+◌, ◌-◌, ◌^◌, ◌<◌, ◌≤◌, min, Bool, true, false, Option, None, Some, IfSome, Result, Err, List, [], ◌∷◌, ◌++◌, length, take, map, refl, sym, ap, subst, ◌∙◌, inl, inr, append_assoc, append-nil, arith}
 use Rattle.std.proofs.lemmas.Bool.{true≢false}
 use Rattle.std.proofs.lemmas.List.{length-append, length-map, map-append}
-use Rattle.std.specs.Io.KnownBytes.{Appends, Consumes, IsAtEnd, Keeps}
+use Rattle.std.specs.Io.KnownBytes.{Appends, Consumes, Keeps}
 use Rattle.std.proofs.KnownBytes.{Appends-trans, Consumes-nil, Consumes-trans, Consumes-kept}
 use Rattle.pads_ahead.proofs.Ahead.{little_ahead}
-use Rattle.pads_ahead.specs.Ahead.{BeginsWith, IsBatch, IsFull, all_have_bytes, most_ahead, weight}
-use Rattle.pads_frame.specs.Cutting.{closed, cuts, records}
+use Rattle.pads_ahead.specs.Ahead.{BeginsWith, IsBatch, all_have_bytes, weight}
+use Rattle.pads_frame.specs.Cutting.{closed, records}
 use Rattle.pads_frame.specs.Fits.{FitsLimit}
 use Rattle.pads_frame.proofs.CuttingLemmas.{cuts_nil}
 use Rattle.pads_frame.specs.Placed.{moved}
@@ -17,7 +17,7 @@ use Rattle.pads_value.specs.Cuts.{Cut, cut_of_kept}
 use Rattle.pads_value.specs.declared.frame.Kept.{Kept}
 use Rattle.pads_tool.specs.Driving.{IsWaiting, Refills}
 use Rattle.pads_tool.specs.Ends.{Anything, Reads, ReadsToEnd}
-use Rattle.pads_tool.specs.Halting.{Caught, Halts, HaltsAt, HasWritten, IsLittleAhead, IsSized, WroteNear, met}
+use Rattle.pads_tool.specs.Halting.{Caught, Halts, HaltsAt, HasWritten, IsLittleAhead, IsSized, met}
 use Rattle.pads_tool.specs.Outputs.{written_for}
 use Rattle.pads_tool.specs.Progress.{Moment, Progresses}
 use Rattle.pads_tool.specs.declared.stop.Stop.{Stop}
@@ -136,8 +136,8 @@ module _ (out notes : ℕ → Cut → List ℕ) (clean : ℕ → Cut → Bool) w
       let may : MayCome mid.framer false [] = λ e. absurd (true≢false (sym e ∙ still)) in
       let none : rest false mid.framer [] ≡ [] = ap (λ e. rest e mid.framer []) (sym still) ∙ waits.none in
       let all : old.waiting ++ rest false old.framer r.bytes ≡ r.progress.frames ++ mid.waiting =
-          ap (λ l. old.waiting ++ rest false old.framer l) (sym (append-nil r.bytes)) ∙ r.progress.owed false [] may
-          ∙ ap (λ l. r.progress.frames ++ (mid.waiting ++ l)) none ∙ ap (λ l. r.progress.frames ++ l) (append-nil mid.waiting) in
+      ap (λ l. old.waiting ++ rest false old.framer l) (sym (append-nil r.bytes)) ∙ r.progress.owed false [] may
+      ∙ ap (λ l. r.progress.frames ++ (mid.waiting ++ l)) none ∙ ap (λ l. r.progress.frames ++ l) (append-nil mid.waiting) in
       record {
         seen = r.bytes;
         piece = piece;
@@ -188,7 +188,7 @@ module _ (out : ℕ → Cut → List ℕ) (d : Discipline) (max : ℕ) (fits : F
       let input_is : input ≡ (h.seen ++ h.piece) ++ more = h.read in
       let bytes_is : input ≡ h.bytes ++ (h.beyond ++ more) = h.consumed ∙ append_assoc h.bytes h.beyond more in
       let all : records d max (h.seen ++ h.piece ++ more) ≡ h.halts.done ++ h.halts.hand ++ others =
-          ap (records d max) (sym input_is ∙ bytes_is) ∙ sym (start.owed true (h.bytes ++ (h.beyond ++ more))) ∙ e in
+      ap (records d max) (sym input_is ∙ bytes_is) ∙ sym (start.owed true (h.bytes ++ (h.beyond ++ more))) ∙ e in
       let count : length (closed d max h.seen) ≤ length h.halts.done + length h.halts.hand = omega (arith, h.all_met, ap length (start.owed false h.seen)) in
       let near = little_ahead d max h.seen h.piece more h.halts.done h.halts.hand others fits (subst (λ l. all_have_bytes (records d max l) ≡ true) input_is carried) all count h.halts.batch h.small in
       record {
@@ -203,7 +203,7 @@ module _ (out : ℕ → Cut → List ℕ) (d : Discipline) (max : ℕ) (fits : F
       front n b =
           let c = closed d max (take n (h.seen ++ h.piece)) in
           let split : written_for out old.number h.halts.done ≡ written_for out 0 (closed d max (take n (h.seen ++ h.piece))) ++ written_for out (0 + length (closed d max (take n (h.seen ++ h.piece)))) b.0 =
-              ap (λ k. written_for out k h.halts.done) start.number ∙ ap (written_for out 0) b.1 ∙ written_for-append out 0 (closed d max (take n (h.seen ++ h.piece))) b.0 in
+          ap (λ k. written_for out k h.halts.done) start.number ∙ ap (written_for out 0) b.1 ∙ written_for-append out 0 (closed d max (take n (h.seen ++ h.piece))) b.0 in
           let rest = written_for out (0 + length (closed d max (take n (h.seen ++ h.piece)))) b.0 in
           (rest ++ h.halts.wrote.0, subst (Appends o o') (ap (λ l. l ++ h.halts.wrote.0) split ∙ append_assoc _ _ h.halts.wrote.0) h.halts.wrote.1)
 

@@ -1,9 +1,7 @@
 -- From the reading of an input to what `parse` gives, by its ending.
-use Rattle.std.proofs.Common.{◌≡◌, ◌⊎◌, inl, inr, sym, refl, ℕ, Bool, true, false, List, [], Option, None, Some, IfSome, Result, Ok, Err}
-use Rattle.std.proofs.KnownBytes.{Appends-nil}
+use Rattle.std.proofs.Common.{◌≡◌, inl, inr, sym, refl, ℕ, true, false, List, [], Option, IfSome, Result, Ok, Err}
 use Rattle.pads_code.specs.declared.Coding.{Coding}
 use Rattle.pads_io.specs.Faults.{Rose}
-use Rattle.pads_io.specs.Transfer.{AppendsPrefix}
 use Rattle.pads_orders.specs.declared.order.Cutting.{Cutting}
 use Rattle.pads_trans.specs.Modules.{Contents}
 use Rattle.pads_value.specs.Cuts.{Cut}

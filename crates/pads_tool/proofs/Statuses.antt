@@ -1,23 +1,17 @@
 -- From what an order gives to what a run says of its status.
-use Rattle.std.proofs.Common.{◌≡◌, ◌≢◌, ◌↔◌, ◌∙◌, ◌⊎◌, inl, inr, sym, ap, subst, refl, ℕ, ◌^◌, ◌<◌, ◌≤◌, Bool, true, false, List, Option, None, Some, IfSome, length, arith}
-use Rattle.pads_ast.specs.declared.decl.Ast.{Ast}
-use Rattle.pads_code.specs.declared.Coding.{Coding}
+use Rattle.std.proofs.Common.{◌≡◌, ◌≢◌, ◌↔◌, ◌∙◌, inl, inr, sym, subst, refl, ℕ, true, false, List, Option, None, Some, IfSome, arith}
 use Rattle.pads_describe.proofs.AnswerLaws.{not_both, not_undescribed}
-use Rattle.pads_describe.specs.Describing.{Describes}
-use Rattle.pads_describe.specs.Trees.{IsAccepted}
 use Rattle.pads_describe.specs.Verdicts.{IsRefused, IsUndescribed}
 use Rattle.pads_io.specs.Faults.{Rose}
 use Rattle.pads_orders.specs.Orders.{order_of}
-use Rattle.pads_orders.specs.declared.order.Cutting.{Cutting}
 use Rattle.pads_orders.specs.declared.order.Order.{Order}
 use Rattle.pads_orders.specs.declared.order.Order.TheVariants as order
-use Rattle.pads_trans.specs.Modules.{Contents}
 use Rattle.pads_verdicts.specs.declared.verdict.Verdict.{Verdict}
 use Rattle.pads_tool.proofs.Texts.{if-known}
 use Rattle.pads_tool.specs.Describing.{described}
 use Rattle.pads_tool.specs.Endings.{status_of}
 use Rattle.pads_tool.specs.Parsing.{WroteMost}
-use Rattle.pads_tool.specs.Running.{Ordered, IsCheck, CanFinish, Finishes, StopsReading, StopsAtLimit, StopsWriting, StaysNear, StopsEarly, OrderGives, RunGives, HasReason, IsRefusedFor, IsFair, EndsOrWantsMemory, IsBeforeInput}
+use Rattle.pads_tool.specs.Running.{Ordered, CanFinish, Finishes, StopsReading, StopsAtLimit, StopsWriting, StaysNear, StopsEarly, OrderGives, RunGives, HasReason, IsRefusedFor, IsFair, EndsOrWantsMemory, IsBeforeInput}
 use Rattle.pads_tool.specs.declared.ending.Ending.{Ending}
 use Rattle.pads_tool.specs.declared.ending.Ending.TheVariants as ending
 use Rattle.pads_tool.specs.declared.status.Status.{Status}

@@ -1,5 +1,5 @@
 -- From a text that was read to the content of its file.
-use Rattle.std.proofs.Common.{◌≡◌, ℕ, List, Option, None, Some, IfSome, Result, Ok, Err, IfOk, IfErr, subst}
+use Rattle.std.proofs.Common.{ℕ, List, Option, None, Some, IfSome, subst}
 use Rattle.pads_code.specs.declared.Coding.{Coding}
 use Rattle.pads_describe.specs.Verdicts.{IsRefused, IsUndescribed}
 use Rattle.pads_verdicts.specs.declared.verdict.Verdict.{Verdict}

@@ -1,6 +1,6 @@
 -- How far the reading was when a write on `out` failed: which frames were done, which were at hand, and what came before
 -- the last piece that was read.
-use Rattle.std.specs.Prelude.{◌≡◌, ℕ, ◌+◌, ◌-◌, ◌^◌, ◌≤◌, min, Bool, true, false, Option, Some, List, [], ◌++◌, length, take, map}
+use Rattle.std.specs.Prelude.{◌≡◌, ℕ, ◌+◌, ◌-◌, ◌^◌, ◌≤◌, min, Bool, true, false, Option, Some, List, ◌++◌, length, take, map}
 use Rattle.std.specs.Io.KnownBytes.{Appends, Consumes}
 use Rattle.pads_ahead.specs.Ahead.{IsBatch, all_have_bytes, most_ahead, weight}
 use Rattle.pads_frame.specs.Cutting.{closed, records}

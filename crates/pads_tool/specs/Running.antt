@@ -1,5 +1,5 @@
 -- What a run does, by its status: what it read and wrote, and when each answer may come. Each command has its case.
-use Rattle.std.specs.Prelude.{◌≡◌, ◌≢◌, ℕ, ◌^◌, ◌≤◌, ◌⊎◌, Bool, true, List, Option, Some, None, length}
+use Rattle.std.specs.Prelude.{◌≡◌, ℕ, ◌^◌, ◌≤◌, ◌⊎◌, Bool, true, List, Option, Some, None, length}
 use Rattle.std.specs.Io.KnownBytes.{Appends}
 use Rattle.pads_ast.specs.declared.decl.Ast.{Ast}
 use Rattle.pads_describe.specs.Describing.{Describes}

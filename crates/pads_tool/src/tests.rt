@@ -48,14 +48,7 @@ fn never_fails(
     let mut source = SureSource::new(Bytes::from_slice(alloc, input)?, 0);
     let mut out = SureSink::new(alloc, 0, 1000)?;
     let mut notes = SureSink::new(alloc, 0, 1000)?;
-    let status = run(
-        alloc,
-        &words,
-        &mut files,
-        &mut source,
-        &mut out,
-        &mut notes,
-    );
+    let status = run(alloc, &words, &mut files, &mut source, &mut out, &mut notes);
     assert_eq!(rt; status, wanted);
     assert_eq!(rt; out.bytes(), lines);
     assert_eq!(rt; notes.bytes(), b"".as_slice());
@@ -89,14 +82,7 @@ fn ends(
     let mut source = MemSource::new(input, 5, Items::from_slice(alloc, reads)?);
     let mut out = MemSink::new(alloc, 10, Items::from_slice(alloc, writes)?);
     let mut notes = MemSink::new(alloc, 0, Calls::new(alloc));
-    let status = run(
-        alloc,
-        &words,
-        &mut files,
-        &mut source,
-        &mut out,
-        &mut notes,
-    );
+    let status = run(alloc, &words, &mut files, &mut source, &mut out, &mut notes);
     assert_eq!(rt; status, wanted);
     assert_eq!(rt; out.bytes(), out_then);
     assert_eq!(rt; notes.bytes(), notes_then);

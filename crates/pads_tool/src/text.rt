@@ -26,11 +26,7 @@ fn text_in<F: Files>(alloc: Global, files: &mut F, name: &str) -> Result<Bytes, 
 }
 
 /// How many declarations the description in a file has, or how the run ends without it.
-pub(crate) fn accepted_in<F: Files>(
-    alloc: Global,
-    files: &mut F,
-    name: &str,
-) -> Result<u64, Ending>
+pub(crate) fn accepted_in<F: Files>(alloc: Global, files: &mut F, name: &str) -> Result<u64, Ending>
     ensures accepted { IfOk result (IsAcceptedIn (F.content files.old name.now)) }
     ensures stops { IfErr result (StopsBefore (IsRefusedIn (F.content files.old name.now)) (F.faults files.old) (F.faults files.new)) }
 {

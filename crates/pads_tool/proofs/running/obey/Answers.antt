@@ -1,6 +1,4 @@
-use Rattle.std.specs.Prelude.{Err}
-use Rattle.pads_value.specs.declared.memory.Refusal.TheVariants as refusal
-use Rattle.pads_tool.proofs.Statuses.{obeyed, wants-memory, ordered-by}
+use Rattle.pads_tool.proofs.Statuses.{obeyed}
 use Rattle.pads_tool.proofs.running.obey.Goals as goal
 
 pub returns-in-Ok-clause-gives : goal.returns-in-Ok-clause-gives

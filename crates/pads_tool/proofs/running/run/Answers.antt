@@ -88,11 +88,11 @@ returns-clause-memory g c = λ same. at-status c.args.words.now (g.F.Files.conte
 
 pub returns-clause-last_words : goal.returns-clause-last_words
 returns-clause-last_words g c = (
-      c.obey-ending.result,
-      c.close.ensures.status,
-      reason c.args.words.now (g.F.Files.content c.args.files.now) (g.S.Source.left c.args.source.now) (g.S.Source.left c.obey-ending.new.source) (g.K.Sink.written c.args.out.now)
-    (g.K.Sink.written c.obey-ending.new.out) (g.F.Files.faults c.args.files.now) (g.F.Files.faults c.obey-ending.new.files) (g.S.Source.faults c.args.source.now)
-    (g.S.Source.faults c.obey-ending.new.source) (g.K.Sink.faults c.args.out.now) (g.K.Sink.faults c.obey-ending.new.out)
-          c.obey-ending.result c.obey-ending.ensures.gives,
-      c.close.ensures.words,
-    )
+  c.obey-ending.result,
+  c.close.ensures.status,
+  reason c.args.words.now (g.F.Files.content c.args.files.now) (g.S.Source.left c.args.source.now) (g.S.Source.left c.obey-ending.new.source) (g.K.Sink.written c.args.out.now)
+      (g.K.Sink.written c.obey-ending.new.out) (g.F.Files.faults c.args.files.now) (g.F.Files.faults c.obey-ending.new.files) (g.S.Source.faults c.args.source.now)
+      (g.S.Source.faults c.obey-ending.new.source) (g.K.Sink.faults c.args.out.now) (g.K.Sink.faults c.obey-ending.new.out)
+      c.obey-ending.result c.obey-ending.ensures.gives,
+  c.close.ensures.words,
+)
