@@ -7,7 +7,8 @@ ghost use Rattle.std.specs.Prelude.{◌≡◌};
 ghost use Rattle.pads_cli.specs.Codes.{code_of};
 
 use pads_io::{RealFiles, RealSink, RealSource};
-use pads_tool::{Status, Word, Words, run};
+use pads_orders::{Word, Words};
+use pads_tool::{Status, run};
 use pads_value::Memory;
 use std::env;
 use std::io::ErrorKind;

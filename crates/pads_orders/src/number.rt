@@ -1,4 +1,4 @@
-ghost use Rattle.std.specs.Prelude.{IfSome, ◌≡◌, ◌≤◌, ◌^◌, ◌+◌, ◌*◌, ◌-◌};
+ghost use Rattle.std.specs.Prelude.{IfSome, ◌≡◌, ◌<◌, ◌≤◌, ◌^◌, ◌+◌, ◌*◌, ◌-◌};
 ghost use Rattle.std.specs.Char.{is_ascii_digit};
 ghost use Rattle.std.specs.List.{list_all};
 ghost use Rattle.pads_code.specs.Numerals.{is_numeral, number};
@@ -53,6 +53,7 @@ fn number_up_to(greatest: u64, text: &[u8]) -> Option<u64>
 pub(crate) fn number_to(greatest: u64, text: &[u8]) -> Option<u64>
     requires small { greatest ≤ 2 ^ 32 }
     ensures number { result ≡ number_to greatest text.now }
+    ensures some { IfSome result (λ n. 0 < n) }
     ensures within { IfSome result (λ n. n ≤ greatest) }
 {
     if !is_numeral(text) || !leads_well(text) {

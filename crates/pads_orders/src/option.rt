@@ -1,6 +1,7 @@
-ghost use Rattle.std.specs.Prelude.{◌≡◌, ◌≤◌, ◌^◌, codes, length, nat_lt, option_copied, slice_get};
-ghost use Rattle.pads_orders.specs.Options.{is_option, behind, values, coding_of, records_of, records_with};
-ghost use Rattle.pads_orders.specs.Orders.{coding_in, max_in, records_in, cutting_in};
+ghost use Rattle.std.specs.Prelude.{◌≡◌, ◌<◌, ◌≤◌, ◌^◌, codes, length, nat_lt, option_copied, slice_get, IfSome};
+ghost use Rattle.pads_frame.specs.Fits.{FitsLimit};
+ghost use Rattle.pads_orders.specs.Options.{is_option, behind, values, coding_of, records_of, records_with, greatest_max};
+ghost use Rattle.pads_orders.specs.Orders.{coding_in, max_in, records_in, cutting_in, IsWithinLimits};
 
 use crate::number::{hex_byte, number_to};
 use crate::order::Cutting;
@@ -89,6 +90,8 @@ pub(crate) fn coding_in(words: &[Word]) -> Option<Coding>
 /// The most bytes of a record.
 fn max_in(words: &[Word]) -> Option<u64>
     ensures max { result ≡ max_in words.now }
+    ensures some { IfSome result (λ max. 0 < max) }
+    ensures limit { IfSome result (λ max. max ≤ greatest_max) }
 {
     if is_repeated(b"--max=", words) {
         return None;
@@ -103,6 +106,7 @@ fn max_in(words: &[Word]) -> Option<u64>
 fn records_with(max: u64, terminator: Option<&[u8]>, block: Option<&[u8]>) -> Option<Discipline>
     requires small { max ≤ 2 ^ 24 }
     ensures records { result ≡ records_with max (option_copied terminator.entry) (option_copied block.entry) }
+    ensures fits { IfSome result (λ discipline. FitsLimit discipline max) }
 {
     if let Some(digits) = terminator {
         let byte = hex_byte(digits)?;
@@ -116,6 +120,7 @@ fn records_with(max: u64, terminator: Option<&[u8]>, block: Option<&[u8]>) -> Op
 fn records_of(max: u64, value: &[u8]) -> Option<Discipline>
     requires small { max ≤ 2 ^ 24 }
     ensures records { result ≡ records_of max value.now }
+    ensures fits { IfSome result (λ discipline. FitsLimit discipline max) }
 {
     if value == b"nl".as_slice() {
         Some(Discipline::Term(b'\n'))
@@ -132,6 +137,7 @@ fn records_of(max: u64, value: &[u8]) -> Option<Discipline>
 fn records_in(max: u64, words: &[Word]) -> Option<Discipline>
     requires small { max ≤ 2 ^ 24 }
     ensures records { result ≡ records_in max words.now }
+    ensures fits { IfSome result (λ discipline. FitsLimit discipline max) }
 {
     if is_repeated(b"--records=", words) {
         return None;
@@ -145,6 +151,7 @@ fn records_in(max: u64, words: &[Word]) -> Option<Discipline>
 /// How records are cut from the input.
 pub(crate) fn cutting_in(words: &[Word]) -> Option<Cutting>
     ensures cutting { result ≡ cutting_in words.now }
+    ensures limits { IfSome result IsWithinLimits }
 {
     let max = max_in(words)?;
     let discipline = records_in(max, words)?;

@@ -2,7 +2,7 @@ ghost use Rattle.std.specs.Prelude.{◌≡◌, ◌↔◌, Some, None, Err, IfOk,
 ghost use Rattle.std.specs.List.{list_all, list_any};
 ghost use Rattle.std.specs.Option.{is_some};
 ghost use Rattle.pads_orders.specs.Options.{arguments, is_one_of, has_only, is_option, behind};
-ghost use Rattle.pads_orders.specs.Orders.{check_of, parse_of, description_of, order_of};
+ghost use Rattle.pads_orders.specs.Orders.{check_of, parse_of, description_of, order_of, KeepsLimits};
 ghost use Rattle.pads_value.specs.declared.memory.Refusal.TheVariants as refusal;
 
 use crate::option::{behind, coding_in, cutting_in, is_option};
@@ -80,6 +80,7 @@ fn all_for_parse(words: &[Word]) -> bool
 fn check(alloc: Global, words: &[Word]) -> Result<Order, Refusal<Usage>>
     ensures order { IfOk result (λ order. check_of words.now ≡ Some order) }
     ensures usage { (result ≡ Err (refusal.Fault record {})) ↔ (check_of words.now ≡ None) }
+    ensures limits { IfOk result KeepsLimits }
 {
     if !all_for_check(words) {
         return Err(Refusal::Fault(Usage));
@@ -101,6 +102,7 @@ fn check(alloc: Global, words: &[Word]) -> Result<Order, Refusal<Usage>>
 fn parse(alloc: Global, words: &[Word]) -> Result<Order, Refusal<Usage>>
     ensures order { IfOk result (λ order. parse_of words.now ≡ Some order) }
     ensures usage { (result ≡ Err (refusal.Fault record {})) ↔ (parse_of words.now ≡ None) }
+    ensures limits { IfOk result KeepsLimits }
 {
     if !all_for_parse(words) {
         return Err(Refusal::Fault(Usage));
@@ -126,6 +128,7 @@ fn parse(alloc: Global, words: &[Word]) -> Result<Order, Refusal<Usage>>
 pub fn read_order(alloc: Global, words: &Words) -> Result<Order, Refusal<Usage>>
     ensures order { IfOk result (λ order. order_of words.now ≡ Some order) }
     ensures usage { (result ≡ Err (refusal.Fault record {})) ↔ (order_of words.now ≡ None) }
+    ensures limits { IfOk result KeepsLimits }
 {
     let [command, others @ ..] = words.as_slice() else {
         return Err(Refusal::Fault(Usage));

@@ -1,9 +1,5 @@
 -- The lemmas of this crate.
 pub mod Told
-pub mod Joined
-pub mod TakenApart
-pub mod TokenSteps
-pub mod PartSteps
 pub mod Outputs
 pub mod Growing
 pub mod Waiting
@@ -12,6 +8,7 @@ pub mod Progress
 pub mod Blame
 pub mod ReadSteps
 pub mod Driven
-pub mod NarrowModules
-pub mod NarrowScopes
+pub mod Halting
+pub mod Texts
+pub mod Lines
 pub mod Statuses

@@ -1,152 +1,196 @@
--- From the reading of an input to what a run gives, by its status.
-use Rattle.std.proofs.Common.{◌≡◌, ◌≢◌, ◌↔◌, ◌∙◌, ◌⊎◌, inl, inr, sym, ap, subst, refl, ℕ, ◌^◌, ◌<◌, ◌≤◌, Bool, true, false, List, [], ◌++◌, length, take, Option, None, Some, IfSome, Result, Ok, Err, arith}
-use Rattle.std.specs.Option.{option_map}
-use Rattle.std.proofs.KnownBytes.{Appends-nil}
-use Rattle.pads_value.specs.Cuts.{Cut}
+-- From what an order gives to what a run says of its status.
+use Rattle.std.proofs.Common.{◌≡◌, ◌≢◌, ◌↔◌, ◌∙◌, inl, inr, sym, subst, refl, ℕ, true, false, List, Option, None, Some, IfSome, arith}
+use Rattle.pads_describe.proofs.AnswerLaws.{not_both, not_undescribed}
+use Rattle.pads_describe.specs.Verdicts.{IsRefused, IsUndescribed}
 use Rattle.pads_io.specs.Faults.{Rose}
-use Rattle.pads_io.specs.Transfer.{AppendsPrefix}
-use Rattle.pads_tool.specs.declared.ended.Ended.{Ended}
-use Rattle.pads_tool.specs.declared.ended.Ended.TheVariants as ended
+use Rattle.pads_orders.specs.Orders.{order_of}
+use Rattle.pads_orders.specs.declared.order.Order.{Order}
+use Rattle.pads_orders.specs.declared.order.Order.TheVariants as order
+use Rattle.pads_verdicts.specs.declared.verdict.Verdict.{Verdict}
+use Rattle.pads_tool.proofs.Texts.{if-known}
+use Rattle.pads_tool.specs.Describing.{described}
+use Rattle.pads_tool.specs.Endings.{status_of}
+use Rattle.pads_tool.specs.Parsing.{WroteMost}
+use Rattle.pads_tool.specs.Running.{Ordered, CanFinish, Finishes, StopsReading, StopsAtLimit, StopsWriting, StaysNear, StopsEarly, OrderGives, RunGives, HasReason, IsRefusedFor, IsFair, EndsOrWantsMemory, IsBeforeInput}
 use Rattle.pads_tool.specs.declared.ending.Ending.{Ending}
 use Rattle.pads_tool.specs.declared.ending.Ending.TheVariants as ending
-use Rattle.pads_tool.specs.declared.narrow.Narrow.{Narrow}
-use Rattle.pads_tool.specs.declared.order.Order.TheVariants as order
 use Rattle.pads_tool.specs.declared.status.Status.{Status}
 use Rattle.pads_tool.specs.declared.status.Status.TheVariants as status
-use Rattle.pads_tool.specs.declared.stop.Stop.{Stop}
-use Rattle.pads_tool.specs.declared.stop.Stop.TheVariants as stop
-use Rattle.pads_tool.specs.Describing.{Description, line_in, no_notes, is_clean_in, lines_of_input, longest}
-use Rattle.pads_tool.specs.Drives.{DriveGives}
-use Rattle.pads_tool.specs.Endings.{status_of}
-use Rattle.pads_tool.specs.NarrowModule.{described}
-use Rattle.pads_tool.specs.Opening.{OpenGives, accepted}
-use Rattle.pads_tool.specs.Orders.{order_of}
-use Rattle.pads_tool.specs.Running.{AsksFor, IsFair, IsRefused, Reads, EndsOrWantsMemory, IsBeforeInput, ParseGives, RunGives, WroteAll, WroteComplete, WroteMost, WrotePrefix, description_in, ending_of}
-use Rattle.pads_tool.specs.Stopping.{HasSinkCause}
 
-if-known : {A : Type 0} (P Q : A → Type 0) (o : Option A) → ((x : A) → P x → Q x) → IfSome o P → IfSome o Q
-if-known P Q None f h = tt
-if-known P Q (Some x) f h = f x h
-
--- the lines that `parse` writes, and nothing noted
-abbrev Driven : Description → (left left' o o' n n' : Option (List ℕ)) → Result Ended Stop → Type 0
-Driven d left left' o o' n n' r =
-    IfSome left (λ input. DriveGives (line_in d) no_notes (is_clean_in d) lines_of_input longest input left' o o' n n' r)
-
-pub parsed : (d : Description) (left left' o o' n n' : Option (List ℕ)) (source source' out out' notes notes' : ℕ) (r : Result Ended Stop)
-    → IfSome left (λ input. DriveGives (line_in d) no_notes (is_clean_in d) lines_of_input longest input left' o o' n n' r)
-    → (r ≡ Ok ended.ReadFault → Rose source source')
-    → HasSinkCause out out' notes notes' ((number : ℕ) (cut : Cut) → no_notes number cut ≡ []) r
-    → ParseGives d left left' o o' source source' out out' (ending_of r)
-parsed d left left' o o' n n' source source' out out' notes notes' (Ok (ended.Finished true)) h read cause =
-    if-known _ _ left (λ input p. (p.0.out_grows, sym p.1, p.2, p.3)) h
-parsed d left left' o o' n n' source source' out out' notes notes' (Ok (ended.Finished false)) h read cause =
-    if-known _ _ left (λ input p. (p.0.out_grows, sym p.1, p.2, p.3)) h
-parsed d left left' o o' n n' source source' out out' notes notes' (Ok ended.ReadFault) h read cause =
-    (read refl, if-known _ _ left (λ input p. (p.0, p.1, p.2.out_grows)) h)
-parsed d left left' o o' n n' source source' out out' notes notes' (Ok ended.TooLong) h read cause =
-    if-known _ _ left (λ input p. (p.0, p.1.out_grows)) h
-parsed d left left' o o' n n' source source' out out' notes notes' (Err stop.Out) h read cause =
-    (cause.out_failed refl, if-known _ _ left (λ input p. p.out_grows) h)
-parsed d left left' o o' n n' source source' out out' notes notes' (Err stop.Notes) h read cause =
-    absurd (cause.notes_wanted (λ number cut. refl) refl)
-parsed d left left' o o' n n' source source' out out' notes notes' (Err stop.Memory) h read cause =
-    if-known _ _ left (λ input p. p.out_grows) h
-
--- nothing was written
-AppendsPrefix-none : (o : Option (List ℕ)) (lines : List ℕ) → AppendsPrefix o o lines
-AppendsPrefix-none o lines = (0, Appends-nil o)
-
-pub parsed-none : (d : Description) (left left' o : Option (List ℕ)) (source source' out out' : ℕ) → ParseGives d left left' o o source source' out out' ending.Memory
-parsed-none d None left' o source source' out out' = tt
-parsed-none d (Some input) left' o source source' out out' = AppendsPrefix-none o _
-
--- the words asked for a narrow description, and it was read
-asked : (words : List (List ℕ)) (content : List ℕ → Option (List ℕ)) (before now : ℕ) (narrow : Narrow) → OpenGives words content before now (Ok narrow) → AsksFor words content (described narrow)
-asked words content before now narrow h = (h.0, h.1, if-known _ _ (content h.0) (λ bytes e. ap (option_map described) e) h.2)
-
-Asked : (words : List (List ℕ)) (content : List ℕ → Option (List ℕ)) → Type 0
-Asked words content = (name : List ℕ) × (order_of words ≡ Some (order.Parse name))
-
-order-there : (words : List (List ℕ)) (name : List ℕ) → order_of words ≡ Some (order.Parse name) → order_of words ≢ None
-order-there words name e none = let wrong : Some (order.Parse name) ≡ None = sym e ∙ none in cc
-
--- the run after the description was accepted
-pub run-read : (words : List (List ℕ)) (content : List ℕ → Option (List ℕ)) (left left' o o' : Option (List ℕ)) (files files' source source' out out' : ℕ)
-    (narrow : Narrow) (e : Ending) → OpenGives words content files files' (Ok narrow) → ParseGives (described narrow) left left' o o' source source' out out' e
-    → RunGives words content left left' o o' files files' source source' out out' (status_of e)
-run-read words content left left' o o' files files' source source' out out' narrow ending.Done h p = (described narrow, asked words content files files' narrow h, p)
-run-read words content left left' o o' files files' source source' out out' narrow ending.Dirty h p = (described narrow, asked words content files files' narrow h, p)
-run-read words content left left' o o' files files' source source' out out' narrow ending.ReadFault h p = (p.0, (described narrow, asked words content files files' narrow h, p.1))
-run-read words content left left' o o' files files' source source' out out' narrow ending.WriteFault h p = (p.0, (described narrow, asked words content files files' narrow h, p.1))
-run-read words content left left' o o' files files' source source' out out' narrow ending.TooLong h p = (described narrow, asked words content files files' narrow h, p)
-run-read words content left left' o o' files files' source source' out out' narrow ending.Memory h p =
-    (order-there words h.0 h.1, inr (described narrow, asked words content files files' narrow h, p))
-run-read words content left left' o o' files files' source source' out out' narrow ending.Usage h p = absurd p
-run-read words content left left' o o' files files' source source' out out' narrow (ending.Refused verdict) h p = absurd p
-run-read words content left left' o o' files files' source source' out out' narrow ending.FileFault h p = absurd p
-
--- the run that ended before
-pub run-unread : (words : List (List ℕ)) (content : List ℕ → Option (List ℕ)) (left left' o : Option (List ℕ)) (files files' source source' out out' : ℕ) (e : Ending)
-    → OpenGives words content files files' (Err e) → RunGives words content left left' o o files files' source source' out out' (status_of e)
-run-unread words content left left' o files files' source source' out out' ending.Usage h = (h, refl)
-run-unread words content left left' o files files' source source' out out' (ending.Refused verdict) h =
-    ((h.0, h.1, if-known _ _ (content h.0) (λ bytes e. ap (option_map described) e) h.2), refl)
-run-unread words content left left' o files files' source source' out out' ending.FileFault h = (order-there words h.0 h.1, h.2, refl)
-run-unread words content left left' o files files' source source' out out' ending.Memory h = (h, inl refl)
-run-unread words content left left' o files files' source source' out out' ending.Done h = absurd h
-run-unread words content left left' o files files' source source' out out' ending.Dirty h = absurd h
-run-unread words content left left' o files files' source source' out out' ending.ReadFault h = absurd h
-run-unread words content left left' o files files' source source' out out' ending.WriteFault h = absurd h
-run-unread words content left left' o files files' source source' out out' ending.TooLong h = absurd h
-
-same-name : (name other : List ℕ) → Some (order.Parse name) ≡ Some (order.Parse other) → name ≡ other
-same-name name other e = cc
-
-known-at : (P : List ℕ → Type 0) (o : Option (List ℕ)) (x : List ℕ) → o ≡ Some x → IfSome o P → P x
+known-at : {A : Type 0} (P : A → Type 0) (o : Option A) (x : A) → o ≡ Some x → IfSome o P → P x
 known-at P (Some y) x e h = let same : y ≡ x = cc in subst P same h
 known-at P None x e h = cc
 
--- what a run gives at a status that is known
+none-some : (asked : Order) (o : Option Order) → o ≡ Some asked → o ≡ None → ⊥
+none-some asked o h k = let wrong : Some asked ≡ None = sym h ∙ k in cc
+
+-- words that aren't Usage are an order
+pub ordered-by : (Holds : Order → Type 0) (o : Option Order) → o ≢ None → ((asked : Order) → Holds asked) → (asked : Order) × (o ≡ Some asked) × Holds asked
+ordered-by Holds (Some asked) h f = (asked, refl, f asked)
+ordered-by Holds None h f = absurd (h refl)
+
 module _ (words : List (List ℕ)) (content : List ℕ → Option (List ℕ)) (left left' o o' : Option (List ℕ)) (files files' source source' out out' : ℕ) where
-  abbrev Gives : Status → Type 0
-  Gives = RunGives words content left left' o o' files files' source source' out out'
+  abbrev Gives : Order → Ending → Type 0
+  Gives = OrderGives content left left' o o' files files' source source' out out'
 
-  pub gives-at : (s t : Status) → s ≡ t → Gives s → Gives t
-  gives-at s t e h = subst Gives e h
+  abbrev Runs : Ending → Type 0
+  Runs = RunGives words content left left' o o' files files' source source' out out'
 
-  pub usage-when : (s : Status) → Gives s → order_of words ≡ None → s ≡ status.Usage
-  usage-when status.Done h e = absurd (order-there words h.1.0 h.1.1 e)
-  usage-when status.Dirty h e = absurd (order-there words h.1.0 h.1.1 e)
+  -- what the clauses of a run say together, by its status
+  abbrev ByStatus : Status → Type 0
+  ByStatus status.Done = Ordered words (Finishes content left left' o o' true)
+  ByStatus status.Dirty = Ordered words (Finishes content left left' o o' false)
+  ByStatus status.Usage = (order_of words ≡ None) × (o' ≡ o)
+  ByStatus status.Refused = (order_of words ≢ None) × (o' ≡ o)
+  ByStatus status.FileFault = (order_of words ≢ None) × Rose files files' × (o' ≡ o)
+  ByStatus status.ReadFault = Rose source source' × Ordered words (StopsReading content left left' o o')
+  ByStatus status.WriteFault = Rose out out' × Ordered words (StopsWriting content left left' o o') × Ordered words (StaysNear content left left' o o')
+  ByStatus status.Memory = Ordered words (StopsEarly content left left' o o')
+  ByStatus status.TooLong = Ordered words (StopsAtLimit content left left' o o')
+  ByStatus status.Limit = ⊥
+
+  by-order : (asked : Order) (e : Ending) → order_of words ≡ Some asked → Gives asked e → ByStatus (status_of e)
+  by-order (order.Check name coding) ending.Done is p = (order.Check name coding, is, (refl, p))
+  by-order (order.Check name coding) ending.Dirty is p = absurd p
+  by-order (order.Check name coding) ending.Usage is p = absurd p
+  by-order (order.Check name coding) (ending.Refused verdict) is p = (none-some _ _ is, p.1)
+  by-order (order.Check name coding) ending.FileFault is p = (none-some _ _ is, p.0, p.1)
+  by-order (order.Check name coding) ending.ReadFault is p = absurd p
+  by-order (order.Check name coding) ending.WriteFault is p = (p.0, (order.Check name coding, is, p.1), (order.Check name coding, is, tt))
+  by-order (order.Check name coding) ending.Memory is p = (order.Check name coding, is, inl p)
+  by-order (order.Check name coding) ending.TooLong is p = absurd p
+  by-order (order.Parse name coding cutting) ending.Done is p = (order.Parse name coding cutting, is, p)
+  by-order (order.Parse name coding cutting) ending.Dirty is p = (order.Parse name coding cutting, is, p)
+  by-order (order.Parse name coding cutting) ending.Usage is p = absurd p
+  by-order (order.Parse name coding cutting) (ending.Refused verdict) is p = (none-some _ _ is, p.1)
+  by-order (order.Parse name coding cutting) ending.FileFault is p = (none-some _ _ is, p.0, p.1)
+  by-order (order.Parse name coding cutting) ending.ReadFault is p = (p.0, (order.Parse name coding cutting, is, p.1))
+  by-order (order.Parse name coding cutting) ending.WriteFault is p = (
+    p.0,
+    (order.Parse name coding cutting, is, (p.1.0, p.1.1, if-known _ _ left (λ input q. q.0) p.1.2)),
+    (order.Parse name coding cutting, is, (p.1.0, p.1.1, if-known _ _ left (λ input q. q.1) p.1.2)),
+  )
+  by-order (order.Parse name coding cutting) ending.Memory is p = (order.Parse name coding cutting, is, p)
+  by-order (order.Parse name coding cutting) ending.TooLong is p = (order.Parse name coding cutting, is, p)
+
+  by-status : (e : Ending) → Runs e → ByStatus (status_of e)
+  by-status ending.Usage h = h
+  by-status ending.Done h = by-order h.0 ending.Done h.1 h.2
+  by-status ending.Dirty h = by-order h.0 ending.Dirty h.1 h.2
+  by-status (ending.Refused verdict) h = by-order h.0 (ending.Refused verdict) h.1 h.2
+  by-status ending.FileFault h = by-order h.0 ending.FileFault h.1 h.2
+  by-status ending.ReadFault h = by-order h.0 ending.ReadFault h.1 h.2
+  by-status ending.WriteFault h = by-order h.0 ending.WriteFault h.1 h.2
+  by-status ending.Memory h = by-order h.0 ending.Memory h.1 h.2
+  by-status ending.TooLong h = by-order h.0 ending.TooLong h.1 h.2
+
+  -- what a run says of its status, where that is known
+  pub at-status : (e : Ending) (s t : Status) → s ≡ status_of e → s ≡ t → Runs e → ByStatus t
+  at-status e s t is same h = subst ByStatus (sym is ∙ same) (by-status e h)
+
+  usage-when : (s : Status) → ByStatus s → order_of words ≡ None → s ≡ status.Usage
+  usage-when status.Done h e = absurd (none-some h.0 _ h.1 e)
+  usage-when status.Dirty h e = absurd (none-some h.0 _ h.1 e)
   usage-when status.Usage h e = refl
-  usage-when status.Refused h e = absurd (order-there words h.0.0 h.0.1 e)
+  usage-when status.Refused h e = absurd (h.0 e)
   usage-when status.FileFault h e = absurd (h.0 e)
-  usage-when status.ReadFault h e = absurd (order-there words h.1.1.0 h.1.1.1 e)
-  usage-when status.WriteFault h e = absurd (order-there words h.1.1.0 h.1.1.1 e)
-  usage-when status.Memory h e = absurd (h.0 e)
-  usage-when status.TooLong h e = absurd (order-there words h.1.0 h.1.1 e)
+  usage-when status.ReadFault h e = absurd (none-some h.1.0 _ h.1.1 e)
+  usage-when status.WriteFault h e = absurd (none-some h.1.0 _ h.1.1 e)
+  usage-when status.Memory h e = absurd (none-some h.0 _ h.1 e)
+  usage-when status.TooLong h e = absurd (none-some h.0 _ h.1 e)
   usage-when status.Limit h e = absurd h
 
-  pub usage-is : (s : Status) → Gives s → (s ≡ status.Usage) ↔ (order_of words ≡ None)
-  usage-is s h = ((λ e. (gives-at s status.Usage e h).0), usage-when s h)
+  pub usage-is : (e : Ending) (s : Status) → s ≡ status_of e → Runs e → (s ≡ status.Usage) ↔ (order_of words ≡ None)
+  usage-is e s is h = ((λ same. (at-status e s status.Usage is same h).0), (λ none. usage-when s (at-status e s s is refl h) none))
 
-  pub fair : IsFair words content left files files' source source' out out' → (s : Status) → Gives s → EndsOrWantsMemory s
-  fair f status.Done h = tt
-  fair f status.Dirty h = tt
-  fair f status.Memory h = tt
-  fair f status.Usage h = absurd (order-there words f.name f.order h.0)
-  fair f status.Refused h =
-      let same : f.name ≡ h.0.0 = same-name f.name h.0.0 (sym f.order ∙ h.0.1) in
-      absurd (f.accepted (known-at (λ bytes. description_in bytes ≡ None) (content h.0.0) f.bytes (ap content (sym same) ∙ f.there) h.0.2))
-  fair f status.FileFault h = absurd (f.files_well h.1)
-  fair f status.ReadFault h = absurd (f.source_well h.0)
-  fair f status.WriteFault h = absurd (f.out_well h.0)
-  fair f status.TooLong h =
-      let long = known-at (WroteMost left' o o' h.0) left f.input f.known h.2 in
-      absurd (omega (arith, f.short, long.0))
-  fair f status.Limit h = absurd h
+  pub never-limit : (e : Ending) (s : Status) → s ≡ status_of e → Runs e → s ≢ status.Limit
+  never-limit e s is h same = at-status e s status.Limit is same h
 
-  pub nothing : (s : Status) → Gives s → IsBeforeInput s → o' ≡ o
-  nothing s h (inl e) = (gives-at s status.Usage e h).1
-  nothing s h (inr (inl e)) = (gives-at s status.Refused e h).1
-  nothing s h (inr (inr e)) = (gives-at s status.FileFault e h).2
+  pub nothing : (e : Ending) (s : Status) → s ≡ status_of e → Runs e → IsBeforeInput s → o' ≡ o
+  nothing e s is h (inl same) = (at-status e s status.Usage is same h).1
+  nothing e s is h (inr (inl same)) = (at-status e s status.Refused is same h).1
+  nothing e s is h (inr (inr same)) = (at-status e s status.FileFault is same h).2
+
+  same-order : (one other : Order) (o : Option Order) → o ≡ Some one → o ≡ Some other → other ≡ one
+  same-order one other o h k = cc
+
+  not-refused : (asked : Order) (v : Verdict) → CanFinish content left asked → Gives asked (ending.Refused v) → ⊥
+  not-refused (order.Check name coding) v f p = not_both f.0 f.1 v f.3 (known-at (λ text. IsRefused text v) (content name) f.0 f.2 p.0)
+  not-refused (order.Parse name coding cutting) v f p = not_undescribed f.0 coding f.1 v f.4 (known-at (λ text. IsUndescribed text coding v) (content name) f.0 f.3 p.0)
+
+  not-too-long : (asked : Order) → CanFinish content left asked → Gives asked ending.TooLong → ⊥
+  not-too-long (order.Check name coding) f p = p
+  not-too-long (order.Parse name coding cutting) f p =
+      let long = known-at (WroteMost left' o o' (described p.0 cutting)) left f.2 f.5 p.2 in
+      omega (arith, f.6, long.0)
+
+  fair-order : IsFair words content left files files' source source' out out' → (asked : Order) (e : Ending) → CanFinish content left asked → Gives asked e
+      → order_of words ≡ Some asked → EndsOrWantsMemory (status_of e)
+  fair-order f asked ending.Done can h is = tt
+  fair-order f asked ending.Dirty can h is = tt
+  fair-order f asked ending.Memory can h is = tt
+  fair-order f asked ending.Usage can h is = absurd (none-some asked _ is (by-order asked ending.Usage is h).0)
+  fair-order f asked (ending.Refused v) can h is = absurd (not-refused asked v can h)
+  fair-order f asked ending.FileFault can h is = absurd (f.files_well (by-order asked ending.FileFault is h).1)
+  fair-order f asked ending.ReadFault can h is = absurd (f.source_well (by-order asked ending.ReadFault is h).0)
+  fair-order f asked ending.WriteFault can h is = absurd (f.out_well (by-order asked ending.WriteFault is h).0)
+  fair-order f asked ending.TooLong can h is = absurd (not-too-long asked can h)
+
+  fair-ordered : IsFair words content left files files' source source' out out' → (e : Ending) → Ordered words (λ asked. Gives asked e) → EndsOrWantsMemory (status_of e)
+  fair-ordered f e h =
+      let same : f.ordered.0 ≡ h.0 = same-order h.0 f.ordered.0 (order_of words) h.1 f.ordered.1 in
+      fair-order f h.0 e (subst (λ (a : Order). CanFinish content left a) same f.ordered.2) h.2 h.1
+
+  fair-ending : IsFair words content left files files' source source' out out' → (e : Ending) → Runs e → EndsOrWantsMemory (status_of e)
+  fair-ending f ending.Usage h = absurd (none-some f.ordered.0 _ f.ordered.1 h.0)
+  fair-ending f ending.Done h = tt
+  fair-ending f ending.Dirty h = tt
+  fair-ending f ending.Memory h = tt
+  fair-ending f (ending.Refused verdict) h = fair-ordered f (ending.Refused verdict) h
+  fair-ending f ending.FileFault h = fair-ordered f ending.FileFault h
+  fair-ending f ending.ReadFault h = fair-ordered f ending.ReadFault h
+  fair-ending f ending.WriteFault h = fair-ordered f ending.WriteFault h
+  fair-ending f ending.TooLong h = fair-ordered f ending.TooLong h
+
+  pub fair : IsFair words content left files files' source source' out out' → (e : Ending) (s : Status) → s ≡ status_of e → Runs e → EndsOrWantsMemory s
+  fair f e s is h = subst EndsOrWantsMemory (sym is) (fair-ending f e h)
+
+  -- a refusal has the description's verdict
+  reason-order : (asked : Order) (v : Verdict) → Gives asked (ending.Refused v) → IsRefusedFor content v asked
+  reason-order (order.Check name coding) v p = p.0
+  reason-order (order.Parse name coding cutting) v p = p.0
+
+  pub reason : (e : Ending) → Runs e → HasReason words content e
+  reason (ending.Refused v) h = (h.0, h.1, reason-order h.0 v h.2)
+  reason ending.Done h = tt
+  reason ending.Dirty h = tt
+  reason ending.Usage h = tt
+  reason ending.FileFault h = tt
+  reason ending.ReadFault h = tt
+  reason ending.WriteFault h = tt
+  reason ending.Memory h = tt
+  reason ending.TooLong h = tt
+
+-- An order that was given up for want of memory before anything was done.
+pub wants-memory : (content : List ℕ → Option (List ℕ)) (left left' o : Option (List ℕ)) (files files' source source' out out' : ℕ) (asked : Order)
+    → OrderGives content left left' o o files files' source source' out out' asked ending.Memory
+wants-memory content left left' o files files' source source' out out' (order.Check name coding) = refl
+wants-memory content left left' o files files' source source' out out' (order.Parse name coding cutting) = inl refl
+
+-- An order that was done.
+pub obeyed : (words : List (List ℕ)) (content : List ℕ → Option (List ℕ)) (left left' o o' : Option (List ℕ)) (files files' source source' out out' : ℕ) (asked : Order) (e : Ending)
+    → order_of words ≡ Some asked → OrderGives content left left' o o' files files' source source' out out' asked e
+    → RunGives words content left left' o o' files files' source source' out out' e
+obeyed words content left left' o o' files files' source source' out out' asked ending.Done is p = (asked, is, p)
+obeyed words content left left' o o' files files' source source' out out' asked ending.Dirty is p = (asked, is, p)
+obeyed words content left left' o o' files files' source source' out out' asked ending.Usage is p = absurd (never asked p)
+  where
+    never : (asked : Order) → OrderGives content left left' o o' files files' source source' out out' asked ending.Usage → ⊥
+    never (order.Check name coding) p = p
+    never (order.Parse name coding cutting) p = p
+obeyed words content left left' o o' files files' source source' out out' asked (ending.Refused verdict) is p = (asked, is, p)
+obeyed words content left left' o o' files files' source source' out out' asked ending.FileFault is p = (asked, is, p)
+obeyed words content left left' o o' files files' source source' out out' asked ending.ReadFault is p = (asked, is, p)
+obeyed words content left left' o o' files files' source source' out out' asked ending.WriteFault is p = (asked, is, p)
+obeyed words content left left' o o' files files' source source' out out' asked ending.Memory is p = (asked, is, p)
+obeyed words content left left' o o' files files' source source' out out' asked ending.TooLong is p = (asked, is, p)

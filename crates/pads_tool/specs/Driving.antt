@@ -20,6 +20,7 @@ pub record Collects (old new : State) (before after : List Cut) : Type 0 where
   pub input : SameInput old new
   pub reaches : reach new ≡ reach old
   pub later : old.first + length after ≤ new.first + length before
+  pub kept : length before ≤ length after
 
 -- A framer owes no frame for the bytes so far, and has room for more.
 pub record IsWaiting (s : State) : Type 0 where
@@ -34,6 +35,7 @@ pub record Refills (left left' : Option (List ℕ)) (old new : State) (bytes bey
   pub within : reach new ≤ 2 ^ 62
   pub first : new.first ≡ old.first
   pub input : SameInput old new
+  pub few : length bytes + length beyond ≤ 4096
 
 -- One read, by what came of it.
 abbrev pub RefillGives : Option (List ℕ) → Option (List ℕ) → ℕ → ℕ → State → State → Refill → Type 0

@@ -1,9 +1,8 @@
 -- How a run ends: its status, and the words that it leaves on the notes.
 use Rattle.std.specs.Prelude.{ℕ, List, [], ◌∷◌, ◌++◌, codes}
+use Rattle.pads_verdicts.specs.Words.{refusal_line}
 use Rattle.pads_tool.specs.declared.status.Status.{Status}
 use Rattle.pads_tool.specs.declared.status.Status.TheVariants as status
-use Rattle.pads_tool.specs.declared.ending.Verdict.{Verdict}
-use Rattle.pads_tool.specs.declared.ending.Verdict.TheVariants as verdict
 use Rattle.pads_tool.specs.declared.ending.Ending.{Ending}
 use Rattle.pads_tool.specs.declared.ending.Ending.TheVariants as ending
 
@@ -35,10 +34,6 @@ status_of ending.TooLong = status.TooLong
 -- a line of the notes
 abbrev pub line : List ℕ → List ℕ
 line words = words ++ 10 ∷ []
-
--- why a description is refused
-abbrev pub refusal_line : Verdict → List ℕ
-refusal_line verdict.NotBuilt = line (codes "pads: refused: not built yet")
 
 -- the last line on the notes; a run that was done leaves none
 abbrev pub last_line : Ending → List ℕ

@@ -11,6 +11,7 @@ pub(crate) fn close<E: Sink>(ending: Ending, notes: &mut E) -> Status
     ensures status { result ≡ status_of ending }
     ensures words { Leaves (E.written notes.old) (E.written notes.new) (E.faults notes.old) (E.faults notes.new) (last_line ending) }
 {
-    let _ = write_all(notes, ending.last_line());
+    let line = ending.last_line();
+    let _ = write_all(notes, line.as_slice());
     ending.status()
 }

@@ -1,10 +1,12 @@
-ghost use Rattle.std.specs.Prelude.{◌≡◌, ℕ, ◌<◌, ◌≤◌, [], Ok, IfSome};
+ghost use Rattle.std.specs.Prelude.{◌≡◌, ℕ, ◌<◌, ◌≤◌, [], Ok, Err, IfSome};
 ghost use Rattle.pads_frame.specs.Fits.{FitsLimit};
 ghost use Rattle.pads_io.specs.Faults.{Rose};
 ghost use Rattle.pads_value.specs.Cuts.{Cut};
 ghost use Rattle.pads_tool.specs.Drives.{DriveGives};
+ghost use Rattle.pads_tool.specs.Halting.{IsLittleAhead};
 ghost use Rattle.pads_tool.specs.Stopping.{HasSinkCause};
 ghost use Rattle.pads_tool.specs.declared.ended.Ended.TheVariants as ended;
+ghost use Rattle.pads_tool.specs.declared.stop.Stop.TheVariants as stop;
 
 use crate::command::Command;
 use crate::driving::{Batch, Reading};
@@ -33,6 +35,8 @@ pub(crate) fn drive<C: Command, S: Source, K: Sink, E: Sink>(
     ensures gives { IfSome (S.left source.old) (λ input. DriveGives (C.out command.now) (C.notes command.now)
         (C.is_clean command.now) discipline max input (S.left source.new) (K.written out.old) (K.written out.new)
         (E.written notes.old) (E.written notes.new) result) }
+    ensures ahead { result ≡ Err stop.Out → IfSome (S.left source.old) (IsLittleAhead (C.out command.now) discipline max
+        (S.left source.new) (K.written out.old) (K.written out.new)) }
     ensures read_fault { result ≡ Ok ended.ReadFault → Rose (S.faults source.old) (S.faults source.new) }
     ensures later { S.faults source.old ≤ S.faults source.new }
     ensures cause { HasSinkCause (K.faults out.old) (K.faults out.new) (E.faults notes.old) (E.faults notes.new)

@@ -3,6 +3,7 @@ ghost use Rattle.pads_io.specs.Faults.{Rose};
 ghost use Rattle.pads_frame.specs.State.{reach, room};
 ghost use Rattle.pads_value.specs.Cuts.{cut_of_kept};
 ghost use Rattle.pads_tool.specs.Driving.{KeepsNext, Collects, IsWaiting, RefillGives};
+ghost use Rattle.pads_tool.specs.Halting.{IsFilled};
 ghost use Rattle.pads_tool.specs.Writing.{Grows, GrowsPrefix};
 ghost use Rattle.pads_tool.specs.Stopping.{HasSinkCause};
 
@@ -62,7 +63,8 @@ const BATCH_SIZE: u64 = 4_194_304;
 
 impl Batch {
     pub(crate) fn new(alloc: Global) -> Batch
-        ensures { result.frames ≡ [] }
+        ensures frames { result.frames ≡ [] }
+        ensures filled { IsFilled result }
     {
         Batch {
             frames: Frames::new(alloc),
@@ -73,24 +75,33 @@ impl Batch {
     fn is_full(&self) -> bool
         ensures some { result ≡ true → 0 < length self.now.frames }
         ensures bound { result ≡ false → length self.now.frames < 256 }
+        ensures light { result ≡ false → 0 < length self.now.frames → self.now.size < 4194304 }
     {
         self.frames.len() >= MOST_FRAMES || (self.size >= BATCH_SIZE && !self.frames.is_empty())
     }
 
     fn push(&mut self, kept: Kept) -> Result<(), Memory>
+        requires filled { IsFilled self.old }
+        requires few { length self.old.frames < 256 }
+        requires light { 0 < length self.old.frames → self.old.size < 4194304 }
         ensures ok { OnOk result (self.new.frames ≡ self.old.frames ++ kept ∷ []) }
+        ensures filled { OnOk result (IsFilled self.new) }
     {
-        self.size = self.size.saturating_add(kept.bytes.len());
-        self.frames.push(kept)
+        let size = self.size.saturating_add(kept.bytes.len());
+        self.frames.push(kept)?;
+        self.size = size;
+        Ok(())
     }
 }
 
 /// Moves the framer's frames into the batch, until it is full, as `true` says, or the framer wants
 /// more bytes.
 pub(crate) fn collect(alloc: Global, framer: &mut Framer, batch: &mut Batch) -> Result<bool, Memory>
+    requires filled { IsFilled batch.old }
     ensures collects { OnOk result (Collects framer.old framer.new (map cut_of_kept batch.old.frames) (map cut_of_kept batch.new.frames)) }
     ensures full { result ≡ Ok true → 0 < length batch.new.frames }
     ensures waiting { result ≡ Ok false → IsWaiting framer.new }
+    ensures filled { OnOk result (IsFilled batch.new) }
 {
     'frames: while !batch.is_full() {
         match next_kept(alloc, framer)? {

@@ -1,11 +1,4 @@
-use crate::status::Status;
-
-/// Why a description isn't accepted.
-#[derive(Clone, Copy, Debug, PartialEq, Eq)]
-pub(crate) enum Verdict {
-    /// Its form isn't built yet.
-    NotBuilt,
-}
+use pads_verdicts::Verdict;
 
 /// How a run ends, with the reason of a refusal.
 #[derive(Clone, Copy, Debug, PartialEq, Eq)]

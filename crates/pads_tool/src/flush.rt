@@ -1,9 +1,11 @@
 ghost use Rattle.std.specs.Prelude.{◌≡◌, ℕ, ◌+◌, ◌^◌, ◌≤◌, [], length, OnOk, OnErr};
 ghost use Rattle.pads_value.specs.Cuts.{Cut};
 ghost use Rattle.pads_frame.specs.State.{MayCome};
+ghost use Rattle.pads_tool.specs.Halting.{Halts, IsFilled, met};
 ghost use Rattle.pads_tool.specs.Moments.{moment_of};
 ghost use Rattle.pads_tool.specs.Progress.{Progresses, Stops};
 ghost use Rattle.pads_tool.specs.Stopping.{HasSinkCause};
+ghost use Rattle.pads_tool.specs.declared.stop.Stop.TheVariants as stop;
 
 use crate::command::{Command, read_batch};
 use crate::driving::{Batch, Reading, write_output};
@@ -19,15 +21,20 @@ pub(crate) fn flush<C: Command, K: Sink, E: Sink>(
     out: &mut K,
     notes: &mut E,
 ) -> Result<(), Stop>
-    requires { reading.old.number + length reading.old.batch.frames ≤ 2 ^ 62 }
+    requires few { reading.old.number + length reading.old.batch.frames ≤ 2 ^ 62 }
+    requires filled { IsFilled reading.old.batch }
     ensures ok { OnOk result (Progresses (C.out command.now) (C.notes command.now) (C.is_clean command.now)
         (K.written out.old) (K.written out.new) (E.written notes.old) (E.written notes.new)
         (moment_of reading.old) (moment_of reading.new) []) }
     ensures err { OnErr result (Stops (C.out command.now) (C.notes command.now) (C.is_clean command.now)
         (K.written out.old) (K.written out.new) (E.written notes.old) (E.written notes.new)
         (moment_of reading.old) [] (MayCome reading.old.framer)) }
+    ensures met { OnOk result (met (moment_of reading.new) ≡ met (moment_of reading.old)) }
+    ensures filled { OnOk result (IsFilled reading.new.batch) }
     ensures emptied { OnOk result (reading.new.batch.frames ≡ []) }
     ensures framer { reading.new.framer ≡ reading.old.framer }
+    ensures halts { result ≡ Err stop.Out → Halts (C.out command.now) (K.written out.old) (K.written out.new)
+        (moment_of reading.old) [] (MayCome reading.old.framer) }
     ensures cause { HasSinkCause (K.faults out.old) (K.faults out.new) (E.faults notes.old) (E.faults notes.new)
         ((number : ℕ) (cut : Cut) → C.notes command.now number cut ≡ []) result }
 {

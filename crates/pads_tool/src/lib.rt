@@ -2,6 +2,7 @@
 //! writes, and how a run ends.
 #![tactic(auto)]
 
+mod check;
 mod close;
 mod command;
 mod description;
@@ -12,29 +13,19 @@ mod ending;
 mod files;
 mod finish;
 mod flush;
-mod form;
-mod narrow;
-mod narrow_module;
-mod open;
-mod order;
 mod output;
 mod parse;
 mod pump;
-mod reading;
 mod refill;
 mod running;
 mod source;
 mod status;
 mod stop;
-mod tokens;
-mod word;
+mod text;
 mod words_of;
 
-pub use order::{Order, Usage};
-pub use reading::read_order;
 pub use running::run;
 pub use status::Status;
-pub use word::{Word, Words};
 
 #[cfg(test)]
 mod tests;

@@ -1,29 +1,42 @@
 ghost use Rattle.std.specs.Prelude.{◌≡◌, ◌≤◌, ◌++◌, ◌&&◌, length, OnOk};
+ghost use Rattle.pads_orders.specs.Orders.{IsWithinLimits};
+ghost use Rattle.pads_tool.specs.Describing.{described};
+ghost use Rattle.pads_tool.specs.Parsing.{LinesGive, ParseGives, ending_of};
+ghost use Rattle.pads_trans.specs.Modules.{contents};
 ghost use Rattle.pads_value.specs.Header.{is_ok_class};
 ghost use Rattle.pads_value.specs.declared.descriptor.Pd.{out-Pd};
 
 use crate::command::Command;
+use crate::drive::drive;
+use crate::ended::Ended;
+use crate::ending::Ending;
 use crate::output::Output;
+use crate::stop::Stop;
+use crate::text::described_in;
 use pads_calc::Module;
+use pads_code::Coding;
+use pads_io::{Calls, Files, MemSink, Sink, Source};
 use pads_json::record_line;
+use pads_orders::Cutting;
 use pads_value::{Class, Frame, Memory, Row};
 use pads_walk::walk;
 use std::alloc::Global;
 
 /// The command that writes one line for each record.
 #[derive(Drop)]
-pub(crate) struct Parse {
+pub(crate) struct Lines {
     pub(crate) module: Module,
 }
 
-impl Command for Parse {
-    ghost use Rattle.pads_tool.specs.Describing.{description_of, line_in, no_notes, is_clean_in};
+impl Command for Lines {
+    ghost use Rattle.pads_tool.specs.Describing.{line_in, no_notes, is_clean_in};
+    ghost use Rattle.pads_trans.specs.Modules.{contents};
 
-    ghost out = { λ parse. line_in (description_of parse.module) };
+    ghost out = { λ lines. line_in (contents lines.module) };
 
     ghost notes = { λ _. no_notes };
 
-    ghost is_clean = { λ parse. is_clean_in (description_of parse.module) };
+    ghost is_clean = { λ lines. is_clean_in (contents lines.module) };
 
     fn add(
         &self,
@@ -59,4 +72,57 @@ fn put(output: &mut Output, line: &[u8], clean: bool) -> Result<(), Memory>
     output.out.extend_from_slice(line)?;
     output.clean = output.clean && clean;
     Ok(())
+}
+
+/// How a run ends that came so far in the reading of its input.
+fn ending_of(outcome: Result<Ended, Stop>) -> Ending
+    ensures ending { result ≡ ending_of outcome }
+{
+    match outcome {
+        Ok(Ended::Finished(true)) => Ending::Done,
+        Ok(Ended::Finished(false)) => Ending::Dirty,
+        Ok(Ended::ReadFault) => Ending::ReadFault,
+        Ok(Ended::TooLong) => Ending::TooLong,
+        Err(Stop::Out | Stop::Notes) => Ending::WriteFault,
+        Err(Stop::Memory) => Ending::Memory,
+    }
+}
+
+/// Writes one line for each record of the source. While it reads, nothing is noted, and so the notes
+/// of the run aren't handed in.
+fn write_lines<S: Source, K: Sink>(
+    alloc: Global,
+    lines: &Lines,
+    cutting: Cutting,
+    source: &mut S,
+    out: &mut K,
+) -> Ending
+    requires limits { IsWithinLimits cutting }
+    ensures gives { LinesGive (described (contents lines.now.module) cutting) (S.left source.old) (S.left source.new)
+        (K.written out.old) (K.written out.new) (S.faults source.old) (S.faults source.new) (K.faults out.old) (K.faults out.new) result }
+{
+    let mut unused = MemSink::new(alloc, 0, Calls::new(alloc));
+    let Cutting { discipline, max } = cutting;
+    ending_of(drive(lines, alloc, discipline, max, source, out, &mut unused))
+}
+
+/// Writes one line for each record of the source, by the description in a file.
+pub(crate) fn parse<F: Files, S: Source, K: Sink>(
+    alloc: Global,
+    name: &str,
+    coding: Coding,
+    cutting: Cutting,
+    files: &mut F,
+    source: &mut S,
+    out: &mut K,
+) -> Ending
+    requires limits { IsWithinLimits cutting }
+    ensures gives { ParseGives (F.content files.old name.now) coding cutting (S.left source.old) (S.left source.new)
+        (K.written out.old) (K.written out.new) (F.faults files.old) (F.faults files.new)
+        (S.faults source.old) (S.faults source.new) (K.faults out.old) (K.faults out.new) result }
+{
+    match described_in(alloc, files, name, coding) {
+        Ok(module) => write_lines(alloc, &Lines { module }, cutting, source, out),
+        Err(ending) => ending,
+    }
 }

@@ -1,9 +1,11 @@
-ghost use Rattle.std.specs.Prelude.{◌≡◌, ℕ, ◌+◌, ◌^◌, ◌≤◌, [], false, length, IfOk, OnOk, OnErr};
+ghost use Rattle.std.specs.Prelude.{◌≡◌, ℕ, ◌+◌, ◌^◌, ◌≤◌, [], false, length, IfOk, OnOk, OnErr, Err};
 ghost use Rattle.pads_value.specs.Cuts.{Cut};
-ghost use Rattle.pads_frame.specs.State.{reach};
-ghost use Rattle.pads_tool.specs.Ends.{ReadsToEnd, StopsAt};
+ghost use Rattle.pads_frame.specs.State.{reach, rest};
+ghost use Rattle.pads_tool.specs.Ends.{Anything, ReadsToEnd, StopsAt};
+ghost use Rattle.pads_tool.specs.Halting.{Caught, HaltsAt, IsFilled};
 ghost use Rattle.pads_tool.specs.Moments.{moment_of};
 ghost use Rattle.pads_tool.specs.Stopping.{HasSinkCause};
+ghost use Rattle.pads_tool.specs.declared.stop.Stop.TheVariants as stop;
 
 use crate::command::Command;
 use crate::driving::{Reading, refill};
@@ -26,11 +28,17 @@ pub(crate) fn read_to_end<C: Command, S: Source, K: Sink, E: Sink>(
     requires small { reading.old.number + length reading.old.batch.frames ≤ reading.old.framer.first }
     requires within { reach reading.old.framer ≤ 2 ^ 62 }
     requires open { reading.old.framer.ended ≡ false }
+    requires filled { IsFilled reading.old.batch }
+    requires fresh { rest false reading.old.framer [] ≡ [] }
     ensures ok { IfOk result (ReadsToEnd (C.out command.now) (C.notes command.now) (C.is_clean command.now)
         (S.left source.old) (S.left source.new) (K.written out.old) (K.written out.new)
         (E.written notes.old) (E.written notes.new) (S.faults source.old) (S.faults source.new)
         (moment_of reading.old) (moment_of reading.new)) }
     ensures within { OnOk result (reach reading.new.framer ≤ 2 ^ 62) }
+    ensures filled { OnOk result (IsFilled reading.new.batch) }
+    ensures caught { OnOk result (Caught (S.left source.old) (S.left source.new) (moment_of reading.old) (moment_of reading.new)) }
+    ensures halts { result ≡ Err stop.Out → HaltsAt (C.out command.now) (S.left source.old) (S.left source.new)
+        (K.written out.old) (K.written out.new) (moment_of reading.old) Anything }
     ensures err { OnErr result (StopsAt (C.out command.now) (C.notes command.now) (C.is_clean command.now)
         (S.left source.old) (S.left source.new) (K.written out.old) (K.written out.new)
         (E.written notes.old) (E.written notes.new) (moment_of reading.old)) }

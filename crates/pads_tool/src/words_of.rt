@@ -1,8 +1,9 @@
-ghost use Rattle.std.specs.Prelude.{◌≡◌};
-ghost use Rattle.pads_tool.specs.Endings.{exit_status, status_of, refusal_line, last_line};
+ghost use Rattle.std.specs.Prelude.{◌≡◌, ◌≤◌, length};
+ghost use Rattle.pads_tool.specs.Endings.{exit_status, status_of, last_line};
 
-use crate::ending::{Ending, Verdict};
+use crate::ending::Ending;
 use crate::status::Status;
+use pads_verdicts::{Line, put};
 
 impl Status {
     /// The exit status of the process, from 0 for `Done` to 9 for `Limit`.
@@ -13,15 +14,14 @@ impl Status {
     }
 }
 
-impl Verdict {
-    /// The line that tells it.
-    fn line(self) -> &'static [u8]
-        ensures line { result.now ≡ refusal_line self }
-    {
-        match self {
-            Verdict::NotBuilt => b"pads: refused: not built yet\n",
-        }
-    }
+/// A line with these words.
+fn line_of(words: &[u8]) -> Line
+    requires { length words.now ≤ 128 }
+    ensures line { result.items ≡ words.now }
+{
+    let mut line = Line::new();
+    put(&mut line, words);
+    line
 }
 
 impl Ending {
@@ -41,21 +41,21 @@ impl Ending {
         }
     }
 
-    /// The last line on the notes, which is empty where the run was done.
-    pub(crate) fn last_line(self) -> &'static [u8]
-        ensures line { result.now ≡ last_line self }
+    /// The last line on the notes, which is empty where the run was done. It takes no memory.
+    pub(crate) fn last_line(self) -> Line
+        ensures line { result.items ≡ last_line self }
     {
         match self {
-            Ending::Done | Ending::Dirty => b"",
-            Ending::Usage => {
-                b"pads: usage: pads check|parse|print|summary|query|selftest WORDS OPTIONS\n"
-            }
+            Ending::Done | Ending::Dirty => line_of(b""),
+            Ending::Usage => line_of(
+                b"pads: usage: pads check|parse|print|summary|query|selftest WORDS OPTIONS\n",
+            ),
             Ending::Refused(verdict) => verdict.line(),
-            Ending::FileFault => b"pads: file fault\n",
-            Ending::ReadFault => b"pads: read fault\n",
-            Ending::WriteFault => b"pads: write fault\n",
-            Ending::Memory => b"pads: out of memory\n",
-            Ending::TooLong => b"pads: input too long\n",
+            Ending::FileFault => line_of(b"pads: file fault\n"),
+            Ending::ReadFault => line_of(b"pads: read fault\n"),
+            Ending::WriteFault => line_of(b"pads: write fault\n"),
+            Ending::Memory => line_of(b"pads: out of memory\n"),
+            Ending::TooLong => line_of(b"pads: input too long\n"),
         }
     }
 }

@@ -4,7 +4,7 @@
 mod line;
 mod verdict;
 
-pub use line::Line;
+pub use line::{Line, put, put_number};
 pub use verdict::Verdict;
 
 #[cfg(test)]

@@ -7,11 +7,11 @@ use arrayvec::ArrayVec;
 use itoa::Buffer;
 use pads_lex::LexKind;
 
-/// A line of the notes.
+/// A line that takes no memory.
 pub type Line = ArrayVec<u8, 128>;
 
 /// Puts words behind what stands there.
-fn put(line: &mut Line, words: &[u8])
+pub fn put(line: &mut Line, words: &[u8])
     requires room { array_vec_len line.old + length words.now ≤ 128 }
     ensures put { line.new.items ≡ line.old.items ++ words.now }
     ensures grown { array_vec_len line.new ≡ array_vec_len line.old + length words.now }
@@ -22,7 +22,7 @@ fn put(line: &mut Line, words: &[u8])
 }
 
 /// Puts a number in decimal digits behind what stands there.
-fn put_number(line: &mut Line, number: u64)
+pub fn put_number(line: &mut Line, number: u64)
     requires room { array_vec_len line.old + 20 ≤ 128 }
     ensures put { line.new.items ≡ line.old.items ++ decimal number }
     ensures grown { array_vec_len line.new ≤ array_vec_len line.old + 20 }
@@ -78,6 +78,7 @@ fn put_reason(line: &mut Line, verdict: Verdict)
             put_place(line, b"description rule ", u64::from(rule));
             put_place(line, b" at byte ", at);
         }
+        Verdict::NoModule => put(line, b"description has no module"),
     }
 }
 

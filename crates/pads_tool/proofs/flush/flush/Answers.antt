@@ -1,4 +1,5 @@
 use Rattle.pads_tool.proofs.Progress.{stops-unwritten, stops-waiting, written_for-nothing}
+use Rattle.pads_tool.proofs.Halting.{halts-hand}
 use Rattle.pads_tool.proofs.Blame.{cause-weaker}
 use Rattle.pads_tool.proofs.flush.flush.Goals as goal
 
@@ -7,6 +8,9 @@ returns-in_default-clause-err g c = stops-unwritten _ _ _ _ _ _
 
 pub returns-in-Err-clause-err : goal.returns-in-Err-clause-err
 returns-in-Err-clause-err g c = stops-waiting _ _ _ _ _ _ _ _ c.in-Ok.output (rw c.as_slice-frames.ensures.items at c.in-Ok.ensures.output) c.in-Err.ensures.err
+
+pub returns-in-Err-clause-halts : goal.returns-in-Err-clause-halts
+returns-in-Err-clause-halts g c = λ e. halts-hand _ _ _ _ _ c.requires.filled.batch c.in-Err.ensures.err.out_grows
 
 pub returns-in-Err-clause-cause : goal.returns-in-Err-clause-cause
 returns-in-Err-clause-cause g c =

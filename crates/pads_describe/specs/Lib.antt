@@ -1,0 +1,4 @@
+pub mod Answers
+pub mod Describing
+pub mod Trees
+pub mod Verdicts

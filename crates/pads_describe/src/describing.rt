@@ -1,0 +1,30 @@
+//! What an accepted text describes.
+
+ghost use Rattle.std.specs.Prelude.{IfOk};
+ghost use Rattle.pads_describe.specs.Answers.{OnFault};
+ghost use Rattle.pads_describe.specs.Describing.{Describes};
+ghost use Rattle.pads_describe.specs.Verdicts.{IsUndescribed};
+ghost use Rattle.pads_trans.specs.Modules.{contents};
+
+use crate::accepting::checked;
+use crate::reading::tree_in;
+use pads_calc::Module;
+use pads_code::Coding;
+use pads_trans::translate;
+use pads_value::Refusal;
+use pads_verdicts::Verdict;
+use std::alloc::Global;
+
+/// The module of an accepted text whose data is in this coding, or why there is none.
+pub fn describe(alloc: Global, text: &[u8], coding: Coding) -> Result<Module, Refusal<Verdict>>
+    ensures described { IfOk result (λ made. Describes text.now coding (contents made)) }
+    ensures refused { OnFault result (IsUndescribed text.now coding) }
+{
+    let tree = tree_in(alloc, text)?;
+    let checked = checked(alloc, text, &tree)?;
+    match translate(alloc, &checked.description, coding) {
+        Ok(made) => Ok(made),
+        Err(Refusal::Fault(_)) => Err(Refusal::Fault(Verdict::NoModule)),
+        Err(Refusal::Memory) => Err(Refusal::Memory),
+    }
+}

@@ -1,0 +1,24 @@
+//! What the rules of descriptions say of every text.
+
+ghost use Rattle.std.specs.Prelude.{◌≡◌, ℕ, List};
+ghost use Rattle.pads_ast.specs.declared.decl.Ast.{Ast};
+ghost use Rattle.pads_describe.specs.Trees.{IsAccepted};
+ghost use Rattle.pads_code.specs.declared.Coding.{Coding};
+ghost use Rattle.pads_describe.specs.Describing.{Describes};
+ghost use Rattle.pads_describe.specs.Verdicts.{IsRefused, IsUndescribed};
+ghost use Rattle.pads_trans.specs.Modules.{Contents};
+ghost use Rattle.pads_verdicts.specs.declared.verdict.Verdict.{Verdict};
+
+/// Each text has at most one answer: it is accepted with one tree, or it is refused for one reason.
+pub fn each_text_has_one_answer()
+    ensures trees { (text : List ℕ) (one other : Ast) → IsAccepted text one → IsAccepted text other → one ≡ other }
+    ensures verdicts { (text : List ℕ) (one other : Verdict) → IsRefused text one → IsRefused text other → one ≡ other }
+    ensures not_both { (text : List ℕ) (tree : Ast) (verdict : Verdict) → IsAccepted text tree → IsRefused text verdict → ⊥ }
+{}
+
+/// In each coding a text describes at most one module, or it describes none.
+pub fn each_text_describes_one_module()
+    ensures modules { (text : List ℕ) (coding : Coding) (one other : Contents) → Describes text coding one → Describes text coding other → one ≡ other }
+    ensures not_both { (text : List ℕ) (coding : Coding) (made : Contents) (verdict : Verdict) → Describes text coding made
+        → IsUndescribed text coding verdict → ⊥ }
+{}

@@ -1,0 +1,87 @@
+-- What the command `parse` does: it writes a line for each record of an input. What source and sink don't tell, nothing
+-- is said of.
+use Rattle.std.specs.Prelude.{◌≡◌, ℕ, ◌^◌, ◌<◌, ◌≤◌, ◌⊎◌, Bool, true, false, List, Option, Some, Result, Ok, Err, IfSome, length, take}
+use Rattle.std.specs.Io.KnownBytes.{Appends, Consumes, IsAtEnd}
+use Rattle.pads_code.specs.declared.Coding.{Coding}
+use Rattle.pads_io.specs.Faults.{Rose}
+use Rattle.pads_io.specs.Transfer.{AppendsPrefix}
+use Rattle.pads_orders.specs.declared.order.Cutting.{Cutting}
+use Rattle.pads_trans.specs.Modules.{Contents}
+use Rattle.pads_tool.specs.Describing.{Description, described, all_clean, complete_frames_of, frames_of, line_in, lines_for}
+use Rattle.pads_tool.specs.Halting.{IsLittleAhead}
+use Rattle.pads_tool.specs.Texts.{IsDescribedIn, IsUndescribedIn}
+use Rattle.pads_tool.specs.declared.ended.Ended.{Ended}
+use Rattle.pads_tool.specs.declared.ended.Ended.TheVariants as ended
+use Rattle.pads_tool.specs.declared.ending.Ending.{Ending}
+use Rattle.pads_tool.specs.declared.ending.Ending.TheVariants as ending
+use Rattle.pads_tool.specs.declared.stop.Stop.{Stop}
+use Rattle.pads_tool.specs.declared.stop.Stop.TheVariants as stop
+
+-- What was written on `out`, which held the bytes `o` and now holds `o'`, for an input of which `left'` is left.
+module _ (left' o o' : Option (List ℕ)) where
+  -- a line for each record of an input of at most 2^62 bytes, and the source is at its end; the records are clean, or some
+  -- one isn't
+  abbrev pub WroteAll : Bool → Description → List ℕ → Type 0
+  WroteAll clean d input = Appends o o' (lines_for d (frames_of d input)) × (all_clean d (frames_of d input) ≡ clean) × (length input ≤ 2 ^ 62) × IsAtEnd left'
+
+  -- a line for each record that the bytes read complete
+  abbrev pub WroteComplete : Description → List ℕ → Type 0
+  WroteComplete d input = (bytes : List ℕ) × Consumes (Some input) left' bytes × Appends o o' (lines_for d (complete_frames_of d bytes))
+
+  -- a line for each record that the first 2^62 bytes of a longer input complete
+  abbrev pub WroteMost : Description → List ℕ → Type 0
+  WroteMost d input = (2 ^ 62 < length input) × Appends o o' (lines_for d (complete_frames_of d (take (2 ^ 62) input)))
+
+  -- a prefix of the lines for all records
+  abbrev pub WrotePrefix : Description → List ℕ → Type 0
+  WrotePrefix d input = AppendsPrefix o o' (lines_for d (frames_of d input))
+
+  -- and where no frame is too long or broken, little more was read than was written for
+  abbrev pub ReadLittleAhead : Description → List ℕ → Type 0
+  ReadLittleAhead d input = IsLittleAhead (line_in d.made) d.cutting.discipline d.cutting.max left' o o' input
+
+  abbrev pub WroteSome : Description → List ℕ → Type 0
+  WroteSome d input = WrotePrefix d input × ReadLittleAhead d input
+
+-- how a run ends that came so far in the reading of its input
+abbrev pub ending_of : Result Ended Stop → Ending
+ending_of (Ok (ended.Finished true)) = ending.Done
+ending_of (Ok (ended.Finished false)) = ending.Dirty
+ending_of (Ok ended.ReadFault) = ending.ReadFault
+ending_of (Ok ended.TooLong) = ending.TooLong
+ending_of (Err stop.Out) = ending.WriteFault
+ending_of (Err stop.Notes) = ending.WriteFault
+ending_of (Err stop.Memory) = ending.Memory
+
+-- The reading of an input by a description, by the ending, over what the source and `out` told, and their counts of
+-- failures, before and after.
+module _ (d : Description) (left left' o o' : Option (List ℕ)) (source source' out out' : ℕ) where
+  abbrev pub LinesGive : Ending → Type 0
+  LinesGive ending.Done = IfSome left (WroteAll left' o o' true d)
+  LinesGive ending.Dirty = IfSome left (WroteAll left' o o' false d)
+  LinesGive ending.ReadFault = Rose source source' × IfSome left (WroteComplete left' o o' d)
+  LinesGive ending.WriteFault = Rose out out' × IfSome left (WroteSome left' o o' d)
+  LinesGive ending.TooLong = IfSome left (WroteMost left' o o' d)
+  LinesGive ending.Memory = IfSome left (WrotePrefix left' o o' d)
+  LinesGive ending.Usage = ⊥
+  LinesGive (ending.Refused verdict) = ⊥
+  LinesGive ending.FileFault = ⊥
+
+-- The text in a file describes something, and by it and an input that is known this was written.
+module _ (content : Option (List ℕ)) (coding : Coding) (cutting : Cutting) (left : Option (List ℕ)) where
+  abbrev pub Reads : (Description → List ℕ → Type 0) → Type 0
+  Reads Wrote = (made : Contents) × IsDescribedIn content coding made × IfSome left (Wrote (described made cutting))
+
+  -- By the ending, over what `out` and the source told, and the counts of failures of files, source and `out`, before
+  -- and after.
+  module _ (left' o o' : Option (List ℕ)) (files files' source source' out out' : ℕ) where
+    abbrev pub ParseGives : Ending → Type 0
+    ParseGives ending.Done = Reads (WroteAll left' o o' true)
+    ParseGives ending.Dirty = Reads (WroteAll left' o o' false)
+    ParseGives (ending.Refused verdict) = IsUndescribedIn content coding verdict × (o' ≡ o)
+    ParseGives ending.FileFault = Rose files files' × (o' ≡ o)
+    ParseGives ending.ReadFault = Rose source source' × Reads (WroteComplete left' o o')
+    ParseGives ending.WriteFault = Rose out out' × Reads (WroteSome left' o o')
+    ParseGives ending.TooLong = Reads (WroteMost left' o o')
+    ParseGives ending.Memory = (o' ≡ o) ⊎ Reads (WrotePrefix left' o o')
+    ParseGives ending.Usage = ⊥

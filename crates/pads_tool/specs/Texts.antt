@@ -1,0 +1,42 @@
+-- The text in a description's file, where the file's content is known, and what is made of it.
+use Rattle.std.specs.Prelude.{◌≡◌, ℕ, List, Option, IfSome}
+use Rattle.pads_code.specs.declared.Coding.{Coding}
+use Rattle.pads_describe.specs.Answers.{IsAcceptedWith}
+use Rattle.pads_describe.specs.Describing.{Describes}
+use Rattle.pads_describe.specs.Verdicts.{IsRefused, IsUndescribed}
+use Rattle.pads_io.specs.Faults.{Rose}
+use Rattle.pads_trans.specs.Modules.{Contents}
+use Rattle.pads_verdicts.specs.declared.verdict.Verdict.{Verdict}
+use Rattle.pads_tool.specs.declared.ending.Ending.{Ending}
+use Rattle.pads_tool.specs.declared.ending.Ending.TheVariants as ending
+
+abbrev pub IsTextIn : Option (List ℕ) → List ℕ → Type 0
+IsTextIn content text = IfSome content (λ bytes. text ≡ bytes)
+
+-- It is accepted, and has so many declarations.
+abbrev pub IsAcceptedIn : Option (List ℕ) → ℕ → Type 0
+IsAcceptedIn content count = IfSome content (λ text. IsAcceptedWith text count)
+
+-- It describes this module.
+abbrev pub IsDescribedIn : Option (List ℕ) → Coding → Contents → Type 0
+IsDescribedIn content coding made = IfSome content (λ text. Describes text coding made)
+
+-- It is refused for this reason.
+abbrev pub IsRefusedIn : Option (List ℕ) → Verdict → Type 0
+IsRefusedIn content verdict = IfSome content (λ text. IsRefused text verdict)
+
+abbrev pub IsUndescribedIn : Option (List ℕ) → Coding → Verdict → Type 0
+IsUndescribedIn content coding verdict = IfSome content (λ text. IsUndescribed text coding verdict)
+
+-- The run ends so before a description is there: its text is refused, its file can't be read, or there is no memory.
+-- The numbers are the files' count of failures before and after.
+abbrev pub StopsBefore : (Verdict → Type 0) → ℕ → ℕ → Ending → Type 0
+StopsBefore Refuses before now (ending.Refused verdict) = Refuses verdict
+StopsBefore Refuses before now ending.FileFault = Rose before now
+StopsBefore Refuses before now ending.Memory = Unit {0}
+StopsBefore Refuses before now ending.Done = ⊥
+StopsBefore Refuses before now ending.Dirty = ⊥
+StopsBefore Refuses before now ending.Usage = ⊥
+StopsBefore Refuses before now ending.ReadFault = ⊥
+StopsBefore Refuses before now ending.WriteFault = ⊥
+StopsBefore Refuses before now ending.TooLong = ⊥

@@ -1,0 +1,40 @@
+ghost use Rattle.std.specs.Prelude.{◌≡◌, IfOk, OnOk, OnErr};
+ghost use Rattle.pads_tool.specs.Checking.{CheckGives, accepted_line};
+
+use crate::ending::Ending;
+use crate::text::accepted_in;
+use pads_io::{Files, Sink, write_all};
+use pads_verdicts::{Line, put, put_number};
+use std::alloc::Global;
+
+/// The line that tells of so many declarations.
+fn accepted_line(count: u64) -> Line
+    ensures line { result.items ≡ accepted_line count }
+{
+    let mut line = Line::new();
+    put(&mut line, b"accepted ");
+    put_number(&mut line, count);
+    line.push(b'\n');
+    line
+}
+
+/// Tells how many declarations the description in a file has.
+pub(crate) fn check<F: Files, K: Sink>(
+    alloc: Global,
+    name: &str,
+    files: &mut F,
+    out: &mut K,
+) -> Ending
+    ensures gives { CheckGives (F.content files.old name.now) (K.written out.old) (K.written out.new)
+        (F.faults files.old) (F.faults files.new) (K.faults out.old) (K.faults out.new) result }
+{
+    let count = match accepted_in(alloc, files, name) {
+        Ok(count) => count,
+        Err(ending) => return ending,
+    };
+    let line = accepted_line(count);
+    match write_all(out, line.as_slice()) {
+        Ok(()) => Ending::Done,
+        Err(_) => Ending::WriteFault,
+    }
+}

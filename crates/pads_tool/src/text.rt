@@ -1,0 +1,63 @@
+ghost use Rattle.std.specs.Prelude.{◌≡◌, IfOk, IfErr};
+ghost use Rattle.pads_tool.specs.Texts.{IsAcceptedIn, IsDescribedIn, IsRefusedIn, IsTextIn, IsUndescribedIn, StopsBefore};
+ghost use Rattle.pads_trans.specs.Modules.{contents};
+
+use crate::description::Described;
+use crate::ending::Ending;
+use crate::files::read_description;
+use pads_calc::Module;
+use pads_code::Coding;
+use pads_io::Files;
+use pads_value::{Bytes, Refusal};
+use pads_verdicts::Verdict;
+use std::alloc::Global;
+
+/// The text in a description's file, or how the run ends without it.
+fn text_in<F: Files>(alloc: Global, files: &mut F, name: &str) -> Result<Bytes, Ending>
+    ensures text { IfOk result (IsTextIn (F.content files.old name.now)) }
+    ensures stops { IfErr result (StopsBefore (IsRefusedIn (F.content files.old name.now)) (F.faults files.old) (F.faults files.new)) }
+{
+    match read_description(alloc, files, name) {
+        Ok(Described::Text(text)) => Ok(text),
+        Ok(Described::TooLong) => Err(Ending::Refused(Verdict::TooLong)),
+        Err(Refusal::Fault(_)) => Err(Ending::FileFault),
+        Err(Refusal::Memory) => Err(Ending::Memory),
+    }
+}
+
+/// How many declarations the description in a file has, or how the run ends without it.
+pub(crate) fn accepted_in<F: Files>(alloc: Global, files: &mut F, name: &str) -> Result<u64, Ending>
+    ensures accepted { IfOk result (IsAcceptedIn (F.content files.old name.now)) }
+    ensures stops { IfErr result (StopsBefore (IsRefusedIn (F.content files.old name.now)) (F.faults files.old) (F.faults files.new)) }
+{
+    let text = match text_in(alloc, files, name) {
+        Ok(text) => text,
+        Err(ending) => return Err(ending),
+    };
+    match pads_describe::check(alloc, text.as_slice()) {
+        Ok(count) => Ok(count),
+        Err(Refusal::Fault(verdict)) => Err(Ending::Refused(verdict)),
+        Err(Refusal::Memory) => Err(Ending::Memory),
+    }
+}
+
+/// The module of the description in a file, or how the run ends without it.
+pub(crate) fn described_in<F: Files>(
+    alloc: Global,
+    files: &mut F,
+    name: &str,
+    coding: Coding,
+) -> Result<Module, Ending>
+    ensures described { IfOk result (λ made. IsDescribedIn (F.content files.old name.now) coding (contents made)) }
+    ensures stops { IfErr result (StopsBefore (IsUndescribedIn (F.content files.old name.now) coding) (F.faults files.old) (F.faults files.new)) }
+{
+    let text = match text_in(alloc, files, name) {
+        Ok(text) => text,
+        Err(ending) => return Err(ending),
+    };
+    match pads_describe::describe(alloc, text.as_slice(), coding) {
+        Ok(made) => Ok(made),
+        Err(Refusal::Fault(verdict)) => Err(Ending::Refused(verdict)),
+        Err(Refusal::Memory) => Err(Ending::Memory),
+    }
+}
