@@ -1,22 +1,8 @@
-//! Rows of the check: descriptions with the violation that is told first, or with their number of declarations,
-//! written by hand from the rules.
+//! How much a description may hold: texts that are made to just the limits of the rule that counts, and one past
+//! them. The table of single descriptions is run by `pads_check_table`.
 #![tactic(auto)]
 
 #[cfg(test)]
-mod accepted;
-#[cfg(test)]
-mod declarations;
-#[cfg(test)]
-mod expressions;
-#[cfg(test)]
-mod least;
-#[cfg(test)]
 mod limits;
 #[cfg(test)]
-mod names;
-#[cfg(test)]
-mod sources;
-#[cfg(test)]
 mod told;
-#[cfg(test)]
-mod types;
