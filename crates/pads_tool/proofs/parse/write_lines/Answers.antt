@@ -1,8 +1,13 @@
+use Rattle.pads_trans.specs.Modules.{contents}
+use Rattle.pads_tool.specs.Describing.{described}
 use Rattle.pads_tool.proofs.Lines.{lines-give}
 use Rattle.pads_tool.proofs.parse.write_lines.Goals as goal
 
 pub returns : goal.returns
 returns g c = record {
   gives = rw c.ending_of.ensures.ending
-      (lines-give _ _ _ _ _ _ _ _ _ _ _ _ _ c.drive.result c.drive.ensures.gives c.drive.ensures.ahead c.drive.ensures.read_fault c.drive.ensures.cause);
+      (lines-give (described (contents c.args.lines.now.module) c.args.cutting) (g.S.Source.left c.args.source.now) (g.S.Source.left c.drive.new.source)
+      (g.K.Sink.written c.args.out.now) (g.K.Sink.written c.drive.new.out) _ _ (g.S.Source.faults c.args.source.now)
+      (g.S.Source.faults c.drive.new.source) (g.K.Sink.faults c.args.out.now) (g.K.Sink.faults c.drive.new.out) _ _
+      c.drive.result c.drive.ensures.gives c.drive.ensures.ahead c.drive.ensures.read_fault c.drive.ensures.cause);
 }
