@@ -1,4 +1,0 @@
-pub mod Faultless
-pub mod Forms
-pub mod Trees
-pub mod Typed
