@@ -9,6 +9,7 @@ use std::process::Abort;
 use std::test::Fail;
 
 /// What a run is made over.
+#[derive(Clone, Copy)]
 pub(crate) struct Run<'a> {
     pub(crate) words: &'a [&'a str],
     /// The bytes of the file `d`, which is the only one.
@@ -17,6 +18,7 @@ pub(crate) struct Run<'a> {
 }
 
 /// How the run is to end, and what is to stand on its sinks.
+#[derive(Clone, Copy)]
 pub(crate) struct Wanted<'a> {
     pub(crate) status: Status,
     pub(crate) out: &'a [u8],
@@ -25,6 +27,7 @@ pub(crate) struct Wanted<'a> {
 
 /// How source and sink move their bytes: the most that one call moves, or 0 for any number, and the
 /// calls that fail.
+#[derive(Clone, Copy)]
 pub(crate) struct Moves<'a> {
     pub(crate) read: u64,
     pub(crate) failing_reads: &'a [u64],
