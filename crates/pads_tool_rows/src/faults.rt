@@ -2,6 +2,7 @@
 
 use crate::run_over::{Moves, Run, Wanted, gives, gives_over, left_by};
 use pads_tool::Status;
+use pads_value::Bytes;
 use std::alloc::Global;
 use std::process::Abort;
 use std::test::Fail;
@@ -157,11 +158,9 @@ fn a_record_in_pieces(rt: HostRuntime) -> Result<(), Fail> {
 
 #[test]
 fn no_more_is_read_than_can_be_written(rt: HostRuntime) -> Result<(), Fail> {
-    let mut input = vec![in rt.alloc(); b'1'; 262_144]?;
-    for record in input.chunks_exact_mut(4) {
-        record[1] = b',';
-        record[2] = b'2';
-        record[3] = b'\n';
+    let mut input = Bytes::new(rt.alloc());
+    for _ in 0..65_536u32 {
+        input.extend_from_slice(b"1,2\n")?;
     }
     let left = left_by(
         rt.alloc(),
