@@ -1,0 +1,17 @@
+pub mod Again
+pub mod Bodies
+pub mod Decls
+pub mod Described
+pub mod Environment
+pub mod Faultless
+pub mod Forms
+pub mod Free
+pub mod Lists
+pub mod Scopes
+pub mod SortsAre
+pub mod Structs
+pub mod Trees
+pub mod Typed
+pub mod Types
+pub mod Uses
+pub mod Whole
