@@ -47,7 +47,7 @@ use Rattle.pads_well_sorted.specs.Expressions.{Scope, sort_in_scope, if_told, as
 use Rattle.pads_well_sorted.specs.Sorts.{num, text, truth}
 use Rattle.pads_well_sorted.specs.WellSorted.{Each}
 use Rattle.pads_well_sorted.proofs.Lists.{each-left, each-right}
-use Rattle.pads_accepted.specs.Described.{as_named, judging_scope, IsSpelled, AreSpelled, IsProper, IsKnown, Describes, Typed, Sees}
+use Rattle.pads_accepted.specs.Described.{as_named, judging_scope, IsSpelled, AreSpelled, IsRead, IsProper, IsKnown, Describes, Typed, Sees}
 use Rattle.pads_accepted.proofs.Faultless.{none-left, none-right, not-one, not-when, is-not-false, both-left, both-right, is-taken, is-truth, own-sort, inner-faults}
 use Rattle.pads_accepted.proofs.Forms.{told-self, sort-Number, sort-Word, sort-Truth, sort-Name, sort-Part, sort-Branch, sort-Index, sort-Pis, sort-Plen, sort-Minus, sort-Not, sort-Binary, sort-Pforall, num-form, truth-form, IsPlainSort, forms-sort}
 use Rattle.pads_accepted.proofs.Trees.{InLink, InStep, Inside, all-layers}
@@ -106,14 +106,14 @@ module _ (written : List WrittenDecl) (env : List Declared) (decls : List Decl) 
 
   -- an operand that is taken
   known-operand : (test : Form → Bool) (sort : ExprSort) (e : Expr) (scope : Scope) → TypedIn scope e sort → accepts test sort ≡ true
-      → (s : Sort) × (sort ≡ expr_sort.Known s) × (s.optional ≡ 0) × (test s.form ≡ true) × IsProper env s.form × (sort_in decls sorts e scope ≡ Some s)
+      → (s : Sort) × (sort ≡ expr_sort.Known s) × (s.optional ≡ 0) × (test s.form ≡ true) × IsProper env decls s.form × (sort_in decls sorts e scope ≡ Some s)
   known-operand test expr_sort.Unknown e scope typed h = absurd typed
   known-operand test expr_sort.Nothing e scope typed h = cc
   known-operand test (expr_sort.Known s) e scope typed h =
       (s, refl, eqb-true s.optional 0 (both-left (s.optional == 0) (test s.form) h), both-right (s.optional == 0) (test s.form) h, typed.0, typed.1)
 
   operand : (test : Form → Bool) (r : ResolvedExpr) (j : Judged) (scope : Scope) → Fits r j scope → accepts test j.sort ≡ true
-      → (s : Sort) × (r.sort ≡ expr_sort.Known s) × (s.optional ≡ 0) × (test s.form ≡ true) × IsProper env s.form × (sort_in decls sorts r.expr scope ≡ Some s)
+      → (s : Sort) × (r.sort ≡ expr_sort.Known s) × (s.optional ≡ 0) × (test s.form ≡ true) × IsProper env decls s.form × (sort_in decls sorts r.expr scope ≡ Some s)
   operand test r j scope fits h = known-operand test r.sort r.expr scope fits.1 (ap (accepts test) fits.0 ∙ h)
 
   -- a form of a sort that it has whatever its parts are
@@ -121,7 +121,7 @@ module _ (written : List WrittenDecl) (env : List Declared) (decls : List Decl) 
       → Fits (as_sort e sort) (judgement first height sort faults) scope
   as-judged e sort scope first height faults none typed = (own-sort first height sort faults none, typed)
 
-  typed-as : (scope : Scope) (e : Expr) (sort : ExprSort) (s : Sort) → sort ≡ expr_sort.Known s → IsProper env s.form → sort_in decls sorts e scope ≡ Some s → TypedIn scope e sort
+  typed-as : (scope : Scope) (e : Expr) (sort : ExprSort) (s : Sort) → sort ≡ expr_sort.Known s → IsProper env decls s.form → sort_in decls sorts e scope ≡ Some s → TypedIn scope e sort
   typed-as scope e sort s is proper has = subst (TypedIn scope e) (sym is) (proper, has)
 
   -- names
@@ -179,8 +179,8 @@ module _ (written : List WrittenDecl) (env : List Declared) (decls : List Decl) 
       (low.faults ++ high.faults ++ body.faults ++ wrong_sort is_num_form low ++ wrong_sort is_num_form high ++ no_truth body) none
 
   -- operators
-  plain-proper : (s : Sort) → IsPlainSort s → IsProper env s.form
-  plain-proper s h = ⊎_elim (λ is. subst (λ (s : Sort). IsProper env s.form) (sym is) tt) (λ is. subst (λ (s : Sort). IsProper env s.form) (sym is) tt) h
+  plain-proper : (s : Sort) → IsPlainSort s → IsProper env decls s.form
+  plain-proper s h = ⊎_elim (λ is. subst (λ (s : Sort). IsProper env decls s.form) (sym is) tt) (λ is. subst (λ (s : Sort). IsProper env decls s.form) (sym is) tt) h
 
   agree-forms : (a b : Sort) → ((a.optional == b.optional) && rules.same_form a.form b.form) ≡ true → rules.same_form a.form b.form ≡ true
   agree-forms a b h = both-right (a.optional == b.optional) (rules.same_form a.form b.form) h
@@ -237,20 +237,20 @@ module _ (written : List WrittenDecl) (env : List Declared) (decls : List Decl) 
       (says.0, unary-typed op r.expr scope x.0 x.5 x.2 x.3)
 
   -- members
-  struct-member : (scope : Scope) (e : Expr) (k : ℕ) (name : List ℕ) (found : ExprSort) (fields : List Named) → content_of env k ≡ content.Fields fields
+  struct-member : (scope : Scope) (e : Expr) (k : ℕ) (name : List ℕ) (found : ExprSort) (fields : List Named) → content_of env k ≡ content.Fields fields → IsRead decls k
       → sort_in decls sorts e scope ≡ Some (record { optional = 0; form = form.Struct k }) → sort_of (names_in (content_of env k)) name ≡ Some found
       → TypedIn scope (expr.Part e (field_number written k name) (sort_known found)) found
-  struct-member scope e k name found fields is has there =
-      let x = describes.field k fields name found is (sym (ap (λ c. sort_of (names_in c) name) is) ∙ there) in
+  struct-member scope e k name found fields is reads has there =
+      let x = describes.field k fields name found is reads (sym (ap (λ c. sort_of (names_in c) name) is) ∙ there) in
       typed-as scope (expr.Part e (field_number written k name) (sort_known found)) found x.0 x.1 x.2
       (sort-Part decls sorts scope e (field_number written k name) (sort_known found)
       ∙ told-found (sort_known found) x.0 _ (told-known found x.0 x.1) (and_then (plainly (part_sort decls sorts (field_number written k name))) (sort_in decls sorts e scope) _ x.0 has x.3))
 
-  union-member : (scope : Scope) (e : Expr) (k : ℕ) (name : List ℕ) (found : ExprSort) (branches : List Named) → content_of env k ≡ content.Branches branches
+  union-member : (scope : Scope) (e : Expr) (k : ℕ) (name : List ℕ) (found : ExprSort) (branches : List Named) → content_of env k ≡ content.Branches branches → IsRead decls k
       → sort_in decls sorts e scope ≡ Some (record { optional = 0; form = form.Union k }) → sort_of (names_in (content_of env k)) name ≡ Some found
       → TypedIn scope (expr.Branch e (choice_in (content_of env k) name) (sort_known found)) found
-  union-member scope e k name found branches is has there =
-      let x = describes.branch k branches name found is (sym (ap (λ c. sort_of (names_in c) name) is) ∙ there) in
+  union-member scope e k name found branches is reads has there =
+      let x = describes.branch k branches name found is reads (sym (ap (λ c. sort_of (names_in c) name) is) ∙ there) in
       let n = choice_in (content_of env k) name in
       typed-as scope (expr.Branch e n (sort_known found)) found x.0 x.1 x.2
       (sort-Branch decls sorts scope e n (sort_known found)
@@ -260,7 +260,7 @@ module _ (written : List WrittenDecl) (env : List Declared) (decls : List Decl) 
   one-less : (o : ℕ) → suc o - 1 ≡ o
   one-less o = omega arith
 
-  some-member : (scope : Scope) (e : Expr) (o : ℕ) (f : Form) (n : ℕ) → n ≡ 0 → IsProper env f → sort_in decls sorts e scope ≡ Some (record { optional = suc o; form = f })
+  some-member : (scope : Scope) (e : Expr) (o : ℕ) (f : Form) (n : ℕ) → n ≡ 0 → IsProper env decls f → sort_in decls sorts e scope ≡ Some (record { optional = suc o; form = f })
       → TypedIn scope (expr.Branch e n (record { optional = suc o - 1; form = f })) (expr_sort.Known (record { optional = suc o - 1; form = f }))
   some-member scope e o f n first proper has =
       let told : Sort = record { optional = suc o - 1; form = f } in
@@ -272,7 +272,7 @@ module _ (written : List WrittenDecl) (env : List Declared) (decls : List Decl) 
       (ap (λ n. branch_sort decls sorts n (record { optional = suc o; form = f })) first)))
 
   optional-member : (scope : Scope) (e : Expr) (o : ℕ) (f : Form) (name : List ℕ) (found : ExprSort) (is_some is_none : Bool) → same_text name (codes "some") ≡ is_some → same_text name (codes "none") ≡ is_none
-      → IsProper env f → sort_in decls sorts e scope ≡ Some (record { optional = suc o; form = f })
+      → IsProper env decls f → sort_in decls sorts e scope ≡ Some (record { optional = suc o; form = f })
       → (if is_some then Some (expr_sort.Known (record { optional = suc o - 1; form = f })) else if is_none then Some expr_sort.Nothing else None) ≡ Some found
       → TypedIn scope (expr.Branch e (if is_none then 1 else 0) (sort_known found)) found
   optional-member scope e o f name found true is_none some none proper has there =
@@ -286,7 +286,7 @@ module _ (written : List WrittenDecl) (env : List Declared) (decls : List Decl) 
   optional-member scope e o f name found false false some none proper has there = cc
 
   -- behind `Popt`
-  popt-member : (b : Bool) → b ≡ false → (scope : Scope) (e : Expr) (o : ℕ) (f : Form) (name : List ℕ) (found : ExprSort) → IsProper env f → sort_in decls sorts e scope ≡ Some (record { optional = suc o; form = f })
+  popt-member : (b : Bool) → b ≡ false → (scope : Scope) (e : Expr) (o : ℕ) (f : Form) (name : List ℕ) (found : ExprSort) → IsProper env decls f → sort_in decls sorts e scope ≡ Some (record { optional = suc o; form = f })
       → (if b then plain_member env f name else optional_branch (record { optional = suc o; form = f }) name) ≡ Some found
       → TypedIn scope (member_expr (b && is_struct_form f) e (if b then plain_member_number written env f name else optional_number name) (sort_known found)) found
   popt-member true is scope e o f name found proper has there = cc
@@ -296,12 +296,12 @@ module _ (written : List WrittenDecl) (env : List Declared) (decls : List Decl) 
   behind : (o : ℕ) → (suc o == 0) ≡ false
   behind o = ne_eqb (suc o) 0 (λ is. absurd (omega (arith, is)))
 
-  member-by : (scope : Scope) (e : Expr) (o : ℕ) (f : Form) (name : List ℕ) (found : ExprSort) → IsProper env f → sort_in decls sorts e scope ≡ Some (record { optional = o; form = f })
+  member-by : (scope : Scope) (e : Expr) (o : ℕ) (f : Form) (name : List ℕ) (found : ExprSort) → IsProper env decls f → sort_in decls sorts e scope ≡ Some (record { optional = o; form = f })
       → member env (expr_sort.Known (record { optional = o; form = f })) name ≡ Some found
       → TypedIn scope (member_expr (is_struct (expr_sort.Known (record { optional = o; form = f }))) e (member_number written env (expr_sort.Known (record { optional = o; form = f })) name) (sort_known found)) found
   unfolding member_number
-  member-by scope e zero (form.Struct k) name found proper has there = struct-member scope e k name found proper.0 proper.1 has there
-  member-by scope e zero (form.Union k) name found proper has there = union-member scope e k name found proper.0 proper.1 has there
+  member-by scope e zero (form.Struct k) name found proper has there = struct-member scope e k name found proper.0 proper.1 proper.2 has there
+  member-by scope e zero (form.Union k) name found proper has there = union-member scope e k name found proper.0 proper.1 proper.2 has there
   member-by scope e zero form.Num name found proper has there = cc
   member-by scope e zero form.Text name found proper has there = cc
   member-by scope e zero form.Truth name found proper has there = cc
@@ -331,7 +331,7 @@ module _ (written : List WrittenDecl) (env : List Declared) (decls : List Decl) 
 
   -- elements
   array-element : (scope : Scope) (array index : Expr) (a b : Sort) → sort_in decls sorts array scope ≡ Some a → sort_in decls sorts index scope ≡ Some b → a.optional ≡ 0 → b.optional ≡ 0
-      → is_array_form a.form ≡ true → is_num_form b.form ≡ true → IsProper env a.form
+      → is_array_form a.form ≡ true → is_num_form b.form ≡ true → IsProper env decls a.form
       → TypedIn scope (expr.Index array index (sort_known (element env (expr_sort.Known a)))) (element env (expr_sort.Known a))
   array-element scope array index a b one other plain_a plain_b of_array number proper =
       let told = sort_known (element env (expr_sort.Known a)) in
@@ -344,9 +344,9 @@ module _ (written : List WrittenDecl) (env : List Declared) (decls : List Decl) 
       (and_then (λ n. plainly (of_elements decls sorts) a) (plainly number_alone b) num x.0 (at-plain number_alone b plain_b ∙ ap number_alone (num-form b.form number))
       (at-plain (of_elements decls sorts) a plain_a ∙ x.3)))))
     where
-      element-known : (f : Form) → is_array_form f ≡ true → IsProper env f → IsKnown env (λ s. of_elements decls sorts f ≡ Some s) (Rattle.pads_rules.specs.Members.plain_element env f)
+      element-known : (f : Form) → is_array_form f ≡ true → IsProper env decls f → IsKnown env decls (λ s. of_elements decls sorts f ≡ Some s) (Rattle.pads_rules.specs.Members.plain_element env f)
       element-known (form.Array k) h proper =
-          subst (IsKnown env (λ s. of_elements decls sorts (form.Array k) ≡ Some s)) (sym (ap element_in proper.1)) (describes.element k proper.0 proper.1)
+          subst (IsKnown env decls (λ s. of_elements decls sorts (form.Array k) ≡ Some s)) (sym (ap element_in proper.1)) (describes.element k proper.0 proper.1 proper.2)
       element-known _ h proper = cc
 
   index-fits : (r i : ResolvedExpr) (whole index : Judged) (scope : Scope) → Fits r whole scope → Fits i index scope → (judging.indexed env whole index).faults ≡ []
@@ -376,18 +376,18 @@ module _ (written : List WrittenDecl) (env : List Declared) (decls : List Decl) 
   optional-choice true = refl
   optional-choice false = refl
 
-  choice-by : (scope : Scope) (e : Expr) (o : ℕ) (f : Form) (name : List ℕ) → IsProper env f → sort_in decls sorts e scope ≡ Some (record { optional = o; form = f })
+  choice-by : (scope : Scope) (e : Expr) (o : ℕ) (f : Form) (name : List ℕ) → IsProper env decls f → sort_in decls sorts e scope ≡ Some (record { optional = o; form = f })
       → has_choice env (expr_sort.Known (record { optional = o; form = f })) name ≡ true
       → TypedIn scope (expr.Pis e (choice_number env (expr_sort.Known (record { optional = o; form = f })) name)) (expr_sort.Known truth)
   unfolding choice_number
   choice-by scope e zero (form.Union k) name proper has chosen =
       let x = some-there (sort_of proper.0 name) (sym (ap (λ c. has_choice_in c name) proper.1) ∙ chosen) in
       truth-of-pis scope e (choice_in (content_of env k) name) _ has
-      (ap (λ c. plain_choice decls sorts (choice_in c name) (form.Union k)) proper.1 ∙ describes.chosen k proper.0 name x.0 proper.1 x.1)
+      (ap (λ c. plain_choice decls sorts (choice_in c name) (form.Union k)) proper.1 ∙ describes.chosen k proper.0 name x.0 proper.1 proper.2 x.1)
   choice-by scope e zero (form.Enum k) name proper has chosen =
       truth-of-pis scope e (choice_in (content_of env k) name) _ has
       (ap (λ c. plain_choice decls sorts (choice_in c name) (form.Enum k)) proper.1
-      ∙ describes.label k proper.0 name proper.1 (sym (ap (λ c. has_choice_in c name) proper.1) ∙ chosen))
+      ∙ describes.label k proper.0 name proper.1 proper.2 (sym (ap (λ c. has_choice_in c name) proper.1) ∙ chosen))
   choice-by scope e zero form.Num name proper has chosen = cc
   choice-by scope e zero form.Text name proper has chosen = cc
   choice-by scope e zero form.Truth name proper has chosen = cc
@@ -448,13 +448,13 @@ module _ (written : List WrittenDecl) (env : List Declared) (decls : List Decl) 
   other-meaning name other stands.Length sort scope spelled differ = ap (option_and_then (plainly length_sort)) (other-name name at_sign sort scope spelled)
   other-meaning name other (stands.Field number) sort scope spelled differ = ap (option_and_then (plainly (part_sort decls sorts number))) (other-name name at_sign sort scope spelled)
 
-  sees-by : (names : Names) (scope : Scope) (name text : List ℕ) (what : ExprSort) (sort : Sort) (known : Known) (t : Bool) → IsSpelled name → what ≡ expr_sort.Known sort → IsProper env sort.form
-      → ((known : Known) → known_in names text ≡ Some known → IsKnown env (λ s. meaning_sort decls sorts (meaning_of text known.stands) scope ≡ Some s) known.sort) → same_text name text ≡ t
+  sees-by : (names : Names) (scope : Scope) (name text : List ℕ) (what : ExprSort) (sort : Sort) (known : Known) (t : Bool) → IsSpelled name → what ≡ expr_sort.Known sort → IsProper env decls sort.form
+      → ((known : Known) → known_in names text ≡ Some known → IsKnown env decls (λ s. meaning_sort decls sorts (meaning_of text known.stands) scope ≡ Some s) known.sort) → same_text name text ≡ t
       → option_map (λ (v : Visible). v.known) (cond t (Some (record { text = name; known = record { stands = stands.Variable; sort = what } })) (find (λ (v : Visible). same_text v.text text) names)) ≡ Some known
-      → IsKnown env (λ s. meaning_sort decls sorts (meaning_of text known.stands) ((name, sort) ∷ scope) ≡ Some s) known.sort
+      → IsKnown env decls (λ s. meaning_sort decls sorts (meaning_of text known.stands) ((name, sort) ∷ scope) ≡ Some s) known.sort
   sees-by names scope name text what sort known true spelled is proper sees same there =
       let one : record { stands = stands.Variable; sort = what } ≡ known = cc in
-      subst (λ (known : Known). IsKnown env (λ s. meaning_sort decls sorts (meaning_of text known.stands) ((name, sort) ∷ scope) ≡ Some s) known.sort) one (
+      subst (λ (known : Known). IsKnown env decls (λ s. meaning_sort decls sorts (meaning_of text known.stands) ((name, sort) ∷ scope) ≡ Some s) known.sort) one (
         sort,
         is,
         proper,
@@ -464,7 +464,7 @@ module _ (written : List WrittenDecl) (env : List Declared) (decls : List Decl) 
       let x = sees known there in
       (x.0, x.1, x.2, other-meaning name text known.stands sort scope spelled (same-swapped name text false same) ∙ x.3)
 
-  pub sees-hiding : (names : Names) (scope : Scope) (name : List ℕ) (what : ExprSort) (sort : Sort) → IsSpelled name → what ≡ expr_sort.Known sort → IsProper env sort.form → Sees env decls sorts names scope
+  pub sees-hiding : (names : Names) (scope : Scope) (name : List ℕ) (what : ExprSort) (sort : Sort) → IsSpelled name → what ≡ expr_sort.Known sort → IsProper env decls sort.form → Sees env decls sorts names scope
       → Sees env decls sorts (hiding name stands.Variable what names) ((name, sort) ∷ scope)
   sees-hiding names scope name what sort spelled is proper sees text known there =
       sees-by names scope name text what sort known (same_text name text) spelled is proper (sees text) refl there
