@@ -5,3 +5,4 @@ pub mod Free
 pub mod Lists
 pub mod Trees
 pub mod Typed
+pub mod Types

@@ -1,3 +1,4 @@
+use Rattle.pads_accepted.proofs.Types.{type-same}
 use Rattle.pads_accepted.proofs.Environment.{site-back, env-length}
 use Rattle.pads_accepted.proofs.Free.{free-at}
 use Rattle.pads_accepted.proofs.Typed.{lawful}
