@@ -1,3 +1,4 @@
+pub mod Described
 pub mod Environment
 pub mod Faultless
 pub mod Forms

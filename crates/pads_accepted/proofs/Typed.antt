@@ -70,7 +70,7 @@ same-is a b h = (bytes_decides a b).0 h
 own-text : (a : List ℕ) → pointwise nat_eq a a ≡ true
 own-text a = (bytes_decides a a).1 refl
 
-same-swapped : (a b : List ℕ) (t : Bool) → same_text a b ≡ t → pointwise nat_eq b a ≡ t
+pub same-swapped : (a b : List ℕ) (t : Bool) → same_text a b ≡ t → pointwise nat_eq b a ≡ t
 unfolding same_text
 same-swapped a b true h = (bytes_decides b a).1 (sym ((bytes_decides a b).0 h))
 same-swapped a b false h = by (pointwise nat_eq b a) refl

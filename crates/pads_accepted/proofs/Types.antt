@@ -105,7 +105,7 @@ module _ (decls : List WrittenDecl) (n : ℕ) (d : WrittenDecl) where
   abbrev pub IsReadAt : Type 0
   IsReadAt = IsReadRole (role_of (site_of decls n d))
 
-  shape-off : IsReadAt → is_source_shape (site_of decls n d) ≡ false
+  pub shape-off : IsReadAt → is_source_shape (site_of decls n d) ≡ false
   unfolding role_of
   shape-off reads =
       no-shape (is_precord d.mark) (is_psource d.mark) (is_record_list_body (take n (declared decls)) d.body) (is_header_shape (take n (declared decls)) d.body) (marks-apart d.mark) reads
@@ -169,7 +169,7 @@ param-known site t free =
 abbrev no_records : Site → «Type» → Bool
 no_records site t = (is_precord_type (meaning (earlier site) t.name.text) || is_record_list_type (meaning (earlier site) t.name.text)) && not (is_source_shape site)
 
-no-list : (site : Site) (t : «Type») → when (no_records site t) (breaks 20 t.name.at) ≡ [] → is_source_shape site ≡ false → is_record_list_type (meaning (earlier site) t.name.text) ≡ false
+pub no-list : (site : Site) (t : «Type») → when (no_records site t) (breaks 20 t.name.at) ≡ [] → is_source_shape site ≡ false → is_record_list_type (meaning (earlier site) t.name.text) ≡ false
 no-list site t none off =
     let m = meaning (earlier site) t.name.text in
     (or-false (is_precord_type m) (is_record_list_type m)
@@ -216,7 +216,7 @@ module _ (tree : Ast) (none : violations tree ≡ []) where
   earlier-read n k d named name there named_there less none_base found list =
       reads-at decls k named (not-last k n named d less named_there there) (sym (ap is_record_list_type (meaning-earlier (take n env) name (declare (take k env) named) none_base found)) ∙ list)
 
-  made-there : (n : ℕ) (d : WrittenDecl) → slice_get decls n ≡ Some d → slice_get made n ≡ Some (decl_at (site_of decls n d))
+  pub made-there : (n : ℕ) (d : WrittenDecl) → slice_get decls n ≡ Some d → slice_get made n ≡ Some (decl_at (site_of decls n d))
   made-there n d there = there-mapped decl_at (sites decls) n (site_of decls n d) (site-there decls n d there)
 
   pub is-read : (n : ℕ) (d : WrittenDecl) → slice_get decls n ≡ Some d → IsReadAt decls n d
@@ -278,13 +278,13 @@ module _ (tree : Ast) (none : violations tree ≡ []) where
       type-settled n d t there before (named-at decls n t.name.text (used-known (site_of decls n d) scope t piece))
       (no-list (site_of decls n d) t piece.records (shape-off decls n d reads))
 
-  earlier-length : (n : ℕ) (d : WrittenDecl) → slice_get decls n ≡ Some d → length (take n env) ≡ n
+  pub earlier-length : (n : ℕ) (d : WrittenDecl) → slice_get decls n ≡ Some d → length (take n env) ≡ n
   earlier-length n d there = length-taken env n (let h = get-below decls n d there in omega (arith, env-length decls, h))
 
-  content-here : (n : ℕ) (d : WrittenDecl) → slice_get decls n ≡ Some d → content_of env n ≡ content_in (take n env) d.body
+  pub content-here : (n : ℕ) (d : WrittenDecl) → slice_get decls n ≡ Some d → content_of env n ≡ content_in (take n env) d.body
   content-here n d there = content-at env n (declare (take n env) d) (env-at decls n d there)
 
-  body-pieces : (n : ℕ) (d : WrittenDecl) → slice_get decls n ≡ Some d
+  pub body-pieces : (n : ℕ) (d : WrittenDecl) → slice_get decls n ≡ Some d
       → Each (FreePiece (site_of decls n d)) (body_pieces (take n env) n (map (param_named (take n env)) (params_of d.body)) d.body)
   body-pieces n d there =
       each-right (FreePiece (site_of decls n d)) (map (λ param. OfParam param.of) (params_of d.body))
@@ -331,13 +331,13 @@ module _ (tree : Ast) (none : violations tree ≡ []) where
   base-same to_end (base.Char c) = refl
   base-same to_end (base.Ip c) = refl
 
-  sort-here : (n : ℕ) (d : WrittenDecl) → slice_get decls n ≡ Some d → slice_get sorts n ≡ Some (sort_known (sort_in (take n env) d.body))
+  pub sort-here : (n : ℕ) (d : WrittenDecl) → slice_get decls n ≡ Some d → slice_get sorts n ≡ Some (sort_known (sort_in (take n env) d.body))
   sort-here n d there = there-mapped (λ (x : Declared). sort_known x.sort) env n (declare (take n env) d) (env-at decls n d there)
 
   known-sort : (bound : ℕ) (sort : ExprSort) → Settled bound sort → sort ≡ expr_sort.Known (sort_known sort)
   known-sort bound sort h = h.1 ∙ ap (λ s. expr_sort.Known (sort_known s)) (sym h.1)
 
-  short-is : (k : ℕ) → k < 4096 → short k ≡ k
+  pub short-is : (k : ℕ) → k < 4096 → short k ≡ k
   short-is k less = omega arith
 
   name-same : (n : ℕ) (d : WrittenDecl) (t : «Type») → slice_get decls n ≡ Some d → Named decls n t.name.text → is_record_list_type (meaning (take n env) t.name.text) ≡ false

@@ -1,16 +1,21 @@
 //! The laws of descriptions that break no rule.
 ghost use Rattle.std.specs.Prelude.{◌≡◌, ℕ, List, []};
+ghost use Rattle.pads_ast.specs.declared.decl.Ast.{Ast};
 ghost use Rattle.pads_ast.specs.declared.decl.Decl.{Decl as WrittenDecl};
 ghost use Rattle.pads_ast.specs.declared.expr.Expr.{Expr as Tree};
 ghost use Rattle.pads_resolved.specs.declared.decl.Decl.{Decl};
 ghost use Rattle.pads_resolution.specs.Expressions.{expression};
+ghost use Rattle.pads_resolution.specs.Resolution.{resolved};
 ghost use Rattle.pads_resolution.specs.Scopes.{Scope as Names};
 ghost use Rattle.pads_rules.specs.Judging.{judged};
 ghost use Rattle.pads_rules.specs.NameTokens.{names_in_expr};
+ghost use Rattle.pads_rules.specs.Resolving.{declared};
+ghost use Rattle.pads_rules.specs.Violations.{violations};
 ghost use Rattle.pads_rules.specs.declared.declared.Declared.{Declared};
 ghost use Rattle.pads_sorts.specs.declared.sort.Sort.{Sort};
 ghost use Rattle.pads_well_sorted.specs.Expressions.{Scope};
 ghost use Rattle.pads_accepted.specs.Described.{judging_scope, AreSpelled, Describes, Sees, Typed};
+ghost use Rattle.pads_accepted.specs.Known.{known_sorts};
 
 /// The law of expressions, among declarations that are what the rules know of them and names that stand for what
 /// has their sorts: an expression that breaks no rule, and in which no name is spelled `@`, resolves to one of the
@@ -24,4 +29,10 @@ pub fn accepted_expressions_are_sorted()
         → Describes written env decls sorts → Sees env decls sorts names scope → AreSpelled (names_in_expr e)
         → (judged env e (judging_scope names later)).faults ≡ []
         → Typed env decls sorts scope (expression written env e names).expr (expression written env e names).sort }
+{}
+
+/// The law of declarations: those that a tree without violations resolves to are what the rules know of them. Each
+/// field, branch, label and element is there, by its number and of its sort.
+pub fn accepted_declarations_are_described()
+    ensures described { (tree : Ast) → violations tree ≡ [] → Describes tree.decls (declared tree.decls) (resolved tree).decls (known_sorts tree) }
 {}

@@ -1,8 +1,9 @@
 //! The laws of accepted descriptions: nothing here runs.
 //!
-//! An expression that breaks no rule resolves to a well-sorted one, of the sort that the rules give it.
+//! An expression that breaks no rule resolves to a well-sorted one, of the sort that the rules give it, among
+//! declarations that are what the rules know of them: those of a tree without violations are.
 #![tactic(auto)]
 
 mod laws;
 
-pub use laws::accepted_expressions_are_sorted;
+pub use laws::{accepted_declarations_are_described, accepted_expressions_are_sorted};

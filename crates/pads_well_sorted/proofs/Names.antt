@@ -29,7 +29,7 @@ first-by : {A : Type 0} (p : A → Bool) (xs : List A) (b : Bool) → nat_lt (po
 first-by p xs true rest = lt-ltb 0 (suc (length xs)) (omega arith)
 first-by p xs false rest = shifted (position_or_len p xs) (length xs) ∙ rest
 
-first-there : {A : Type 0} (p : A → Bool) (xs : List A) → nat_lt (position_or_len p xs) (length xs) ≡ list_any p xs
+pub first-there : {A : Type 0} (p : A → Bool) (xs : List A) → nat_lt (position_or_len p xs) (length xs) ≡ list_any p xs
 first-there p [] = refl
 first-there p (x ∷ xs) = first-by p xs (p x) (first-there p xs)
 

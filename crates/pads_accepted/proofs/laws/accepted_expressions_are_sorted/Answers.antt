@@ -1,6 +1,3 @@
-use Rattle.pads_accepted.proofs.Types.{type-same}
-use Rattle.pads_accepted.proofs.Environment.{site-back, env-length}
-use Rattle.pads_accepted.proofs.Free.{free-at}
 use Rattle.pads_accepted.proofs.Typed.{lawful}
 use Rattle.pads_accepted.proofs.laws.accepted_expressions_are_sorted.Goals as goal
 
