@@ -115,11 +115,11 @@ computable (base.Int coding.Ambient kind) h = refl
 computable (base.Until coding.Ambient) h = refl
 computable _ h = cc
 
-abbrev unless_popt : Option ℕ → Meaning → Meaning
+abbrev pub unless_popt : Option ℕ → Meaning → Meaning
 unless_popt (Some place) m = Undeclared
 unless_popt None m = m
 
-plain-is : (before : List Declared) (t : «Type») → plain_meaning before t ≡ unless_popt t.optional (meaning before t.name.text)
+pub plain-is : (before : List Declared) (t : «Type») → plain_meaning before t ≡ unless_popt t.optional (meaning before t.name.text)
 plain-is before t = refl
 
 computed-base : (o : Option ℕ) (b : BaseName) (m : Meaning) → m ≡ Base b → is_base is_computable_base (unless_popt o m) ≡ true

@@ -7,3 +7,4 @@ pub mod Lists
 pub mod Trees
 pub mod Typed
 pub mod Types
+pub mod Uses

@@ -105,7 +105,7 @@ module _ (written : List WrittenDecl) (env : List Declared) (decls : List Decl) 
   Fits r j scope = (r.sort ≡ j.sort) × TypedIn scope r.expr r.sort
 
   -- an operand that is taken
-  known-operand : (test : Form → Bool) (sort : ExprSort) (e : Expr) (scope : Scope) → TypedIn scope e sort → accepts test sort ≡ true
+  pub known-operand : (test : Form → Bool) (sort : ExprSort) (e : Expr) (scope : Scope) → TypedIn scope e sort → accepts test sort ≡ true
       → (s : Sort) × (sort ≡ expr_sort.Known s) × (s.optional ≡ 0) × (test s.form ≡ true) × IsProper env decls s.form × (sort_in decls sorts e scope ≡ Some s)
   known-operand test expr_sort.Unknown e scope typed h = absurd typed
   known-operand test expr_sort.Nothing e scope typed h = cc

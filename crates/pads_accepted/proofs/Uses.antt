@@ -1,0 +1,212 @@
+-- What types, arguments and conditions of a description without violations are.
+use Rattle.std.proofs.Common.{◌≡◌, ◌∙◌, sym, ap, ap₂, refl, subst, arith, ◌⊎◌, inl, inr, ℕ, zero, suc, ◌+◌, ◌*◌, ◌<◌, Bool, true, false, not, ◌&&◌, ◌||◌, ◌==◌, List, [], ◌∷◌, ◌++◌, map, flat_map, length, take, Option, Some, None, is_some, slice_get, eqb-true}
+use Rattle.std.specs.Prelude.{⊤}
+use Rattle.std.specs.List.{enumerate_from}
+use Rattle.std.proofs.lemmas.List.{length-map}
+use Rattle.pads_ast.specs.declared.decl.Ast.{Ast}
+use Rattle.pads_ast.specs.declared.decl.Decl.{Decl as WrittenDecl}
+use Rattle.pads_ast.specs.declared.expr.Expr.{Expr as Tree}
+use Rattle.pads_ast.specs.declared.types.Arg.{Arg}
+use Rattle.pads_ast.specs.declared.types.Arg.TheVariants as arg
+use Rattle.pads_ast.specs.declared.types.Param.{Param as WrittenParam}
+use Rattle.pads_ast.specs.declared.types.Type.{«Type»}
+use Rattle.pads_base_names.specs.Names.{base_name, takes}
+use Rattle.pads_base_names.specs.declared.meaning.BaseName.{BaseName}
+use Rattle.pads_base_names.specs.declared.meaning.BaseName.TheVariants as base
+use Rattle.pads_base_names.specs.declared.meaning.NamedCoding.TheVariants as coding
+use Rattle.pads_sorts.specs.declared.sort.Form.{Form}
+use Rattle.pads_sorts.specs.declared.sort.Form.TheVariants as form
+use Rattle.pads_sorts.specs.declared.sort.Sort.{Sort}
+use Rattle.pads_resolved.specs.declared.decl.Decl.{Decl}
+use Rattle.pads_resolved.specs.declared.decl.DeclBody.{DeclBody}
+use Rattle.pads_resolved.specs.declared.decl.Role.{Role}
+use Rattle.pads_resolved.specs.declared.decl.Role.TheVariants as role
+use Rattle.pads_resolved.specs.declared.expr.Expr.{Expr}
+use Rattle.pads_resolved.specs.declared.types.Param.{Param}
+use Rattle.pads_resolved.specs.declared.types.TypeName.TheVariants as type_name
+use Rattle.pads_resolution.specs.Bodies.{expr_at, body_at as made_body}
+use Rattle.pads_resolution.specs.Expressions.{expression, expr_of, sort_known}
+use Rattle.pads_resolution.specs.Numbers.{declared_number}
+use Rattle.pads_resolution.specs.Resolution.{role_of, params_scope as made_params, decl_at}
+use Rattle.pads_resolution.specs.Scopes.{Scope as Names}
+use Rattle.pads_resolution.specs.Types.{is_end, base_type_of, declared_type, type_name_of, named_type, arg_exprs, args, type_at, param_of}
+use Rattle.pads_rules.specs.Faults.{breaks, when, each}
+use Rattle.pads_rules.specs.Judging.{Judged, judged, wrong_sort, no_truth}
+use Rattle.pads_rules.specs.NameTokens.{names_in_expr, names_in_arg}
+use Rattle.pads_rules.specs.PieceRules.{takes_so_many, is_count_of, base_params, params_in, takes_end, agrees_with, argument_sort, argument_faults, faults_of, is_bare, is_base, is_computable_base, is_param_base, is_undeclared}
+use Rattle.pads_rules.specs.Pieces.{Site, Piece, Used, OfParam}
+use Rattle.pads_rules.specs.Resolving.{Meaning, Base, Earlier, Undeclared, declared_as, meaning, meaning_sort, behind_popt, type_sort, plain_meaning, is_record_list_type, declare, declared}
+use Rattle.pads_rules.specs.Sorts as rules
+use Rattle.pads_rules.specs.Sorts.{accepts, agree, is_num_form, is_text_form, is_truth_form}
+use Rattle.pads_rules.specs.Trees.{is_empty, args_of, params_of}
+use Rattle.pads_rules.specs.Violations.{violations}
+use Rattle.pads_rules.specs.declared.declared.Declared.{Declared}
+use Rattle.pads_rules.specs.declared.expr_sort.ExprSort.{ExprSort}
+use Rattle.pads_rules.specs.declared.expr_sort.ExprSort.TheVariants as expr_sort
+use Rattle.pads_well_sorted.specs.Expressions.{Scope, if_read, sort_in}
+use Rattle.pads_well_sorted.specs.Sorts as sorts_of
+use Rattle.pads_well_sorted.specs.WellSorted.{Each, Takes, HaveSorts, IsCall, IsNamed, IsType, IsParam, param_sorts}
+use Rattle.pads_well_sorted.proofs.Lists.{each-left, each-right, there-mapped, mapped-there}
+use Rattle.pads_accepted.specs.Described.{judging_scope, AreSpelled, IsSpelled, IsProper, Describes, Typed, Sees}
+use Rattle.pads_accepted.proofs.Described.{described, unless_popt, plain-is}
+use Rattle.pads_accepted.proofs.Environment.{site_of, env-at}
+use Rattle.pads_accepted.proofs.Faultless.{none-left, none-right, not-when, is-not-false, both-left, both-right, is-taken, is-truth}
+use Rattle.pads_accepted.proofs.Forms.{num-form, truth-form}
+use Rattle.pads_accepted.proofs.Free.{Free, FreePiece}
+use Rattle.pads_accepted.proofs.Lists.{get-below}
+use Rattle.pads_accepted.proofs.Typed.{lawful, known-operand}
+use Rattle.pads_accepted.proofs.Types.{IsReadRole, IsReadAt, shape-off, Named, base-named, earlier-named, named-at, meaning-base, meaning-earlier, used-known, param-known, no-list, read-if, env, made, sorts, free, few, made-there, earlier-read, short-is}
+
+-- sorts that are the same
+sort-is : (s : Sort) (f : Form) → s.optional ≡ 0 → s.form ≡ f → s ≡ sorts_of.plain f
+sort-is s f none is = ap₂ (λ (o : ℕ) (f : Form). record { optional = o; form = f }) none is
+
+same-form-is : (f g : Form) → rules.same_form f g ≡ true → f ≡ g
+same-form-is form.Num form.Num h = refl
+same-form-is form.Text form.Text h = refl
+same-form-is form.Truth form.Truth h = refl
+same-form-is (form.Struct a) (form.Struct b) h = ap form.Struct (eqb-true a b h)
+same-form-is (form.Union a) (form.Union b) h = ap form.Union (eqb-true a b h)
+same-form-is (form.Enum a) (form.Enum b) h = ap form.Enum (eqb-true a b h)
+same-form-is (form.Array a) (form.Array b) h = ap form.Array (eqb-true a b h)
+same-form-is _ _ h = cc
+
+agree-is : (a b : Sort) → ((a.optional == b.optional) && rules.same_form a.form b.form) ≡ true → a ≡ b
+agree-is a b h =
+    ap₂ (λ (o : ℕ) (f : Form). record { optional = o; form = f }) (eqb-true a.optional b.optional (both-left (a.optional == b.optional) (rules.same_form a.form b.form) h))
+    (same-form-is a.form b.form (both-right (a.optional == b.optional) (rules.same_form a.form b.form) h))
+
+text-form : (f : Form) → is_text_form f ≡ true → f ≡ form.Text
+text-form form.Text h = refl
+text-form _ h = cc
+
+no-arguments : {A : Type 0} (xs : List A) → (length xs == 0) ≡ true → xs ≡ []
+no-arguments [] h = refl
+no-arguments (x ∷ xs) h = let e = eqb-true (suc (length xs)) 0 h in absurd (omega arith)
+
+-- a parameter's base type
+param-base : (o : Option ℕ) (b : BaseName) (m : Meaning) → m ≡ Base b → is_base is_param_base (unless_popt o m) ≡ true → (s : Sort) × (behind_popt o (meaning_sort m) ≡ expr_sort.Known s) × ((s ≡ sorts_of.num) ⊎ (s ≡ sorts_of.text))
+param-base None b m is h = by b (ap meaning_sort is) (sym (ap (is_base is_param_base) is) ∙ h)
+  where
+    by : (b : BaseName) → meaning_sort m ≡ rules.base_sort b → is_param_base b ≡ true → (s : Sort) × (meaning_sort m ≡ expr_sort.Known s) × ((s ≡ sorts_of.num) ⊎ (s ≡ sorts_of.text))
+    by (base.Int c kind) is h = (sorts_of.num, is, inl refl)
+    by (base.IntFw c kind) is h = (sorts_of.num, is, inl refl)
+    by (base.Bin kind) is h = (sorts_of.num, is, inl refl)
+    by (base.SizedBin order kind) is h = (sorts_of.num, is, inl refl)
+    by (base.Until c) is h = (sorts_of.text, is, inr refl)
+    by (base.Fixed c) is h = (sorts_of.text, is, inr refl)
+    by (base.Class c) is h = (sorts_of.text, is, inr refl)
+    by (base.Char c) is h = (sorts_of.text, is, inr refl)
+    by (base.Ip c) is h = (sorts_of.num, is, inl refl)
+param-base (Some place) b m is h = cc
+
+param-earlier : (o : Option ℕ) (x : Declared) (m : Meaning) → m ≡ Earlier x → is_base is_param_base (unless_popt o m) ≡ true → ⊥
+param-earlier None x m is h = let e = sym (ap (is_base is_param_base) is) ∙ h in cc
+param-earlier (Some place) x m is h = cc
+
+module _ (tree : Ast) (none : violations tree ≡ []) where
+  abbrev TypedHere : Scope → Expr → ExprSort → Type 0
+  TypedHere = Typed (env tree none) (made tree none) (sorts tree none)
+
+  abbrev SeesHere : Names → Scope → Type 0
+  SeesHere = Sees (env tree none) (made tree none) (sorts tree none)
+
+  abbrev Has : Scope → Expr → Sort → Type 0
+  Has w e s = sort_in (made tree none) (sorts tree none) e w ≡ Some s
+
+  abbrev judged_here : Tree → Names → List (List ℕ) → Judged
+  judged_here e names later = judged (env tree none) e (judging_scope names later)
+
+  abbrev Haves : Scope → List Expr → List Sort → Type 0
+  Haves = HaveSorts (made tree none) (sorts tree none)
+
+  -- a parameter of a declaration
+  pub param-sort : (n : ℕ) (d : WrittenDecl) (param : WrittenParam) → FreePiece (site_of tree.decls n d) (OfParam param.of)
+      → (s : Sort) × (type_sort (take n (env tree none)) param.of ≡ expr_sort.Known s) × ((s ≡ sorts_of.num) ⊎ (s ≡ sorts_of.text))
+  param-sort n d param piece =
+      let site = site_of tree.decls n d in
+      let t = param.of in
+      let types = take n (env tree none) in
+      let m = meaning types t.name.text in
+      let plain : is_base is_param_base (unless_popt t.optional m) ≡ true =
+          sym (ap (is_base is_param_base) (plain-is types t))
+          ∙ both-left (is_base is_param_base (plain_meaning types t)) (is_empty (args_of t)) (is-not-false (is_bare is_param_base site t) (not-when (not (is_bare is_param_base site t)) (breaks 19 t.name.at) piece.params)) in
+      by t m plain (named-at tree.decls n t.name.text (param-known site t piece))
+    where
+      by : (t : «Type») (m : Meaning) → is_base is_param_base (unless_popt t.optional (meaning (take n (env tree none)) t.name.text)) ≡ true → Named tree.decls n t.name.text
+          → (s : Sort) × (type_sort (take n (env tree none)) t ≡ expr_sort.Known s) × ((s ≡ sorts_of.num) ⊎ (s ≡ sorts_of.text))
+      by t m plain (base-named b is) =
+          param-base t.optional b (meaning (take n (env tree none)) t.name.text) (meaning-base (take n (env tree none)) t.name.text b is) plain
+      by t m plain (earlier-named k e none_base less there found place) =
+          absurd (param-earlier t.optional (declare (take k (env tree none)) e) (meaning (take n (env tree none)) t.name.text)
+          (meaning-earlier (take n (env tree none)) t.name.text (declare (take k (env tree none)) e) none_base found) plain)
+
+  -- expressions
+  pub expr-typed : (n : ℕ) (d : WrittenDecl) (e : Tree) (names : Names) (later : List (List ℕ)) (w : Scope) → SeesHere names w → AreSpelled (names_in_expr e) → (judged_here e names later).faults ≡ []
+      → (sort : ExprSort) × (sort ≡ (judged_here e names later).sort) × TypedHere w (expr_at (site_of tree.decls n d) names e) sort
+  unfolding expr_at expr_of
+  expr-typed n d e names later w sees spelled free =
+      let fits = lawful tree.decls (env tree none) (made tree none) (sorts tree none) (described tree none) e names later w sees spelled free in
+      ((expression tree.decls (env tree none) e names).sort, fits.0, fits.1)
+
+  pub number-typed : (n : ℕ) (d : WrittenDecl) (e : Tree) (names : Names) (later : List (List ℕ)) (w : Scope) → SeesHere names w → AreSpelled (names_in_expr e) → (judged_here e names later).faults ≡ []
+      → wrong_sort is_num_form (judged_here e names later) ≡ [] → Has w (expr_at (site_of tree.decls n d) names e) sorts_of.num
+  number-typed n d e names later w sees spelled free taken =
+      let x = expr-typed n d e names later w sees spelled free in
+      let s = known-operand tree.decls (env tree none) (made tree none) (sorts tree none) (described tree none) is_num_form x.0 (expr_at (site_of tree.decls n d) names e) w x.2
+          (ap (accepts is_num_form) x.1 ∙ is-taken is_num_form (judged_here e names later) taken) in
+      s.5 ∙ ap (λ s. Some s) (sort-is s.0 form.Num s.2 (num-form (s.0).form s.3))
+
+  pub truth-typed : (n : ℕ) (d : WrittenDecl) (e : Tree) (names : Names) (later : List (List ℕ)) (w : Scope) → SeesHere names w → AreSpelled (names_in_expr e) → (judged_here e names later).faults ≡ []
+      → no_truth (judged_here e names later) ≡ [] → Has w (expr_at (site_of tree.decls n d) names e) sorts_of.truth
+  truth-typed n d e names later w sees spelled free taken =
+      let x = expr-typed n d e names later w sees spelled free in
+      let s = known-operand tree.decls (env tree none) (made tree none) (sorts tree none) (described tree none) is_truth_form x.0 (expr_at (site_of tree.decls n d) names e) w x.2
+          (ap (accepts is_truth_form) x.1 ∙ is-truth (judged_here e names later) taken) in
+      s.5 ∙ ap (λ s. Some s) (sort-is s.0 form.Truth s.2 (truth-form (s.0).form s.3))
+
+  agree-typed : (wanted : Sort) (sort : ExprSort) (e : Expr) (w : Scope) → TypedHere w e sort → agree (expr_sort.Known wanted) sort ≡ true → Has w e wanted
+  agree-typed wanted expr_sort.Unknown e w typed h = absurd typed
+  agree-typed wanted expr_sort.Nothing e w typed h = cc
+  agree-typed wanted (expr_sort.Known s) e w typed h = typed.1 ∙ ap (λ s. Some s) (sym (agree-is wanted s h))
+
+  pub agreed-typed : (n : ℕ) (d : WrittenDecl) (e : Tree) (names : Names) (later : List (List ℕ)) (w : Scope) (wanted : Sort) → SeesHere names w → AreSpelled (names_in_expr e)
+      → (judged_here e names later).faults ≡ [] → agree (expr_sort.Known wanted) (judged_here e names later).sort ≡ true → Has w (expr_at (site_of tree.decls n d) names e) wanted
+  agreed-typed n d e names later w wanted sees spelled free h =
+      let x = expr-typed n d e names later w sees spelled free in
+      agree-typed wanted x.0 (expr_at (site_of tree.decls n d) names e) w x.2 (ap (agree (expr_sort.Known wanted)) x.1 ∙ h)
+
+  -- arguments
+  module _ (n : ℕ) (d : WrittenDecl) (names : Names) (later : List (List ℕ)) (w : Scope) (sees : SeesHere names w) where
+    abbrev site : Site
+    site = site_of tree.decls n d
+
+    abbrev made_args : List Arg → List Expr
+    made_args written = args tree.decls (env tree none) names written
+
+    arguments-typed : (m : Meaning) (count : ℕ) (written : List Arg) (i : ℕ) (wanted : List Sort) → takes_end m ≡ false
+        → ((k : ℕ) (p : Sort) → slice_get wanted k ≡ Some p → slice_get (params_in m) (i + k) ≡ Some (expr_sort.Known p)) → length written ≡ length wanted
+        → AreSpelled (flat_map names_in_arg written) → each (argument_faults site (judging_scope names later)) written ≡ []
+        → each (argument_sort (env tree none) (judging_scope names later) m count) (enumerate_from i written) ≡ [] → Haves w (made_args written) wanted
+    unfolding args expr_at
+    arguments-typed m count [] i [] no_end params long spelled free sorted = tt
+    arguments-typed m count [] i (p ∷ wanted) no_end params long spelled free sorted = absurd (omega arith)
+    arguments-typed m count (a ∷ written) i [] no_end params long spelled free sorted = absurd (omega arith)
+    arguments-typed m count (arg.Expr e ∷ written) i (p ∷ wanted) no_end params long spelled free sorted =
+        let j = judged_here e names later in
+        let number : i + 0 ≡ i = omega arith in
+        let param : slice_get (params_in m) i ≡ Some (expr_sort.Known p) = subst (λ i. slice_get (params_in m) i ≡ Some (expr_sort.Known p)) number (params 0 p refl) in
+        let rule = none-left (argument_sort (env tree none) (judging_scope names later) m count (i, arg.Expr e)) (each (argument_sort (env tree none) (judging_scope names later) m count) (enumerate_from (i + 1) written)) sorted in
+        let agreed = is-not-false (agrees_with (slice_get (params_in m) i) j.sort) (not-when (not (agrees_with (slice_get (params_in m) i) j.sort)) (breaks 8 j.first) rule) in
+        (agreed-typed n d e names later w p sees (each-left IsSpelled (names_in_expr e) (flat_map names_in_arg written) spelled) (none-left j.faults (each (argument_faults site (judging_scope names later)) written) free)
+        (sym (ap (λ o. agrees_with o j.sort) param) ∙ agreed),
+        arguments-typed m count written (i + 1) wanted no_end (λ k q there. subst (λ m'. slice_get (params_in m) m' ≡ Some (expr_sort.Known q)) (one-on i k) (params (suc k) q there)) (omega arith)
+        (each-right IsSpelled (names_in_expr e) (flat_map names_in_arg written) spelled) (none-right j.faults (each (argument_faults site (judging_scope names later)) written) free)
+        (none-right (argument_sort (env tree none) (judging_scope names later) m count (i, arg.Expr e)) (each (argument_sort (env tree none) (judging_scope names later) m count) (enumerate_from (i + 1) written)) sorted))
+      where
+        one-on : (i k : ℕ) → i + suc k ≡ i + 1 + k
+        one-on i k = omega arith
+    arguments-typed m count (arg.Peor at ∷ written) i (p ∷ wanted) no_end params long spelled free sorted =
+        let rule = none-left (when (not (takes_end m && (count == 1))) (breaks 8 at)) (each (argument_sort (env tree none) (judging_scope names later) m count) (enumerate_from (i + 1) written)) sorted in
+        let ends = both-left (takes_end m) (count == 1) (is-not-false (takes_end m && (count == 1)) (not-when (not (takes_end m && (count == 1))) (breaks 8 at) rule)) in
+        let never : true ≡ false = sym ends ∙ no_end in cc
