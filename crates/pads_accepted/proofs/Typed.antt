@@ -441,14 +441,14 @@ module _ (written : List WrittenDecl) (env : List Declared) (decls : List Decl) 
   other-name name other sort scope is =
       ap (λ b. option_map (λ (bound : List ℕ × Sort). bound.1) (cond b (Some (name, sort)) (find (λ (bound : List ℕ × Sort). pointwise nat_eq other bound.0) scope))) is
 
-  other-meaning : (name other : List ℕ) (what : Stands) (sort : Sort) (scope : Scope) → IsSpelled name → pointwise nat_eq other name ≡ false
+  pub other-meaning : (name other : List ℕ) (what : Stands) (sort : Sort) (scope : Scope) → IsSpelled name → pointwise nat_eq other name ≡ false
       → meaning_sort decls sorts (meaning_of other what) ((name, sort) ∷ scope) ≡ meaning_sort decls sorts (meaning_of other what) scope
   other-meaning name other stands.Variable sort scope spelled differ = other-name name other sort scope differ
   other-meaning name other stands.Elts sort scope spelled differ = other-name name at_sign sort scope spelled
   other-meaning name other stands.Length sort scope spelled differ = ap (option_and_then (plainly length_sort)) (other-name name at_sign sort scope spelled)
   other-meaning name other (stands.Field number) sort scope spelled differ = ap (option_and_then (plainly (part_sort decls sorts number))) (other-name name at_sign sort scope spelled)
 
-  sees-by : (names : Names) (scope : Scope) (name text : List ℕ) (what : ExprSort) (sort : Sort) (known : Known) (t : Bool) → IsSpelled name → what ≡ expr_sort.Known sort → IsProper env decls sort.form
+  pub sees-by : (names : Names) (scope : Scope) (name text : List ℕ) (what : ExprSort) (sort : Sort) (known : Known) (t : Bool) → IsSpelled name → what ≡ expr_sort.Known sort → IsProper env decls sort.form
       → ((known : Known) → known_in names text ≡ Some known → IsKnown env decls (λ s. meaning_sort decls sorts (meaning_of text known.stands) scope ≡ Some s) known.sort) → same_text name text ≡ t
       → option_map (λ (v : Visible). v.known) (cond t (Some (record { text = name; known = record { stands = stands.Variable; sort = what } })) (find (λ (v : Visible). same_text v.text text) names)) ≡ Some known
       → IsKnown env decls (λ s. meaning_sort decls sorts (meaning_of text known.stands) ((name, sort) ∷ scope) ≡ Some s) known.sort

@@ -13,7 +13,7 @@ use Rattle.pads_ast.specs.declared.types.Type.{«Type»}
 use Rattle.pads_base_names.specs.Names.{base_name, takes}
 use Rattle.pads_base_names.specs.declared.meaning.BaseName.{BaseName}
 use Rattle.pads_base_names.specs.declared.meaning.BaseName.TheVariants as base
-use Rattle.pads_base_names.specs.declared.meaning.NamedCoding.TheVariants as coding
+use Rattle.pads_base_names.specs.declared.meaning.NamedCoding.{NamedCoding}
 use Rattle.pads_sorts.specs.declared.sort.Form.{Form}
 use Rattle.pads_sorts.specs.declared.sort.Form.TheVariants as form
 use Rattle.pads_sorts.specs.declared.sort.Sort.{Sort}
@@ -46,7 +46,7 @@ use Rattle.pads_rules.specs.declared.expr_sort.ExprSort.TheVariants as expr_sort
 use Rattle.pads_well_sorted.specs.Expressions.{Scope, if_read, sort_in}
 use Rattle.pads_well_sorted.specs.Sorts as sorts_of
 use Rattle.pads_well_sorted.specs.WellSorted.{Each, Takes, HaveSorts, IsCall, IsNamed, IsType, IsParam, param_sorts}
-use Rattle.pads_well_sorted.proofs.Lists.{each-left, each-right, there-mapped, mapped-there}
+use Rattle.pads_well_sorted.proofs.Lists.{each-left, each-right, each-there, there-mapped, mapped-there}
 use Rattle.pads_accepted.specs.Described.{judging_scope, AreSpelled, IsSpelled, IsProper, Describes, Typed, Sees}
 use Rattle.pads_accepted.proofs.Described.{described, unless_popt, plain-is}
 use Rattle.pads_accepted.proofs.Environment.{site_of, env-at}
@@ -210,3 +210,117 @@ module _ (tree : Ast) (none : violations tree ≡ []) where
         let rule = none-left (when (not (takes_end m && (count == 1))) (breaks 8 at)) (each (argument_sort (env tree none) (judging_scope names later) m count) (enumerate_from (i + 1) written)) sorted in
         let ends = both-left (takes_end m) (count == 1) (is-not-false (takes_end m && (count == 1)) (not-when (not (takes_end m && (count == 1))) (breaks 8 at) rule)) in
         let never : true ≡ false = sym ends ∙ no_end in cc
+
+    one-param : (p : Sort) (k : ℕ) (q : Sort) → slice_get (p ∷ []) k ≡ Some q → slice_get (expr_sort.Known p ∷ []) (0 + k) ≡ Some (expr_sort.Known q)
+    one-param p zero q there = let same : p ≡ q = cc in ap (λ s. Some (expr_sort.Known s)) same
+    one-param p (suc k) q there = cc
+
+    no-param : (ps : List ExprSort) (k : ℕ) (q : Sort) → slice_get {X = Sort} [] k ≡ Some q → slice_get ps (0 + k) ≡ Some (expr_sort.Known q)
+    no-param ps k q there = cc
+
+    abbrev Spelled : List Arg → Type 0
+    Spelled written = AreSpelled (flat_map names_in_arg written)
+
+    abbrev FreeArgs : List Arg → Type 0
+    FreeArgs written = each (argument_faults site (judging_scope names later)) written ≡ []
+
+    abbrev SortedArgs : Meaning → List Arg → Type 0
+    SortedArgs m written = each (argument_sort (env tree none) (judging_scope names later) m (length written)) (enumerate_from 0 written) ≡ []
+
+    none-typed : (m : Meaning) (written : List Arg) → takes_end m ≡ false → (length written == 0) ≡ true → Spelled written → FreeArgs written → SortedArgs m written → Haves w (made_args written) []
+    none-typed m written no_end long spelled free sorted =
+        arguments-typed m (length written) written 0 [] no_end (no-param (params_in m)) (eqb-true (length written) 0 long) spelled free sorted
+
+    one-typed : (m : Meaning) (p : Sort) (written : List Arg) → params_in m ≡ expr_sort.Known p ∷ [] → takes_end m ≡ false → (length written == 1) ≡ true → Spelled written → FreeArgs written → SortedArgs m written
+        → Haves w (made_args written) (p ∷ [])
+    one-typed m p written params no_end long spelled free sorted =
+        arguments-typed m (length written) written 0 (p ∷ []) no_end (λ k q there. ap (λ ps. slice_get ps (0 + k)) params ∙ one-param p k q there) (eqb-true (length written) 1 long) spelled free sorted
+
+    stop-typed : (c : NamedCoding) (written : List Arg) → (length written == 1) ≡ true → Spelled written → FreeArgs written → SortedArgs (Base (base.Until c)) written
+        → Takes (base_type_of (is_end written) (base.Until c)) (Haves w (made_args written))
+    unfolding args expr_at
+    stop-typed c [] long spelled free sorted = cc
+    stop-typed c (arg.Peor at ∷ []) long spelled free sorted = tt
+    stop-typed c (arg.Expr e ∷ []) long spelled free sorted =
+        let j = judged_here e names later in
+        let m = Base (base.Until c) in
+        let rule = none-left (argument_sort (env tree none) (judging_scope names later) m 1 (0, arg.Expr e)) [] sorted in
+        let agreed = is-not-false (agree rules.text j.sort) (not-when (not (agree rules.text j.sort)) (breaks 8 j.first) rule) in
+        (agreed-typed n d e names later w sorts_of.text sees (each-left IsSpelled (names_in_expr e) [] spelled) (none-left j.faults [] free) agreed, tt)
+    stop-typed c (a ∷ b ∷ rest) long spelled free sorted = let e = eqb-true (suc (suc (length rest))) 1 long in absurd (omega arith)
+
+    base-typed : (b : BaseName) (written : List Arg) → takes_so_many (takes b) (length written) ≡ true → Spelled written → FreeArgs written → SortedArgs (Base b) written
+        → Takes (base_type_of (is_end written) b) (Haves w (made_args written))
+    base-typed (base.Int c kind) written long spelled free sorted = none-typed (Base (base.Int c kind)) written refl long spelled free sorted
+    base-typed (base.IntFw c kind) written long spelled free sorted = one-typed (Base (base.IntFw c kind)) sorts_of.num written refl refl long spelled free sorted
+    base-typed (base.Bin kind) written long spelled free sorted = inl (none-typed (Base (base.Bin kind)) written refl long spelled free sorted)
+    base-typed (base.SizedBin order kind) written long spelled free sorted = by (length written == 0) (length written == 1) refl refl long
+      where
+        by : (a b : Bool) → (length written == 0) ≡ a → (length written == 1) ≡ b → (a || b) ≡ true → Haves w (made_args written) [] ⊎ Haves w (made_args written) (sorts_of.num ∷ [])
+        by true b is was h = inl (none-typed (Base (base.SizedBin order kind)) written refl is spelled free sorted)
+        by false true is was h = inr (one-typed (Base (base.SizedBin order kind)) sorts_of.num written refl refl was spelled free sorted)
+        by false false is was h = cc
+    base-typed (base.Until c) written long spelled free sorted = stop-typed c written long spelled free sorted
+    base-typed (base.Fixed c) written long spelled free sorted = one-typed (Base (base.Fixed c)) sorts_of.num written refl refl long spelled free sorted
+    base-typed (base.Class c) written long spelled free sorted = one-typed (Base (base.Class c)) sorts_of.text written refl refl long spelled free sorted
+    base-typed (base.Char c) written long spelled free sorted = none-typed (Base (base.Char c)) written refl long spelled free sorted
+    base-typed (base.Ip c) written long spelled free sorted = none-typed (Base (base.Ip c)) written refl long spelled free sorted
+
+    -- the parameters of a declaration
+    abbrev made_params_of : ℕ → WrittenDecl → List Param
+    made_params_of k e = map (param_of (take k (env tree none))) (params_of e.body)
+
+    wanted-there : (k : ℕ) (e : WrittenDecl) → slice_get tree.decls k ≡ Some e → (j : ℕ) (p : Sort) → slice_get (param_sorts (made_params_of k e)) j ≡ Some p
+        → slice_get (map (λ (param : WrittenParam). type_sort (take k (env tree none)) param.of) (params_of e.body)) (0 + j) ≡ Some (expr_sort.Known p)
+    unfolding param_of
+    wanted-there k e there j p found =
+        let x = mapped-there (λ (param : Param). param.sort) (made_params_of k e) j p found in
+        let y = mapped-there (param_of (take k (env tree none))) (params_of e.body) j x.0 x.1 in
+        let pieces = each-left (FreePiece (site_of tree.decls k e)) (map (λ (param : WrittenParam). OfParam param.of) (params_of e.body)) _ (free tree none k e there).at_pieces in
+        let piece = each-there (FreePiece (site_of tree.decls k e)) (map (λ (param : WrittenParam). OfParam param.of) (params_of e.body)) j (OfParam (y.0).of) pieces
+            (there-mapped (λ (param : WrittenParam). OfParam param.of) (params_of e.body) j y.0 y.1) in
+        let s = param-sort k e y.0 piece in
+        let is : sort_known (type_sort (take k (env tree none)) (y.0).of) ≡ p = ap (λ (param : Param). param.sort) y.2 ∙ x.2 in
+        let same : s.0 ≡ p = sym (ap sort_known s.1) ∙ is in
+        let number : 0 + j ≡ j = omega arith in
+        ap (slice_get (map (λ (param : WrittenParam). type_sort (take k (env tree none)) param.of) (params_of e.body))) number
+        ∙ there-mapped (λ (param : WrittenParam). type_sort (take k (env tree none)) param.of) (params_of e.body) j y.0 y.1
+        ∙ ap (λ s. Some s) (s.1 ∙ ap (λ s. expr_sort.Known s) same)
+
+    abbrev UsedHere : «Type» → Type 0
+    UsedHere t = FreePiece site (Used (judging_scope names later) t)
+
+    count-rule : (t : «Type») → UsedHere t → is_count_of (meaning (take n (env tree none)) t.name.text) (length (args_of t)) ≡ true
+    count-rule t piece =
+        let ok = is_count_of (meaning (take n (env tree none)) t.name.text) (length (args_of t)) in is-not-false ok (not-when (not ok) (breaks 7 t.name.at) piece.counts)
+
+    named-typed : slice_get tree.decls n ≡ Some d → IsReadAt tree.decls n d → (t : «Type») → UsedHere t → Spelled (args_of t) → Named tree.decls n t.name.text
+        → IsNamed (made tree none) (sorts tree none) n w (made_args (args_of t)) (named_type (take n (env tree none)) t)
+    unfolding named_type decl_at
+    named-typed there reads t piece spelled (base-named b is) =
+        let m = meaning-base (take n (env tree none)) t.name.text b is in
+        subst (λ o. IsNamed (made tree none) (sorts tree none) n w (made_args (args_of t)) (type_name_of (is_end (args_of t)) o (declared_number (take n (env tree none)) t.name.text))) (sym is)
+        (base-typed b (args_of t) (sym (ap (λ m. is_count_of m (length (args_of t))) m) ∙ count-rule t piece) spelled piece.expressions
+        (subst (λ m. SortedArgs m (args_of t)) m piece.arguments))
+    named-typed there reads t piece spelled (earlier-named k e none_base less named found place) =
+        let types = take n (env tree none) in
+        let x = declare (take k (env tree none)) e in
+        let m = meaning-earlier types t.name.text x none_base found in
+        let list = no-list site t piece.records (shape-off tree.decls n d reads) in
+        let read = earlier-read tree none n k d e t.name.text there named less none_base found list in
+        let number = short-is tree none k (few tree none k e named) in
+        let counted = eqb-true (length (args_of t)) (length x.params) (sym (ap (λ m. is_count_of m (length (args_of t))) m) ∙ count-rule t piece) in
+        let long : length (args_of t) ≡ length (param_sorts (made_params_of k e)) =
+            counted ∙ length-map (params_of e.body) (λ (param : WrittenParam). type_sort (take k (env tree none)) param.of)
+            ∙ sym (length-map (params_of e.body) (param_of (take k (env tree none)))) ∙ sym (length-map (made_params_of k e) (λ (param : Param). param.sort)) in
+        let given = arguments-typed (Earlier x) (length (args_of t)) (args_of t) 0 (param_sorts (made_params_of k e)) refl (wanted-there k e named) long spelled piece.expressions
+            (subst (λ m. SortedArgs m (args_of t)) m piece.arguments) in
+        let call : IsCall (made tree none) (sorts tree none) n w (made_args (args_of t)) k =
+            (less, decl_at (site_of tree.decls k e), made-there tree none k e named, read-if (role_of (site_of tree.decls k e)) (made_body (site_of tree.decls k e) (made_params (site_of tree.decls k e)) e.body) read, given) in
+        subst (λ o. IsNamed (made tree none) (sorts tree none) n w (made_args (args_of t)) (type_name_of (is_end (args_of t)) o (declared_number types t.name.text))) (sym none_base)
+        (subst (λ o. IsNamed (made tree none) (sorts tree none) n w (made_args (args_of t)) (declared_type o)) (sym place)
+        (subst (IsCall (made tree none) (sorts tree none) n w (made_args (args_of t))) (sym number) call))
+
+    pub type-typed : slice_get tree.decls n ≡ Some d → IsReadAt tree.decls n d → (t : «Type») → UsedHere t → Spelled (args_of t) → IsType (made tree none) (sorts tree none) n w (type_at site names t)
+    unfolding type_at
+    type-typed there reads t piece spelled = named-typed there reads t piece spelled (named-at tree.decls n t.name.text (used-known site (judging_scope names later) t piece))
