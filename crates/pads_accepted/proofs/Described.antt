@@ -169,7 +169,7 @@ module _ (tree : Ast) (none : violations tree ≡ []) where
   used-sort n d names scope t there reads piece =
       type-same tree none n d names t there (named-at tree.decls n t.name.text (used-known (site_at n d) scope t piece)) (no-list (site_at n d) t piece.records (shape-off tree.decls n d reads))
 
-  used-proper : (n : ℕ) (d : WrittenDecl) (names : Names) (scope : Judging) (t : «Type») → slice_get tree.decls n ≡ Some d → IsReadAt tree.decls n d → FreePiece (site_at n d) (Used scope t)
+  pub used-proper : (n : ℕ) (d : WrittenDecl) (names : Names) (scope : Judging) (t : «Type») → slice_get tree.decls n ≡ Some d → IsReadAt tree.decls n d → FreePiece (site_at n d) (Used scope t)
       → (P : Sort → Type 0) → P (sorts_of.type_sort sorts_here (type_at (site_at n d) names t)) → Known P (type_sort (take n env_here) t)
   used-proper n d names scope t there reads piece P has =
       let s = sorts_of.type_sort sorts_here (type_at (site_at n d) names t) in
@@ -205,7 +205,7 @@ module _ (tree : Ast) (none : violations tree ≡ []) where
       (computed-by n t (named-at tree.decls n t.name.text (computed-known (site_at n d) scope t value piece))
       (both-left (is_base is_computable_base (plain_meaning (take n env_here) t)) (is_empty (args_of t)) rule.0), rule.1)
 
-  computed-proper : (of : MadeComputed) → IsProper env_here made_here (sorts_of.computed_sort of).form
+  pub computed-proper : (of : MadeComputed) → IsProper env_here made_here (sorts_of.computed_sort of).form
   computed-proper (computed.Int kind) = tt
   computed-proper computed.Text = tt
 

@@ -4,6 +4,7 @@ pub mod Faultless
 pub mod Forms
 pub mod Free
 pub mod Lists
+pub mod Scopes
 pub mod Trees
 pub mod Typed
 pub mod Types

@@ -63,11 +63,11 @@ sort-known (visible ∷ names) name = by_text (same_text visible.text name) (sor
     by_text true e = refl
     by_text false e = e
 
-same-is : (a b : List ℕ) → same_text a b ≡ true → a ≡ b
+pub same-is : (a b : List ℕ) → same_text a b ≡ true → a ≡ b
 unfolding same_text
 same-is a b h = (bytes_decides a b).0 h
 
-own-text : (a : List ℕ) → pointwise nat_eq a a ≡ true
+pub own-text : (a : List ℕ) → pointwise nat_eq a a ≡ true
 own-text a = (bytes_decides a a).1 refl
 
 pub same-swapped : (a b : List ℕ) (t : Bool) → same_text a b ≡ t → pointwise nat_eq b a ≡ t

@@ -1,3 +1,4 @@
+use Rattle.pads_accepted.proofs.Scopes.{step}
 use Rattle.pads_accepted.proofs.Uses.{agreed-typed, type-typed}
 use Rattle.pads_accepted.proofs.Described.{tree-described}
 use Rattle.pads_accepted.proofs.laws.accepted_declarations_are_described.Goals as goal

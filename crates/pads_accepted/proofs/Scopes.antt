@@ -1,0 +1,146 @@
+-- The names in scope of a description without violations.
+use Rattle.std.proofs.Common.{◌≡◌, ◌∙◌, sym, ap, refl, subst, ℕ, zero, suc, ◌+◌, Bool, true, false, not, cond, ◌||◌, nat_eq, List, [], ◌∷◌, ◌++◌, append_assoc, append-nil, map, length, take, find, codes, Option, Some, None, option_map, option_and_then, slice_get}
+use Rattle.std.specs.Prelude.{⊤}
+use Rattle.std.specs.List.{list_any}
+use Rattle.std.proofs.lemmas.List.Folds.{list_any-append}
+use lib.Pointwise.{pointwise, bytes_decides}
+use Rattle.pads_ast.specs.declared.decl.Ast.{Ast}
+use Rattle.pads_ast.specs.declared.decl.Decl.{Decl as WrittenDecl}
+use Rattle.pads_ast.specs.declared.name.Name.{Name}
+use Rattle.pads_ast.specs.declared.types.Param.{Param as WrittenParam}
+use Rattle.pads_sorts.specs.declared.sort.Form.TheVariants as form
+use Rattle.pads_sorts.specs.declared.sort.Sort.{Sort}
+use Rattle.pads_resolution.specs.declared.visible.Known.{Known}
+use Rattle.pads_resolution.specs.declared.visible.Stands.{Stands}
+use Rattle.pads_resolution.specs.declared.visible.Stands.TheVariants as stands
+use Rattle.pads_resolution.specs.declared.visible.Visible.{Visible}
+use Rattle.pads_resolution.specs.Expressions.{meaning_of, sort_known}
+use Rattle.pads_resolution.specs.Scopes.{Scope as Names, known_in, name_as, variable, array_scope}
+use Rattle.pads_resolution.specs.Types.{param_of}
+use Rattle.pads_rules.specs.DeclRules.{same_name}
+use Rattle.pads_rules.specs.Faults.{breaks, when, again}
+use Rattle.pads_rules.specs.Pieces.{OfParam}
+use Rattle.pads_rules.specs.Resolving.{param_named}
+use Rattle.pads_rules.specs.Texts.{same_text}
+use Rattle.pads_rules.specs.Violations.{violations}
+use Rattle.pads_rules.specs.Sorts as rules
+use Rattle.pads_rules.specs.declared.declared.Named.{Named as RuleNamed}
+use Rattle.pads_rules.specs.declared.expr_sort.ExprSort.{ExprSort}
+use Rattle.pads_rules.specs.declared.expr_sort.ExprSort.TheVariants as expr_sort
+use Rattle.pads_rules.specs.declared.fault.CheckFault.{CheckFault}
+use Rattle.pads_trans.specs.Names.{at_sign}
+use Rattle.pads_well_sorted.specs.Expressions.{Scope, sort_in_scope, meaning_sort}
+use Rattle.pads_well_sorted.specs.Sorts as sorts_of
+use Rattle.pads_well_sorted.specs.WellSorted.{Each, params_scope}
+use Rattle.pads_accepted.specs.Described.{as_named, IsSpelled, AreSpelled, IsProper, IsKnown, Sees}
+use Rattle.pads_accepted.proofs.Described.{described}
+use Rattle.pads_accepted.proofs.Environment.{site_of}
+use Rattle.pads_accepted.proofs.Faultless.{none-left, none-right, not-when}
+use Rattle.pads_accepted.proofs.Free.{FreePiece}
+use Rattle.pads_accepted.proofs.Typed.{same-is, own-text, same-swapped, other-meaning}
+use Rattle.pads_accepted.proofs.Types.{or-false, env, made, sorts}
+use Rattle.pads_accepted.proofs.Uses.{param-sort}
+
+or_else : Option Known → Option Known → Option Known
+or_else None o = o
+or_else (Some k) o = Some k
+
+known-behind : (names : Names) (v : Visible) (text : List ℕ) → known_in (names ++ v ∷ []) text ≡ or_else (known_in names text) (known_in (v ∷ []) text)
+unfolding or_else
+known-behind [] v text = refl
+known-behind (u ∷ names) v text = by (same_text u.text text) (known-behind names v text)
+  where
+    by : (b : Bool) → known_in (names ++ v ∷ []) text ≡ or_else (known_in names text) (known_in (v ∷ []) text)
+        → option_map (λ (x : Visible). x.known) (cond b (Some u) (find (λ (x : Visible). same_text x.text text) (names ++ v ∷ [])))
+        ≡ or_else (option_map (λ (x : Visible). x.known) (cond b (Some u) (find (λ (x : Visible). same_text x.text text) names))) (known_in (v ∷ []) text)
+    by true h = refl
+    by false h = h
+
+-- a name that is there is an earlier one or the last
+behind : (names : Names) (v : Visible) (text : List ℕ) (k : Known) (P : Type 0) → (known_in names text ≡ Some k → P) → (known_in names text ≡ None → known_in (v ∷ []) text ≡ Some k → P)
+    → known_in (names ++ v ∷ []) text ≡ Some k → P
+unfolding or_else
+behind names v text k P old new there = by (known_in names text) refl (sym (known-behind names v text) ∙ there)
+  where
+    by : (o : Option Known) → known_in names text ≡ o → or_else o (known_in (v ∷ []) text) ≡ Some k → P
+    by None is h = new is h
+    by (Some x) is h = old (is ∙ h)
+
+none-behind : (names : Names) (v : Visible) (text : List ℕ) → known_in names text ≡ None → known_in (v ∷ []) text ≡ None → known_in (names ++ v ∷ []) text ≡ None
+unfolding or_else
+none-behind names v text old new = known-behind names v text ∙ ap (λ o. or_else o (known_in (v ∷ []) text)) old ∙ new
+
+alone-by : (v : Visible) (text : List ℕ) (k : Known) (b : Bool) → same_text v.text text ≡ b → option_map (λ (x : Visible). x.known) (cond b (Some v) None) ≡ Some k → (v.text ≡ text) × (v.known ≡ k)
+alone-by v text k true is there = (same-is v.text text is, cc)
+alone-by v text k false is there = cc
+
+alone : (v : Visible) (text : List ℕ) (k : Known) → known_in (v ∷ []) text ≡ Some k → (v.text ≡ text) × (v.known ≡ k)
+alone v text k there = alone-by v text k (same_text v.text text) refl there
+
+other-alone : (v : Visible) (text : List ℕ) → same_text v.text text ≡ false → known_in (v ∷ []) text ≡ None
+other-alone v text is = ap (λ b. option_map (λ (x : Visible). x.known) (cond b (Some v) None)) is
+
+swapped-false : (a b : List ℕ) → same_text a b ≡ false → same_text b a ≡ false
+unfolding same_text
+swapped-false a b h = same-swapped a b false h
+
+pointwise-false : (a b : List ℕ) → pointwise nat_eq a b ≡ false → pointwise nat_eq b a ≡ false
+pointwise-false a b h = by (pointwise nat_eq b a) refl
+  where
+    by : (t : Bool) → pointwise nat_eq b a ≡ t → t ≡ false
+    by true is = sym ((bytes_decides a b).1 (sym ((bytes_decides b a).0 is))) ∙ h
+    by false is = refl
+
+module _ (tree : Ast) (none : violations tree ≡ []) where
+  abbrev SeesHere : Names → Scope → Type 0
+  SeesHere = Sees (env tree none) (made tree none) (sorts tree none)
+
+  abbrev pub IsProperHere : Sort → Type 0
+  IsProperHere s = IsProper (env tree none) (made tree none) s.form
+
+  -- names that stand for variables, as the rules and the resolved tree see them
+  pub record State (names : Names) (seen : List RuleNamed) (w : Scope) (before : List Name) : Type 0 where
+    pub shown : map as_named names ≡ seen
+    pub sees : SeesHere names w
+    pub covered : (text : List ℕ) → list_any (λ (t : Name). same_text text t.text) before ≡ false → known_in names text ≡ None
+    pub variables : (text : List ℕ) (known : Known) → known_in names text ≡ Some known → (known.stands ≡ stands.Variable) × IsSpelled text
+
+  shown-behind : (names : Names) (v : Visible) → map as_named (names ++ v ∷ []) ≡ map as_named names ++ as_named v ∷ []
+  shown-behind [] v = refl
+  shown-behind (u ∷ names) v = ap (λ rest. as_named u ∷ rest) (shown-behind names v)
+
+  -- one more name
+  pub step : (names : Names) (seen : List RuleNamed) (w : Scope) (before : List Name) (x : Name) (what : ExprSort) (s : Sort) → State names seen w before
+      → list_any (same_name x) before ≡ false → IsSpelled x.text → what ≡ expr_sort.Known s → IsProperHere s
+      → State (names ++ name_as x.text stands.Variable what ∷ []) (seen ++ record { text = x.text; sort = what } ∷ []) ((x.text, s) ∷ w) (before ++ x ∷ [])
+  step names seen w before x what s state fresh spelled is proper =
+      let v : Visible = name_as x.text stands.Variable what in
+      record {
+        shown = shown-behind names v ∙ ap (λ seen. seen ++ record { text = x.text; sort = what } ∷ []) state.shown;
+        sees = λ text known there. behind names v text known (Goal text known) (λ old. keep text known old (pointwise nat_eq text x.text) refl)
+            (λ absent new. let h = alone v text known new in fresh-one text known h.0 h.1) there;
+        covered = λ text apart.
+            let both = or-false (list_any (λ (t : Name). same_text text t.text) before) (list_any (λ (t : Name). same_text text t.text) (x ∷ []))
+                (sym (list_any-append (λ (t : Name). same_text text t.text) before (x ∷ [])) ∙ apart) in
+            none-behind names v text (state.covered text both.0) (other-alone v text (swapped-false text x.text (or-false (same_text text x.text) false both.1).0));
+        variables = λ text known there. behind names v text known ((known.stands ≡ stands.Variable) × IsSpelled text) (state.variables text known)
+            (λ absent new. let h = alone v text known new in (sym (ap (λ (k : Known). k.stands) h.1), subst IsSpelled h.0 spelled)) there;
+      }
+    where
+      Goal : List ℕ → Known → Type 0
+      Goal text known = IsKnown (env tree none) (made tree none) (λ r. meaning_sort (made tree none) (sorts tree none) (meaning_of text known.stands) ((x.text, s) ∷ w) ≡ Some r) known.sort
+
+      keep : (text : List ℕ) (known : Known) → known_in names text ≡ Some known → (b : Bool) → pointwise nat_eq text x.text ≡ b → Goal text known
+      keep text known old true same =
+          let is : text ≡ x.text = (bytes_decides text x.text).0 same in
+          let absent : known_in names text ≡ None = ap (known_in names) is ∙ state.covered x.text fresh in
+          let never : Some known ≡ None = sym old ∙ absent in cc
+      keep text known old false differ =
+          let h = state.sees text known old in
+          (h.0, h.1, h.2,
+          other-meaning tree.decls (env tree none) (made tree none) (sorts tree none) (described tree none) x.text text known.stands s w spelled differ ∙ h.3)
+
+      fresh-one : (text : List ℕ) (known : Known) → x.text ≡ text → record { stands = stands.Variable; sort = what } ≡ known → Goal text known
+      fresh-one text known at same =
+          subst (λ (text : List ℕ). Goal text known) at (subst (λ (known : Known). Goal x.text known) same
+          (s, is, proper, ap (λ b. option_map (λ (bound : List ℕ × Sort). bound.1) (cond b (Some (x.text, s)) (find (λ (bound : List ℕ × Sort). pointwise nat_eq x.text bound.0) w))) (own-text x.text)))
