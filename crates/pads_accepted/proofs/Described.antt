@@ -156,7 +156,7 @@ module _ (tree : Ast) (none : violations tree ≡ []) where
       let is = subst (λ (m : Decl). if_read m.role m.body ≡ Some reads.0) (sym d.2) x.2 in
       (d.0, d.1, read-role (role_of (site_at k d.0)) (made_body (site_at k d.0) (made_params (site_at k d.0)) (d.0).body) reads.0 is)
 
-  few-parts : (n : ℕ) (d : WrittenDecl) → slice_get tree.decls n ≡ Some d → part_count d.body ≤ 4096
+  pub few-parts : (n : ℕ) (d : WrittenDecl) → slice_get tree.decls n ≡ Some d → part_count d.body ≤ 4096
   few-parts n d there =
       ltb-false 4096 (part_count d.body)
       (or-false (nat_le 4096 n) (nat_lt 4096 (part_count d.body))

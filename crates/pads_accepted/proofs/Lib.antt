@@ -1,3 +1,5 @@
+pub mod Bodies
+pub mod Decls
 pub mod Described
 pub mod Environment
 pub mod Faultless

@@ -58,7 +58,7 @@ use Rattle.pads_accepted.proofs.Typed.{lawful, known-operand}
 use Rattle.pads_accepted.proofs.Types.{IsReadRole, IsReadAt, shape-off, Named, base-named, earlier-named, named-at, meaning-base, meaning-earlier, used-known, param-known, no-list, read-if, env, made, sorts, free, few, made-there, earlier-read, short-is}
 
 -- sorts that are the same
-sort-is : (s : Sort) (f : Form) → s.optional ≡ 0 → s.form ≡ f → s ≡ sorts_of.plain f
+pub sort-is : (s : Sort) (f : Form) → s.optional ≡ 0 → s.form ≡ f → s ≡ sorts_of.plain f
 sort-is s f none is = ap₂ (λ (o : ℕ) (f : Form). record { optional = o; form = f }) none is
 
 same-form-is : (f g : Form) → rules.same_form f g ≡ true → f ≡ g
@@ -76,7 +76,7 @@ agree-is a b h =
     ap₂ (λ (o : ℕ) (f : Form). record { optional = o; form = f }) (eqb-true a.optional b.optional (both-left (a.optional == b.optional) (rules.same_form a.form b.form) h))
     (same-form-is a.form b.form (both-right (a.optional == b.optional) (rules.same_form a.form b.form) h))
 
-text-form : (f : Form) → is_text_form f ≡ true → f ≡ form.Text
+pub text-form : (f : Form) → is_text_form f ≡ true → f ≡ form.Text
 text-form form.Text h = refl
 text-form _ h = cc
 
