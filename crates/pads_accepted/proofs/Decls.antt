@@ -30,6 +30,7 @@ use Rattle.pads_resolution.specs.declared.visible.Stands.TheVariants as stands
 use Rattle.pads_resolution.specs.Bodies.{expr_at, option_at, branch_at, case_at, switch_at, union_at, array_option_at, array_at, constraint_at, typedef_at}
 use Rattle.pads_resolution.specs.Scopes.{Scope as Names, hiding, array_scope}
 use Rattle.pads_resolution.specs.Types.{const_of, type_at}
+use Rattle.pads_rules.specs.DeclRules.{part_count}
 use Rattle.pads_rules.specs.Faults.{breaks, when, each}
 use Rattle.pads_rules.specs.Judging.{Scope as Judging, Judged, judged}
 use Rattle.pads_rules.specs.NameTokens.{names_in_expr, names_in_option, names_in_type, names_in_branch, names_in_array_option, names_in_constraint, names_in_union}
@@ -77,7 +78,7 @@ module _ (tree : Ast) (none : violations tree ≡ []) (n : ℕ) (d : WrittenDecl
   abbrev plain_scope : List RuleNamed → Judging
   plain_scope seen = record { visible = seen; later = [] }
 
-  used : (t : «Type») → Free_here (Used (plain_scope seen) t) → Free_here (Used (judging_scope names []) t)
+  pub used : (t : «Type») → Free_here (Used (plain_scope seen) t) → Free_here (Used (judging_scope names []) t)
   used t piece = used-here tree none n d there reads names seen w before state [] t piece
 
   -- typedefs
@@ -145,3 +146,78 @@ module _ (tree : Ast) (none : violations tree ≡ []) (n : ℕ) (d : WrittenDecl
       options-typed proper ad.options (each-right Free_here sized optioned front) (each-right IsSpelled (in_of ++ in_size) in_options to_options),
       condition-typed tree none n d there reads (array_scope n names) [] in_array ad.condition (sees-array tree none n names seen w before state proper)
       (each-right IsSpelled (in_of ++ in_size ++ in_options) (names_in_option ad.condition) spelled) (each-right Free_here (sized ++ optioned) conditioned pieces.1))
+
+  -- unions
+  number-key : (c : WrittenConst) → agree rules.num (const_sort c) ≡ true → IsNumberKey (const_of c)
+  number-key (written_const.Number negative value at) h = tt
+  number-key (written_const.Word word) h = cc
+
+  text-key : (c : WrittenConst) → agree rules.text (const_sort c) ≡ true → IsTextKey (const_of c)
+  text-key (written_const.Number negative value at) h = cc
+  text-key (written_const.Word word) h = tt
+
+  abbrev Agreed : ExprSort → WrittenConst → Type 0
+  Agreed sort c = when (not (agree sort (const_sort c))) (breaks 12 (const_place c)) ≡ []
+
+  agreed : (sort : ExprSort) (c : WrittenConst) → Agreed sort c → agree sort (const_sort c) ≡ true
+  agreed sort c h = is-not-false (agree sort (const_sort c)) (not-when (not (agree sort (const_sort c))) (breaks 12 (const_place c)) h)
+
+  number-keys : (cases : List WrittenCase) (sort : ExprSort) → sort ≡ rules.num → Each (Agreed sort) (map (λ (c : WrittenCase). c.key) cases) → Each (λ case. IsNumberKey case.key) (map (case_at site names) cases)
+  unfolding case_at
+  number-keys [] sort is all = tt
+  number-keys (c ∷ cases) sort is all = (number-key c.key (sym (ap (λ sort. agree sort (const_sort c.key)) is) ∙ agreed sort c.key all.0), number-keys cases sort is all.1)
+
+  text-keys : (cases : List WrittenCase) (sort : ExprSort) → sort ≡ rules.text → Each (Agreed sort) (map (λ (c : WrittenCase). c.key) cases) → Each (λ case. IsTextKey case.key) (map (case_at site names) cases)
+  unfolding case_at
+  text-keys [] sort is all = tt
+  text-keys (c ∷ cases) sort is all = (text-key c.key (sym (ap (λ sort. agree sort (const_sort c.key)) is) ∙ agreed sort c.key all.0), text-keys cases sort is all.1)
+
+  chosen-typed : (s : WrittenSwitch) → Free_here (Choice (judging_scope names []) s.value (map (λ (c : WrittenCase). c.key) s.cases)) → AreSpelled (names_in_expr s.value)
+      → Chooses (made tree none) (sorts tree none) n w (expr_at site names s.value) (map (case_at site names) s.cases)
+  chosen-typed s piece spelled =
+      let e = expr_at site names s.value in
+      let keys = map (λ (c : WrittenCase). c.key) s.cases in
+      let j = judged (env tree none) s.value (judging_scope names []) in
+      let wrong = when (not (accepts is_num_or_text j.sort)) (breaks 12 j.first) in
+      let others = each (λ constant. when (not (agree j.sort (const_sort constant))) (breaks 12 (const_place constant))) keys in
+      let taken = is-not-false (accepts is_num_or_text j.sort) (not-when (not (accepts is_num_or_text j.sort)) (breaks 12 j.first) (none-left wrong others piece.cases)) in
+      let all = each-none (λ constant. when (not (agree j.sort (const_sort constant))) (breaks 12 (const_place constant))) keys (none-right wrong others piece.cases) in
+      let x = expr-typed tree none n d s.value names [] w state.sees spelled piece.expressions in
+      let k = known-operand tree.decls (env tree none) (made tree none) (sorts tree none) (described tree none) is_num_or_text x.0 e w x.2 (ap (accepts is_num_or_text) x.1 ∙ taken) in
+      by s j.sort all k.0 (sym x.1 ∙ k.1) k.2 k.5 (is_num_form (k.0).form) (is_text_form (k.0).form) refl refl k.3
+    where
+      by : (s : WrittenSwitch) (sort : ExprSort) → Each (Agreed sort) (map (λ (c : WrittenCase). c.key) s.cases) → (k : Sort) → sort ≡ expr_sort.Known k → k.optional ≡ 0
+          → sort_in (made tree none) (sorts tree none) (expr_at site names s.value) w ≡ Some k → (a b : Bool) → is_num_form k.form ≡ a → is_text_form k.form ≡ b → (a || b) ≡ true
+          → Chooses (made tree none) (sorts tree none) n w (expr_at site names s.value) (map (case_at site names) s.cases)
+      by s sort all k is plain has true b number words h =
+          let same = sort-is k form.Num plain (num-form k.form number) in
+          inl (has ∙ ap (λ s. Some s) same, number-keys s.cases sort (is ∙ ap (λ s. expr_sort.Known s) same) all)
+      by s sort all k is plain has false true number words h =
+          let same = sort-is k form.Text plain (text-form k.form words) in
+          inr (has ∙ ap (λ s. Some s) same, text-keys s.cases sort (is ∙ ap (λ s. expr_sort.Known s) same) all)
+      by s sort all k is plain has false false number words h = cc
+
+  union-chosen : (u : UnionBody) → Each Free_here (union_body_pieces types (map as_named names) u) → AreSpelled (names_in_union u) → IsChosen (made tree none) (sorts tree none) n w (union_at site names u)
+  unfolding union_at switch_at
+  union-chosen (written_union.Branches branches) pieces spelled = tt
+  union-chosen (written_union.Switch s) pieces spelled =
+      chosen-typed s pieces.0 (each-left IsSpelled (names_in_expr s.value) (flat_map names_in_branch (branches_of (written_union.Switch s))) spelled)
+
+  union-names : (u : UnionBody) → AreSpelled (names_in_union u) → AreSpelled (flat_map names_in_branch (branches_of u))
+  union-names (written_union.Branches branches) spelled = spelled
+  union-names (written_union.Switch s) spelled = each-right IsSpelled (names_in_expr s.value) (flat_map names_in_branch (branches_of (written_union.Switch s))) spelled
+
+  few-enough : (count : ℕ) → count ≤ 4096 → nat_le count 65535 ≡ true
+  few-enough count within = le-leb count 65535 (omega arith)
+
+  pub union-typed : (ud : WrittenUnion) → d.body ≡ written_body.Union ud → Each Free_here (union_body_pieces types seen ud.body) → AreSpelled (names_in_union ud.body)
+      → Again tree none (before ++ []) (map (λ (f : WrittenBranch). f.name) (branches_of ud.body)) → IsUnion (made tree none) (sorts tree none) n w (union_at site names ud.body)
+  union-typed ud is pieces spelled free =
+      let bs = branches_of ud.body in
+      let branches = branches-typed tree none n d there reads names seen w before state bs [] free (union-names ud.body spelled) (branch-pieces tree none n d there reads seen ud.body pieces) in
+      let within : length bs ≤ 4096 = subst (λ inner. part_count inner ≤ 4096) is (few-parts tree none n d there) in
+      let same = branches-are tree none n d there reads names ud.body in
+      let long : length (union_branches (union_at site names ud.body)) ≡ length bs = ap length same ∙ length-map bs (branch_at site names) in
+      (ap (λ count. nat_le count 65535) long ∙ few-enough (length bs) within,
+      union-chosen ud.body (subst (λ seen. Each Free_here (union_body_pieces types seen ud.body)) (sym state.shown) pieces) spelled,
+      subst (Each (IsBranch (made tree none) (sorts tree none) n w)) (sym same) branches)

@@ -7,6 +7,7 @@ pub mod Forms
 pub mod Free
 pub mod Lists
 pub mod Scopes
+pub mod Structs
 pub mod Trees
 pub mod Typed
 pub mod Types

@@ -1,7 +1,7 @@
 -- The structs that a description without violations resolves to: the names of a `Pwhere`.
-use Rattle.std.proofs.Common.{◌≡◌, ◌∙◌, sym, ap, refl, subst, arith, ℕ, zero, suc, ◌+◌, ◌<◌, ◌≤◌, Bool, true, List, [], ◌∷◌, ◌++◌, append_assoc, append-nil, map, flat_map, length, take, Option, Some, None, option_and_then, slice_get, le-leb}
+use Rattle.std.proofs.Common.{◌≡◌, ◌∙◌, sym, ap, refl, subst, arith, ℕ, zero, suc, ◌+◌, ◌<◌, ◌≤◌, Bool, true, List, [], ◌∷◌, ◌++◌, append_assoc, append-nil, map, flat_map, length, take, Option, Some, None, option_and_then, nat_le, slice_get, le-leb}
 use Rattle.std.specs.Prelude.{⊤}
-use Rattle.pads_calc.specs.Counts.{few}
+use Rattle.std.proofs.lemmas.List.{map-append}
 use Rattle.pads_ast.specs.declared.decl.Ast.{Ast}
 use Rattle.pads_ast.specs.declared.decl.Decl.{Decl as WrittenDecl}
 use Rattle.pads_ast.specs.declared.decl.DeclBody.TheVariants as written_body
@@ -158,3 +158,41 @@ module _ (tree : Ast) (none : violations tree ≡ []) (n : ℕ) (d : WrittenDecl
       where
         from : (j : ℕ) → j ≡ 0 + j
         from j = omega arith
+
+  -- the rules see the same names
+  shown-after : (parts : List WrittenPart) (names : Names) (number : ℕ) (seen : List RuleNamed) → map as_named names ≡ seen
+      → map as_named (fields_after types names number parts) ≡ seen ++ map (named types) (flat_map named_part parts)
+  shown-after [] names number seen shown = shown ∙ sym (append-nil seen)
+  shown-after (written_part.Literal l ∷ parts) names number seen shown = shown-after parts (names ++ []) (suc number) seen (ap (map as_named) (append-nil names) ∙ shown)
+  shown-after (written_part.Pcompute of name value ∷ parts) names number seen shown =
+      let own : RuleNamed = named types (name, of) in
+      shown-after parts (names ++ field types number (name, of) ∷ []) (suc number) (seen ++ own ∷ []) (map-append as_named names (field types number (name, of) ∷ []) ∙ ap (λ seen. seen ++ own ∷ []) shown)
+      ∙ append_assoc seen (own ∷ []) (map (named types) (flat_map named_part parts))
+  shown-after (written_part.Field f ∷ parts) names number seen shown =
+      let own : RuleNamed = named types (f.name, f.of) in
+      shown-after parts (names ++ field types number (f.name, f.of) ∷ []) (suc number) (seen ++ own ∷ []) (map-append as_named names (field types number (f.name, f.of) ∷ []) ∙ ap (λ seen. seen ++ own ∷ []) shown)
+      ∙ append_assoc seen (own ∷ []) (map (named types) (flat_map named_part parts))
+
+  long-parts : (parts : List WrittenPart) (names : Names) → length (parts_at site names parts) ≡ length parts
+  long-parts [] names = refl
+  long-parts (p ∷ parts) names = ap (λ m. suc m) (long-parts parts (names_after types names p))
+
+  few-enough : (count : ℕ) → count ≤ 4096 → nat_le count 65535 ≡ true
+  few-enough count within = le-leb count 65535 (omega arith)
+
+  pub struct-typed : (sd : WrittenStruct) → d.body ≡ written_body.Struct sd → (seen : List RuleNamed) (w : Scope) (before : List Name) → State tree none (made_params site) seen w before
+      → Each Free_here (struct_pieces types seen sd) → Again tree none before (flat_map part_names sd.parts) → AreSpelled (flat_map names_in_part sd.parts ++ names_in_option sd.condition)
+      → IsStruct (made tree none) (sorts tree none) n w (struct_at site (made_params site) sd)
+  unfolding struct_at
+  struct-typed sd is seen w before state pieces free spelled =
+      let params = made_params site in
+      let inside = each-left Free_here (parts_pieces types seen sd.parts) (conditions (scope_of (names_after_all types seen sd.parts)) sd.condition) pieces in
+      let behind_parts = each-right Free_here (parts_pieces types seen sd.parts) (conditions (scope_of (names_after_all types seen sd.parts)) sd.condition) pieces in
+      let shown = subst (λ seen. Each Free_here (parts_pieces types seen sd.parts)) (sym state.shown) inside in
+      let within : length sd.parts ≤ 4096 = subst (λ inner. part_count inner ≤ 4096) is (few-parts tree none n d there) in
+      (ap (λ count. nat_le count 65535) (long-parts sd.parts params) ∙ few-enough (length sd.parts) within,
+      parts-typed tree none n d there reads sd.parts params seen w before state free (each-left IsSpelled (flat_map names_in_part sd.parts) (names_in_option sd.condition) spelled) inside,
+      condition-typed tree none n d there reads (fields_after types params 0 sd.parts) [] ((at_sign, sorts_of.plain (form.Struct n)) ∷ w) sd.condition
+      (where-sees sd is w shown (sees-at tree none params seen w before (sorts_of.plain (form.Struct n)) state))
+      (each-right IsSpelled (flat_map names_in_part sd.parts) (names_in_option sd.condition) spelled)
+      (subst (λ visible. Each Free_here (conditions (scope_of visible) sd.condition)) (sym (shown-after sd.parts params 0 seen state.shown)) behind_parts))

@@ -1,3 +1,4 @@
+use Rattle.pads_accepted.proofs.Structs.{struct-typed}
 use Rattle.pads_accepted.proofs.Decls.{array-typed}
 use Rattle.pads_accepted.proofs.Scopes.{step, sees-array}
 use Rattle.pads_accepted.proofs.Uses.{agreed-typed, type-typed}
