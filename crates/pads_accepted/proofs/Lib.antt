@@ -1,3 +1,4 @@
+pub mod Again
 pub mod Bodies
 pub mod Decls
 pub mod Described
@@ -7,8 +8,10 @@ pub mod Forms
 pub mod Free
 pub mod Lists
 pub mod Scopes
+pub mod SortsAre
 pub mod Structs
 pub mod Trees
 pub mod Typed
 pub mod Types
 pub mod Uses
+pub mod Whole

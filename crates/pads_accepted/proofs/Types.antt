@@ -61,7 +61,7 @@ neither true true a b = b
 neither true false a b = a
 neither false l a b = refl
 
-unless : (a b : Bool) → (a && not b) ≡ false → b ≡ false → a ≡ false
+pub unless : (a b : Bool) → (a && not b) ≡ false → b ≡ false → a ≡ false
 unless true true h off = cc
 unless true false h off = h
 unless false b h off = refl
@@ -356,7 +356,7 @@ module _ (tree : Ast) (none : violations tree ≡ []) where
       ∙ ap (λ o. expr_sort.Known (sorts_of.named_sort sorts (declared_type o))) (sym place)
       ∙ ap (λ o. expr_sort.Known (sorts_of.named_sort sorts (type_name_of (is_end (args_of t)) o (declared_number (take n env) t.name.text)))) (sym none_base)
 
-  optional-same : (o : ℕ) → o ≤ 8192 → min (o + 1) (2 ^ 64 - 1) ≡ suc o
+  pub optional-same : (o : ℕ) → o ≤ 8192 → min (o + 1) (2 ^ 64 - 1) ≡ suc o
   optional-same o within = omega arith
 
   popt-same : (o : Option ℕ) (sort : ExprSort) (s : Sort) → sort ≡ expr_sort.Known s → s.optional ≤ 8192

@@ -1,5 +1,5 @@
 //! The laws of descriptions that break no rule.
-ghost use Rattle.std.specs.Prelude.{◌≡◌, ℕ, List, []};
+ghost use Rattle.std.specs.Prelude.{◌≡◌, ℕ, List, [], Some, slice_get};
 ghost use Rattle.pads_ast.specs.declared.decl.Ast.{Ast};
 ghost use Rattle.pads_ast.specs.declared.decl.Decl.{Decl as WrittenDecl};
 ghost use Rattle.pads_ast.specs.declared.expr.Expr.{Expr as Tree};
@@ -14,8 +14,9 @@ ghost use Rattle.pads_rules.specs.Violations.{violations};
 ghost use Rattle.pads_rules.specs.declared.declared.Declared.{Declared};
 ghost use Rattle.pads_sorts.specs.declared.sort.Sort.{Sort};
 ghost use Rattle.pads_well_sorted.specs.Expressions.{Scope};
+ghost use Rattle.pads_well_sorted.specs.WellSorted.{AreSorts, IsDecl};
 ghost use Rattle.pads_accepted.specs.Described.{judging_scope, AreSpelled, Describes, Sees, Typed};
-ghost use Rattle.pads_accepted.specs.Known.{known_sorts};
+ghost use Rattle.pads_accepted.specs.Known.{known_sorts, IsSpelledTree};
 
 /// The law of expressions, among declarations that are what the rules know of them and names that stand for what
 /// has their sorts: an expression that breaks no rule, and in which no name is spelled `@`, resolves to one of the
@@ -35,4 +36,12 @@ pub fn accepted_expressions_are_sorted()
 /// field, branch, label and element is there, by its number and of its sort.
 pub fn accepted_declarations_are_described()
     ensures described { (tree : Ast) → violations tree ≡ [] → Describes tree.decls (declared tree.decls) (resolved tree).decls (known_sorts tree) }
+{}
+
+/// The law of well-sorted declarations: those that a tree without violations resolves to have the sorts that the
+/// rules know, and each is well-sorted, where no name is spelled `@`.
+pub fn accepted_declarations_are_sorted()
+    ensures sorts { (tree : Ast) → violations tree ≡ [] → AreSorts (known_sorts tree) (resolved tree).decls }
+    ensures sorted { (tree : Ast) → violations tree ≡ [] → IsSpelledTree tree → (number : ℕ) (d : Decl) → slice_get (resolved tree).decls number ≡ Some d
+        → IsDecl (resolved tree).decls (known_sorts tree) number d }
 {}

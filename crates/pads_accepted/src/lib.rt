@@ -6,4 +6,7 @@
 
 mod laws;
 
-pub use laws::{accepted_declarations_are_described, accepted_expressions_are_sorted};
+pub use laws::{
+    accepted_declarations_are_described, accepted_declarations_are_sorted,
+    accepted_expressions_are_sorted,
+};
