@@ -105,10 +105,11 @@ module _ (tree : Ast) (none : violations tree ≡ []) (n : ℕ) (d : WrittenDecl
     branch-typed f later fresh spelled piece pieces =
         let rest = each-right IsSpelled (names_in_type f.of) (f.name.text ∷ names_in_option f.constraint) spelled in
         let in_type = each-left IsSpelled (names_in_type f.of) (f.name.text ∷ names_in_option f.constraint) spelled in
-        let inner = behind-field f fresh rest.0 later piece in
-        (type-typed tree none n d names later w state.sees there reads f.of (used-here later f.of piece) in_type.1,
-        condition-typed (names ++ variable (branch_named types f) ∷ []) later ((f.name.text, sorts_of.type_sort (sorts tree none) (type_at site names f.of)) ∷ w) f.constraint inner.sees rest.1
-        (subst (λ seen. Each Free_here (conditions (rule_scope seen later) f.constraint)) (sym inner.shown) pieces))
+        let inner = behind-field f fresh rest.0 later piece in (
+          type-typed tree none n d names later w state.sees there reads f.of (used-here later f.of piece) in_type.1,
+          condition-typed (names ++ variable (branch_named types f) ∷ []) later ((f.name.text, sorts_of.type_sort (sorts tree none) (type_at site names f.of)) ∷ w) f.constraint inner.sees rest.1
+              (subst (λ seen. Each Free_here (conditions (rule_scope seen later) f.constraint)) (sym inner.shown) pieces),
+        )
 
   -- parts of a struct
   pub parts-typed : (parts : List WrittenPart) (names : Names) (seen : List RuleNamed) (w : Scope) (before : List Name) → StateHere names seen w before → Again tree none before (flat_map part_names parts)
@@ -127,23 +128,25 @@ module _ (tree : Ast) (none : violations tree ≡ []) (n : ℕ) (d : WrittenDecl
       let piece : Free_here (Computed (judging_scope names later) of value) = subst (λ seen. Free_here (Computed (rule_scope seen later) of value)) (sym state.shown) pieces.0 in
       let rule = computed-sort tree none n d (judging_scope names later) of value piece in
       let agreed : agree (expr_sort.Known s) (judged (env tree none) value (judging_scope names later)).sort ≡ true =
-          sym (ap (λ sort. agree sort (judged (env tree none) value (judging_scope names later)).sort) rule.0) ∙ rule.1 in
-      (agreed-typed tree none n d value names later w s state.sees rest.1 piece.expressions agreed,
-      parts-typed parts (names_after types names p) (rule_names_after types seen p) ((name.text, s) ∷ w) (before ++ name ∷ [])
-      (step tree none names seen w before name (type_sort types of) s state (fresh-first tree none before name (flat_map part_names parts) free) rest.0 rule.0 (computed-proper tree none (computed_of of)))
-      (again-later tree none before name (flat_map part_names parts) free) (each-right IsSpelled (names_in_part p) (flat_map names_in_part parts) spelled) pieces.1)
+      sym (ap (λ sort. agree sort (judged (env tree none) value (judging_scope names later)).sort) rule.0) ∙ rule.1 in (
+        agreed-typed tree none n d value names later w s state.sees rest.1 piece.expressions agreed,
+        parts-typed parts (names_after types names p) (rule_names_after types seen p) ((name.text, s) ∷ w) (before ++ name ∷ [])
+            (step tree none names seen w before name (type_sort types of) s state (fresh-first tree none before name (flat_map part_names parts) free) rest.0 rule.0 (computed-proper tree none (computed_of of)))
+            (again-later tree none before name (flat_map part_names parts) free) (each-right IsSpelled (names_in_part p) (flat_map names_in_part parts) spelled) pieces.1,
+      )
   parts-typed (written_part.Field f ∷ parts) names seen w before state free spelled pieces =
       let p = written_part.Field f in
       let later = texts_of_parts (p ∷ parts) in
       let own = each-left IsSpelled (names_in_part p) (flat_map names_in_part parts) spelled in
       let fresh = fresh-first tree none before f.name (flat_map part_names parts) free in
       let here = each-left Free_here (part_pieces types seen later p) (parts_pieces types (rule_names_after types seen p) parts) pieces in
-      let spelled_name = (each-right IsSpelled (names_in_type f.of) (f.name.text ∷ names_in_option f.constraint) own).0 in
-      (branch-typed names seen w before state f later fresh own here.0 here.1,
-      parts-typed parts (names_after types names p) (rule_names_after types seen p) ((f.name.text, sorts_of.type_sort (sorts tree none) (type_at site names f.of)) ∷ w) (before ++ f.name ∷ [])
-      (behind-field names seen w before state f fresh spelled_name later here.0)
-      (again-later tree none before f.name (flat_map part_names parts) free) (each-right IsSpelled (names_in_part p) (flat_map names_in_part parts) spelled)
-      (each-right Free_here (part_pieces types seen later p) (parts_pieces types (rule_names_after types seen p) parts) pieces))
+      let spelled_name = (each-right IsSpelled (names_in_type f.of) (f.name.text ∷ names_in_option f.constraint) own).0 in (
+        branch-typed names seen w before state f later fresh own here.0 here.1,
+        parts-typed parts (names_after types names p) (rule_names_after types seen p) ((f.name.text, sorts_of.type_sort (sorts tree none) (type_at site names f.of)) ∷ w) (before ++ f.name ∷ [])
+            (behind-field names seen w before state f fresh spelled_name later here.0)
+            (again-later tree none before f.name (flat_map part_names parts) free) (each-right IsSpelled (names_in_part p) (flat_map names_in_part parts) spelled)
+            (each-right Free_here (part_pieces types seen later p) (parts_pieces types (rule_names_after types seen p) parts) pieces),
+      )
 
   -- branches of a union, each behind the parameters alone
   pub branches-typed : (names : Names) (seen : List RuleNamed) (w : Scope) (before : List Name) → StateHere names seen w before → (branches : List WrittenBranch) (more : List Name)
@@ -154,8 +157,9 @@ module _ (tree : Ast) (none : violations tree ≡ []) (n : ℕ) (d : WrittenDecl
       let others = map (λ (f : WrittenBranch). f.name) branches in
       let fresh = fresh-first tree none (before ++ more) f.name others free in
       let apart = (or-false (list_any (same_name f.name) before) (list_any (same_name f.name) more) (sym (list_any-append (same_name f.name) before more) ∙ fresh)).0 in
-      let here = each-left Free_here (branch_pieces types seen f) (flat_map (branch_pieces types seen) branches) pieces in
-      (branch-typed names seen w before state f [] apart (each-left IsSpelled (names_in_branch f) (flat_map names_in_branch branches) spelled) here.0 here.1,
-      branches-typed names seen w before state branches (more ++ f.name ∷ []) (subst (λ all. Again tree none all others) (append_assoc before more (f.name ∷ [])) (again-later tree none (before ++ more) f.name others free))
-      (each-right IsSpelled (names_in_branch f) (flat_map names_in_branch branches) spelled)
-      (each-right Free_here (branch_pieces types seen f) (flat_map (branch_pieces types seen) branches) pieces))
+      let here = each-left Free_here (branch_pieces types seen f) (flat_map (branch_pieces types seen) branches) pieces in (
+        branch-typed names seen w before state f [] apart (each-left IsSpelled (names_in_branch f) (flat_map names_in_branch branches) spelled) here.0 here.1,
+        branches-typed names seen w before state branches (more ++ f.name ∷ []) (subst (λ all. Again tree none all others) (append_assoc before more (f.name ∷ [])) (again-later tree none (before ++ more) f.name others free))
+            (each-right IsSpelled (names_in_branch f) (flat_map names_in_branch branches) spelled)
+            (each-right Free_here (branch_pieces types seen f) (flat_map (branch_pieces types seen) branches) pieces),
+      )

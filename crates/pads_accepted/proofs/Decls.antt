@@ -100,10 +100,11 @@ module _ (tree : Ast) (none : violations tree ≡ []) (n : ℕ) (d : WrittenDecl
   unfolding typedef_at
   typedef-typed td pieces spelled =
       let piece = used td.of pieces.0 in
-      let front = each-left IsSpelled (names_in_type td.of) (flat_map names_in_constraint (listed td.constraint)) spelled in
-      (type-typed tree none n d names [] w state.sees there reads td.of piece front.1,
-      constraint-typed td td.constraint piece (subst (λ seen. Each Free_here (constraint_pieces types seen td.of td.constraint)) (sym state.shown) pieces.1)
-      (each-right IsSpelled (names_in_type td.of) (flat_map names_in_constraint (listed td.constraint)) spelled))
+      let front = each-left IsSpelled (names_in_type td.of) (flat_map names_in_constraint (listed td.constraint)) spelled in (
+        type-typed tree none n d names [] w state.sees there reads td.of piece front.1,
+        constraint-typed td td.constraint piece (subst (λ seen. Each Free_here (constraint_pieces types seen td.of td.constraint)) (sym state.shown) pieces.1)
+            (each-right IsSpelled (names_in_type td.of) (flat_map names_in_constraint (listed td.constraint)) spelled),
+      )
 
   -- arrays
   size-typed : (o : Option Tree) → Each Free_here (sizes (judging_scope names []) o) → AreSpelled (names_in_option o) → IfThere (IsNumber (made tree none) (sorts tree none) w) (option_at site names o)
@@ -120,10 +121,11 @@ module _ (tree : Ast) (none : violations tree ≡ []) (n : ℕ) (d : WrittenDecl
   options-typed proper (written_option.Psep at separator ∷ options) pieces spelled = (tt, options-typed proper options pieces.1 spelled)
   options-typed proper (written_option.Pterm at terminator ∷ options) pieces spelled =
       (tt, options-typed proper options (each-right Free_here (option_pieces (judging_scope (array_scope n names) []) (written_option.Pterm at terminator)) (flat_map (option_pieces (judging_scope (array_scope n names) [])) options) pieces) spelled)
-  options-typed proper (written_option.Plast at e ∷ options) pieces spelled =
-      (truth-typed tree none n d e (array_scope n names) [] in_array (sees-array tree none n names seen w before state proper) (each-left IsSpelled (names_in_expr e) (flat_map names_in_array_option options) spelled)
-      (pieces.0).expressions (pieces.0).conditions,
-      options-typed proper options pieces.1 (each-right IsSpelled (names_in_expr e) (flat_map names_in_array_option options) spelled))
+  options-typed proper (written_option.Plast at e ∷ options) pieces spelled = (
+    truth-typed tree none n d e (array_scope n names) [] in_array (sees-array tree none n names seen w before state proper) (each-left IsSpelled (names_in_expr e) (flat_map names_in_array_option options) spelled)
+        (pieces.0).expressions (pieces.0).conditions,
+    options-typed proper options pieces.1 (each-right IsSpelled (names_in_expr e) (flat_map names_in_array_option options) spelled),
+  )
 
   pub array-typed : (ad : WrittenArray) → d.body ≡ written_body.Array ad → Each Free_here (array_pieces n seen ad)
       → AreSpelled (names_in_type ad.of ++ names_in_option ad.size ++ flat_map names_in_array_option ad.options ++ names_in_option ad.condition)
@@ -140,12 +142,13 @@ module _ (tree : Ast) (none : violations tree ≡ []) (n : ℕ) (d : WrittenDecl
       let in_size = names_in_option ad.size in
       let in_options = flat_map names_in_array_option ad.options in
       let to_options = each-left IsSpelled (in_of ++ in_size ++ in_options) (names_in_option ad.condition) spelled in
-      let to_size = each-left IsSpelled (in_of ++ in_size) in_options to_options in
-      (type-typed tree none n d names [] w state.sees there reads ad.of pieces.0 (each-left IsSpelled in_of in_size to_size).1,
-      size-typed ad.size (each-left Free_here sized optioned front) (each-right IsSpelled in_of in_size to_size),
-      options-typed proper ad.options (each-right Free_here sized optioned front) (each-right IsSpelled (in_of ++ in_size) in_options to_options),
-      condition-typed tree none n d there reads (array_scope n names) [] in_array ad.condition (sees-array tree none n names seen w before state proper)
-      (each-right IsSpelled (in_of ++ in_size ++ in_options) (names_in_option ad.condition) spelled) (each-right Free_here (sized ++ optioned) conditioned pieces.1))
+      let to_size = each-left IsSpelled (in_of ++ in_size) in_options to_options in (
+        type-typed tree none n d names [] w state.sees there reads ad.of pieces.0 (each-left IsSpelled in_of in_size to_size).1,
+        size-typed ad.size (each-left Free_here sized optioned front) (each-right IsSpelled in_of in_size to_size),
+        options-typed proper ad.options (each-right Free_here sized optioned front) (each-right IsSpelled (in_of ++ in_size) in_options to_options),
+        condition-typed tree none n d there reads (array_scope n names) [] in_array ad.condition (sees-array tree none n names seen w before state proper)
+            (each-right IsSpelled (in_of ++ in_size ++ in_options) (names_in_option ad.condition) spelled) (each-right Free_here (sized ++ optioned) conditioned pieces.1),
+      )
 
   -- unions
   number-key : (c : WrittenConst) → agree rules.num (const_sort c) ≡ true → IsNumberKey (const_of c)
@@ -217,7 +220,8 @@ module _ (tree : Ast) (none : violations tree ≡ []) (n : ℕ) (d : WrittenDecl
       let branches = branches-typed tree none n d there reads names seen w before state bs [] free (union-names ud.body spelled) (branch-pieces tree none n d there reads seen ud.body pieces) in
       let within : length bs ≤ 4096 = subst (λ inner. part_count inner ≤ 4096) is (few-parts tree none n d there) in
       let same = branches-are tree none n d there reads names ud.body in
-      let long : length (union_branches (union_at site names ud.body)) ≡ length bs = ap length same ∙ length-map bs (branch_at site names) in
-      (ap (λ count. nat_le count 65535) long ∙ few-enough (length bs) within,
-      union-chosen ud.body (subst (λ seen. Each Free_here (union_body_pieces types seen ud.body)) (sym state.shown) pieces) spelled,
-      subst (Each (IsBranch (made tree none) (sorts tree none) n w)) (sym same) branches)
+      let long : length (union_branches (union_at site names ud.body)) ≡ length bs = ap length same ∙ length-map bs (branch_at site names) in (
+        ap (λ count. nat_le count 65535) long ∙ few-enough (length bs) within,
+        union-chosen ud.body (subst (λ seen. Each Free_here (union_body_pieces types seen ud.body)) (sym state.shown) pieces) spelled,
+        subst (Each (IsBranch (made tree none) (sorts tree none) n w)) (sym same) branches,
+      )

@@ -201,9 +201,11 @@ module _ (tree : Ast) (none : violations tree ≡ []) where
   pub computed-sort : (n : ℕ) (d : WrittenDecl) (scope : Judging) (t : «Type») (value : Tree) → FreePiece (site_at n d) (Computed scope t value)
       → (type_sort (take n env_here) t ≡ expr_sort.Known (sorts_of.computed_sort (computed_of t))) × (agree (type_sort (take n env_here) t) (judged env_here value scope).sort ≡ true)
   computed-sort n d scope t value piece =
-      let rule = computed-rule n d scope t value piece in
-      (computed-by n t (named-at tree.decls n t.name.text (computed-known (site_at n d) scope t value piece))
-      (both-left (is_base is_computable_base (plain_meaning (take n env_here) t)) (is_empty (args_of t)) rule.0), rule.1)
+      let rule = computed-rule n d scope t value piece in (
+        computed-by n t (named-at tree.decls n t.name.text (computed-known (site_at n d) scope t value piece))
+            (both-left (is_base is_computable_base (plain_meaning (take n env_here) t)) (is_empty (args_of t)) rule.0),
+        rule.1,
+      )
 
   pub computed-proper : (of : MadeComputed) → IsProper env_here made_here (sorts_of.computed_sort of).form
   computed-proper (computed.Int kind) = tt
@@ -281,12 +283,15 @@ module _ (tree : Ast) (none : violations tree ≡ []) where
         let x = field-there params (map (param_named types) (params_of d.body)) sd.parts name sort inside found in
         let k = position_or_len (has_name name) sd.parts in
         let number : field_number tree.decls n name ≡ k =
-            ap (λ (o : Option WrittenDecl). by o) there ∙ ap (λ inner. field_in inner name) is ∙ place-number (has_name name) sd.parts x.3 (subst (λ inner. part_count inner ≤ 4096) is (few-parts n d there)) in
-        let body : body_at made_here n ≡ Some (made_body (site_at n d) params (written_body.Struct sd)) = body-is ∙ ap (λ inner. Some (made_body (site_at n d) params inner)) is in
-        (x.4.0, x.4.1, x.4.2,
-        ap (λ m. part_sort made_here sorts_here m (form.Struct n)) number
-        ∙ ap (option_and_then (sorting.part_of made_here sorts_here k)) body
-        ∙ ap (option_and_then (value_of made_here sorts_here)) x.2 ∙ x.4.3)
+        ap (λ (o : Option WrittenDecl). by o) there ∙ ap (λ inner. field_in inner name) is ∙ place-number (has_name name) sd.parts x.3 (subst (λ inner. part_count inner ≤ 4096) is (few-parts n d there)) in
+        let body : body_at made_here n ≡ Some (made_body (site_at n d) params (written_body.Struct sd)) = body-is ∙ ap (λ inner. Some (made_body (site_at n d) params inner)) is in (
+          x.4.0,
+          x.4.1,
+          x.4.2,
+          ap (λ m. part_sort made_here sorts_here m (form.Struct n)) number
+              ∙ ap (option_and_then (sorting.part_of made_here sorts_here k)) body
+              ∙ ap (option_and_then (value_of made_here sorts_here)) x.2 ∙ x.4.3,
+        )
       where
         by : Option WrittenDecl → ℕ
         by None = 0
@@ -328,18 +333,19 @@ module _ (tree : Ast) (none : violations tree ≡ []) where
         let many : length (map (branch_named types) bs) ≡ length bs = length-map bs (branch_named types) in
         let within : length bs ≤ 4096 = subst (λ inner. part_count inner ≤ 4096) is (few-parts n d there) in
         let number : number_of (position p (map (branch_named types) bs)) ≡ k =
-            place-number p (map (branch_named types) bs) (subst (λ m. k < m) (sym many) less) (subst (λ m. m ≤ 4096) (sym many) within) in
+        place-number p (map (branch_named types) bs) (subst (λ m. k < m) (sym many) less) (subst (λ m. m ≤ 4096) (sym many) within) in
         let pieces = subst (λ inner. Each Free_here (body_pieces types n (map (param_named types) (params_of d.body)) inner)) is (body-pieces tree none n d there) in
         let own = each-flat Free_here (branch_pieces types (map (param_named types) (params_of d.body))) bs k f.0 (branch-pieces (map (param_named types) (params_of d.body)) ud.body pieces) f.1 in
         let sort_is : type_sort types (f.0).of ≡ sort = ap (λ (x : RuleNamed). x.sort) f.2 ∙ x.2 in
         let there_made : slice_get (union_branches (union_at (site_at n d) params ud.body)) k ≡ Some (branch_at (site_at n d) params f.0) =
-            ap (λ bs. slice_get bs k) (branches-are params ud.body) ∙ there-mapped (branch_at (site_at n d) params) bs k f.0 f.1 in
-        (subst (λ m. m < length bs) (sym number) less,
-        subst (Known (λ s. option_map (λ (f : Branch). sorts_of.type_sort sorts_here f.of) (slice_get (union_branches (union_at (site_at n d) params ud.body)) (number_of (position p (map (branch_named types) bs)))) ≡ Some s)) sort_is
-        (used-proper n d params _ (f.0).of there reads own.0
-        (λ s. option_map (λ (f : Branch). sorts_of.type_sort sorts_here f.of) (slice_get (union_branches (union_at (site_at n d) params ud.body)) (number_of (position p (map (branch_named types) bs)))) ≡ Some s)
-        (ap (λ m. option_map (λ (f : Branch). sorts_of.type_sort sorts_here f.of) (slice_get (union_branches (union_at (site_at n d) params ud.body)) m)) number
-        ∙ ap (option_map (λ (f : Branch). sorts_of.type_sort sorts_here f.of)) there_made)))
+        ap (λ bs. slice_get bs k) (branches-are params ud.body) ∙ there-mapped (branch_at (site_at n d) params) bs k f.0 f.1 in (
+          subst (λ m. m < length bs) (sym number) less,
+          subst (Known (λ s. option_map (λ (f : Branch). sorts_of.type_sort sorts_here f.of) (slice_get (union_branches (union_at (site_at n d) params ud.body)) (number_of (position p (map (branch_named types) bs)))) ≡ Some s)) sort_is
+              (used-proper n d params _ (f.0).of there reads own.0
+              (λ s. option_map (λ (f : Branch). sorts_of.type_sort sorts_here f.of) (slice_get (union_branches (union_at (site_at n d) params ud.body)) (number_of (position p (map (branch_named types) bs)))) ≡ Some s)
+              (ap (λ m. option_map (λ (f : Branch). sorts_of.type_sort sorts_here f.of) (slice_get (union_branches (union_at (site_at n d) params ud.body)) m)) number
+              ∙ ap (option_map (λ (f : Branch). sorts_of.type_sort sorts_here f.of)) there_made)),
+        )
 
     union-field : (ud : WrittenUnion) (name : List ℕ) (sort : ExprSort) → d.body ≡ written_body.Union ud → sort_of (map (branch_named types) (branches_of ud.body)) name ≡ Some sort
         → Known (λ s. union_branch made_here sorts_here (branch_number (map (branch_named types) (branches_of ud.body)) name) (form.Union n) ≡ Some s) sort
@@ -359,7 +365,7 @@ module _ (tree : Ast) (none : violations tree ≡ []) where
         let number = branch_number (map (branch_named types) (branches_of ud.body)) name in
         let body : body_at made_here n ≡ Some (made_body (site_at n d) params (written_body.Union ud)) = body-is ∙ ap (λ inner. Some (made_body (site_at n d) params inner)) is in
         let many : length (union_branches (union_at (site_at n d) params ud.body)) ≡ length (branches_of ud.body) =
-            ap length (branches-are params ud.body) ∙ length-map (branches_of ud.body) (branch_at (site_at n d) params) in
+        ap length (branches-are params ud.body) ∙ length-map (branches_of ud.body) (branch_at (site_at n d) params) in
         ap (option_and_then (λ inner. sorting.if_there made_here sorts_here number (length (sorting.branches_in inner)))) body
         ∙ ap (λ b. if b then Some sorts_of.truth else None) (ap (nat_lt number) many ∙ lt-ltb number (length (branches_of ud.body)) x.0)
 
@@ -408,9 +414,10 @@ module _ (tree : Ast) (none : violations tree ≡ []) where
         × (plain_choice made_here sorts_here (branch_number branches name) (form.Union n) ≡ Some sorts_of.truth)
     branches-by (written_body.Union ud) branches name sort is content found =
         let same : map (branch_named types) (branches_of ud.body) ≡ branches = cc in
-        let found_there = ap (λ branches. sort_of branches name) same ∙ found in
-        (subst (λ branches. Known (λ s. union_branch made_here sorts_here (branch_number branches name) (form.Union n) ≡ Some s) sort) same (union-field ud name sort is found_there),
-        subst (λ branches. plain_choice made_here sorts_here (branch_number branches name) (form.Union n) ≡ Some sorts_of.truth) same (union-chosen ud name sort is found_there))
+        let found_there = ap (λ branches. sort_of branches name) same ∙ found in (
+          subst (λ branches. Known (λ s. union_branch made_here sorts_here (branch_number branches name) (form.Union n) ≡ Some s) sort) same (union-field ud name sort is found_there),
+          subst (λ branches. plain_choice made_here sorts_here (branch_number branches name) (form.Union n) ≡ Some sorts_of.truth) same (union-chosen ud name sort is found_there),
+        )
     branches-by (written_body.Struct sd) branches name sort is content found = cc
     branches-by (written_body.Array ad) branches name sort is content found = cc
     branches-by (written_body.Enum ed) branches name sort is content found = cc

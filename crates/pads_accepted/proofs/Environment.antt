@@ -60,6 +60,8 @@ site-back decls n made there =
     let number : 0 + n ≡ n = omega arith in
     let site = mapped-there decl_at (sites decls) n made there in
     let numbered = mapped-there (λ (numbered : ℕ × WrittenDecl). site_of decls numbered.0 numbered.1) _ n site.0 site.1 in
-    let x = numbered-back decls 0 n numbered.0 numbered.1 in
-    (x.0, x.1,
-    ap (λ (m : ℕ). decl_at (site_of decls m x.0)) (sym number) ∙ ap (λ (y : ℕ × WrittenDecl). decl_at (site_of decls y.0 y.1)) (sym x.2) ∙ ap decl_at numbered.2 ∙ site.2)
+    let x = numbered-back decls 0 n numbered.0 numbered.1 in (
+      x.0,
+      x.1,
+      ap (λ (m : ℕ). decl_at (site_of decls m x.0)) (sym number) ∙ ap (λ (y : ℕ × WrittenDecl). decl_at (site_of decls y.0 y.1)) (sym x.2) ∙ ap decl_at numbered.2 ∙ site.2,
+    )

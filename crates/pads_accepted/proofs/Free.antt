@@ -40,9 +40,10 @@ module _ (site : Site) where
       → Each (None size_sort) ps → Each (None condition_sort) ps → Each (None case_sorts) ps → Each (None computed_type) ps → Each (None param_type) ps → Each (None record_type_named) ps
       → Each (FreePiece site) ps
   together [] a b c d e f g h i j k = tt
-  together (p ∷ ps) a b c d e f g h i j k =
-      (record { unknown = a.0; later = b.0; expressions = c.0; counts = d.0; arguments = e.0; sizes = f.0; conditions = g.0; cases = h.0; computed = i.0; params = j.0; records = k.0 },
-      together ps a.1 b.1 c.1 d.1 e.1 f.1 g.1 h.1 i.1 j.1 k.1)
+  together (p ∷ ps) a b c d e f g h i j k = (
+    record { unknown = a.0; later = b.0; expressions = c.0; counts = d.0; arguments = e.0; sizes = f.0; conditions = g.0; cases = h.0; computed = i.0; params = j.0; records = k.0 },
+    together ps a.1 b.1 c.1 d.1 e.1 f.1 g.1 h.1 i.1 j.1 k.1,
+  )
 
 module _ (tree : Ast) where
   abbrev at_sites : (Site → List CheckFault) → List CheckFault

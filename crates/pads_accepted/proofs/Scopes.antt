@@ -122,7 +122,7 @@ module _ (tree : Ast) (none : violations tree ≡ []) where
             (λ absent new. let h = alone v text known new in fresh-one text known h.0 h.1) there;
         covered = λ text apart.
             let both = or-false (list_any (λ (t : Name). same_text text t.text) before) (list_any (λ (t : Name). same_text text t.text) (x ∷ []))
-                (sym (list_any-append (λ (t : Name). same_text text t.text) before (x ∷ [])) ∙ apart) in
+            (sym (list_any-append (λ (t : Name). same_text text t.text) before (x ∷ [])) ∙ apart) in
             none-behind names v text (state.covered text both.0) (other-alone v text (swapped-false text x.text (or-false (same_text text x.text) false both.1).0));
         variables = λ text known there. behind names v text known ((known.stands ≡ stands.Variable) × IsSpelled text) (state.variables text known)
             (λ absent new. let h = alone v text known new in (sym (ap (λ (k : Known). k.stands) h.1), subst IsSpelled h.0 spelled)) there;
@@ -137,9 +137,12 @@ module _ (tree : Ast) (none : violations tree ≡ []) where
           let absent : known_in names text ≡ None = ap (known_in names) is ∙ state.covered x.text fresh in
           let never : Some known ≡ None = sym old ∙ absent in cc
       keep text known old false differ =
-          let h = state.sees text known old in
-          (h.0, h.1, h.2,
-          other-meaning tree.decls (env tree none) (made tree none) (sorts tree none) (described tree none) x.text text known.stands s w spelled differ ∙ h.3)
+          let h = state.sees text known old in (
+            h.0,
+            h.1,
+            h.2,
+            other-meaning tree.decls (env tree none) (made tree none) (sorts tree none) (described tree none) x.text text known.stands s w spelled differ ∙ h.3,
+          )
 
       fresh-one : (text : List ℕ) (known : Known) → x.text ≡ text → record { stands = stands.Variable; sort = what } ≡ known → Goal text known
       fresh-one text known at same =
@@ -181,9 +184,10 @@ module _ (tree : Ast) (none : violations tree ≡ []) where
         → AreSpelled (map (λ (param : WrittenParam). param.name.text) ps) → Each (FreePiece (site_of tree.decls n d)) (map (λ (param : WrittenParam). OfParam param.of) ps)
         → State (names ++ map as_variable ps) (seen ++ map (param_named types) ps) (params_scope (map (param_of types) ps) w) (before ++ map name_in ps) × Again (before ++ map name_in ps) rest
     unfolding param_of
-    params-state [] names seen w before rest state free spelled pieces =
-        (state-is names (names ++ []) seen (seen ++ []) w before (before ++ []) (sym (append-nil names)) (sym (append-nil seen)) (sym (append-nil before)) state,
-        subst (λ before. Again before rest) (sym (append-nil before)) free)
+    params-state [] names seen w before rest state free spelled pieces = (
+      state-is names (names ++ []) seen (seen ++ []) w before (before ++ []) (sym (append-nil names)) (sym (append-nil seen)) (sym (append-nil before)) state,
+      subst (λ before. Again before rest) (sym (append-nil before)) free,
+    )
     params-state (p ∷ ps) names seen w before rest state free spelled pieces =
         let sort = param-sort tree none n d p pieces.0 in
         let told : sort_known (sorts_type p) ≡ sort.0 = ap sort_known sort.1 in
@@ -191,11 +195,12 @@ module _ (tree : Ast) (none : violations tree ≡ []) where
         let one = step names seen w before p.name (sorts_type p) sort.0 state (fresh-first before p.name (map name_in ps ++ rest) free) spelled.0 sort.1 proper in
         let one_told = subst (λ (s : Sort). State (names ++ as_variable p ∷ []) (seen ++ param_named types p ∷ []) ((p.name.text, s) ∷ w) (before ++ p.name ∷ [])) (sym told) one in
         let rest_of = params-state ps (names ++ as_variable p ∷ []) (seen ++ param_named types p ∷ []) ((p.name.text, sort_known (sorts_type p)) ∷ w) (before ++ p.name ∷ []) rest one_told
-            (again-later before p.name (map name_in ps ++ rest) free) spelled.1 pieces.1 in
-        (state-is ((names ++ as_variable p ∷ []) ++ map as_variable ps) (names ++ as_variable p ∷ map as_variable ps) ((seen ++ param_named types p ∷ []) ++ map (param_named types) ps) (seen ++ param_named types p ∷ map (param_named types) ps)
-        (params_scope (map (param_of types) (p ∷ ps)) w) ((before ++ p.name ∷ []) ++ map name_in ps) (before ++ p.name ∷ map name_in ps)
-        (append_assoc names (as_variable p ∷ []) (map as_variable ps)) (append_assoc seen (param_named types p ∷ []) (map (param_named types) ps)) (append_assoc before (p.name ∷ []) (map name_in ps)) rest_of.0,
-        subst (λ before. Again before rest) (append_assoc before (p.name ∷ []) (map name_in ps)) rest_of.1)
+        (again-later before p.name (map name_in ps ++ rest) free) spelled.1 pieces.1 in (
+          state-is ((names ++ as_variable p ∷ []) ++ map as_variable ps) (names ++ as_variable p ∷ map as_variable ps) ((seen ++ param_named types p ∷ []) ++ map (param_named types) ps) (seen ++ param_named types p ∷ map (param_named types) ps)
+              (params_scope (map (param_of types) (p ∷ ps)) w) ((before ++ p.name ∷ []) ++ map name_in ps) (before ++ p.name ∷ map name_in ps)
+              (append_assoc names (as_variable p ∷ []) (map as_variable ps)) (append_assoc seen (param_named types p ∷ []) (map (param_named types) ps)) (append_assoc before (p.name ∷ []) (map name_in ps)) rest_of.0,
+          subst (λ before. Again before rest) (append_assoc before (p.name ∷ []) (map name_in ps)) rest_of.1,
+        )
       where
         sorts_type : WrittenParam → ExprSort
         sorts_type p = type_sort types p.of

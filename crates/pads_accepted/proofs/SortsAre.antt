@@ -45,8 +45,8 @@ module _ (tree : Ast) (none : violations tree ≡ []) (n : ℕ) (d : WrittenDecl
       let list = and-false (not (is_precord d.mark)) (is_record_list_body types d.body) no_list in
       let shape : is_source_shape site ≡ false = ap (λ b. b || (is_psource d.mark && is_header_shape types d.body)) list ∙ and-false (is_psource d.mark) (is_header_shape types d.body) no_header in
       let marked = unless (is_psource d.mark) ((suc n == length tree.decls) && is_source_shape site)
-          (not-when (is_psource d.mark && not ((suc n == length tree.decls) && is_source_shape site)) (breaks 22 (decl_name site).at) (free tree none n d there).misplaced)
-          (and-false (suc n == length tree.decls) (is_source_shape site) shape) in
+      (not-when (is_psource d.mark && not ((suc n == length tree.decls) && is_source_shape site)) (breaks 22 (decl_name site).at) (free tree none n d there).misplaced)
+      (and-false (suc n == length tree.decls) (is_source_shape site) shape) in
       reads-at tree.decls n d marked list
 
   sorts-by : (inner : WrittenBody) → d.body ≡ inner → sort_known (sort_in types inner) ≡ sorts_of.body_sort (sorts tree none) n (made_body (site_of tree.decls n d) (made_params (site_of tree.decls n d)) inner)

@@ -81,9 +81,11 @@ module _ (tree : Ast) (none : violations tree ≡ []) (n : ℕ) (d : WrittenDecl
       → (inner : Names) × (slice_get (parts_at site names parts) i ≡ Some (part_at site inner p)) × Values inner p
   part-at [] names seen pieces i p found = cc
   part-at (first ∷ parts) names seen pieces zero p found =
-      let same : first ≡ p = cc in
-      (names, ap (λ p. Some (part_at site names p)) same,
-      subst (Values names) same (part-value names seen first parts (each-left Free_here (part_pieces types seen (texts_of_parts (first ∷ parts)) first) (parts_pieces types (rule_names_after types seen first) parts) pieces)))
+      let same : first ≡ p = cc in (
+        names,
+        ap (λ p. Some (part_at site names p)) same,
+        subst (Values names) same (part-value names seen first parts (each-left Free_here (part_pieces types seen (texts_of_parts (first ∷ parts)) first) (parts_pieces types (rule_names_after types seen first) parts) pieces)),
+      )
   part-at (first ∷ parts) names seen pieces (suc i) p found =
       part-at parts (names_after types names first) (rule_names_after types seen first)
       (each-right Free_here (part_pieces types seen (texts_of_parts (first ∷ parts)) first) (parts_pieces types (rule_names_after types seen first) parts) pieces) i p found
@@ -108,11 +110,14 @@ module _ (tree : Ast) (none : violations tree ≡ []) (n : ℕ) (d : WrittenDecl
         let less = get-below sd.parts number p at in
         let within : length sd.parts ≤ 4096 = subst (λ inner. part_count inner ≤ 4096) is (few-parts tree none n d there) in
         let m : short number ≡ number = omega arith in
-        let body : body_at (made tree none) n ≡ Some (made_body site params (written_body.Struct sd)) = is-read tree none n d there reads ∙ ap (λ inner. Some (made_body site params inner)) is in
-        (v.0, v.1, v.2,
-        ap (λ m. part_sort (made tree none) (sorts tree none) m (form.Struct n)) m
-        ∙ ap (option_and_then (sorting.part_of (made tree none) (sorts tree none) number)) body
-        ∙ ap (option_and_then (value_of (made tree none) (sorts tree none))) x.1 ∙ v.3)
+        let body : body_at (made tree none) n ≡ Some (made_body site params (written_body.Struct sd)) = is-read tree none n d there reads ∙ ap (λ inner. Some (made_body site params inner)) is in (
+          v.0,
+          v.1,
+          v.2,
+          ap (λ m. part_sort (made tree none) (sorts tree none) m (form.Struct n)) m
+              ∙ ap (option_and_then (sorting.part_of (made tree none) (sorts tree none) number)) body
+              ∙ ap (option_and_then (value_of (made tree none) (sorts tree none))) x.1 ∙ v.3,
+        )
 
     field-behind : (names : Names) (number : ℕ) (p : WrittenPart) (both : Name × «Type») → slice_get sd.parts number ≡ Some p → slice_get (named_part p) 0 ≡ Some both → SeesAt names
         → SeesAt (names ++ field types number both ∷ [])
@@ -189,10 +194,11 @@ module _ (tree : Ast) (none : violations tree ≡ []) (n : ℕ) (d : WrittenDecl
       let inside = each-left Free_here (parts_pieces types seen sd.parts) (conditions (scope_of (names_after_all types seen sd.parts)) sd.condition) pieces in
       let behind_parts = each-right Free_here (parts_pieces types seen sd.parts) (conditions (scope_of (names_after_all types seen sd.parts)) sd.condition) pieces in
       let shown = subst (λ seen. Each Free_here (parts_pieces types seen sd.parts)) (sym state.shown) inside in
-      let within : length sd.parts ≤ 4096 = subst (λ inner. part_count inner ≤ 4096) is (few-parts tree none n d there) in
-      (ap (λ count. nat_le count 65535) (long-parts sd.parts params) ∙ few-enough (length sd.parts) within,
-      parts-typed tree none n d there reads sd.parts params seen w before state free (each-left IsSpelled (flat_map names_in_part sd.parts) (names_in_option sd.condition) spelled) inside,
-      condition-typed tree none n d there reads (fields_after types params 0 sd.parts) [] ((at_sign, sorts_of.plain (form.Struct n)) ∷ w) sd.condition
-      (where-sees sd is w shown (sees-at tree none params seen w before (sorts_of.plain (form.Struct n)) state))
-      (each-right IsSpelled (flat_map names_in_part sd.parts) (names_in_option sd.condition) spelled)
-      (subst (λ visible. Each Free_here (conditions (scope_of visible) sd.condition)) (sym (shown-after sd.parts params 0 seen state.shown)) behind_parts))
+      let within : length sd.parts ≤ 4096 = subst (λ inner. part_count inner ≤ 4096) is (few-parts tree none n d there) in (
+        ap (λ count. nat_le count 65535) (long-parts sd.parts params) ∙ few-enough (length sd.parts) within,
+        parts-typed tree none n d there reads sd.parts params seen w before state free (each-left IsSpelled (flat_map names_in_part sd.parts) (names_in_option sd.condition) spelled) inside,
+        condition-typed tree none n d there reads (fields_after types params 0 sd.parts) [] ((at_sign, sorts_of.plain (form.Struct n)) ∷ w) sd.condition
+            (where-sees sd is w shown (sees-at tree none params seen w before (sorts_of.plain (form.Struct n)) state))
+            (each-right IsSpelled (flat_map names_in_part sd.parts) (names_in_option sd.condition) spelled)
+            (subst (λ visible. Each Free_here (conditions (scope_of visible) sd.condition)) (sym (shown-after sd.parts params 0 seen state.shown)) behind_parts),
+      )

@@ -291,18 +291,30 @@ module _ (tree : Ast) (none : violations tree ≡ []) where
       (body_pieces (take n env) n (map (param_named (take n env)) (params_of d.body)) d.body) (free n d there).at_pieces
 
   body-settled : (n : ℕ) (d : WrittenDecl) (inner : WrittenBody) → d.body ≡ inner → slice_get decls n ≡ Some d → Before n → IsReadAt decls n d → Settled (2 * n + 2) (sort_in (take n env) inner)
-  body-settled n d (written_body.Struct b) is there before reads =
-      (record { optional = 0; form = form.Struct (length (take n env)) }, refl,
-      subst (λ k. IsProper env made (form.Struct k)) (sym (earlier-length n d there)) (_, content-here n d there ∙ ap (content_in (take n env)) is, (_, is-read n d there reads)), omega arith)
-  body-settled n d (written_body.Union b) is there before reads =
-      (record { optional = 0; form = form.Union (length (take n env)) }, refl,
-      subst (λ k. IsProper env made (form.Union k)) (sym (earlier-length n d there)) (_, content-here n d there ∙ ap (content_in (take n env)) is, (_, is-read n d there reads)), omega arith)
-  body-settled n d (written_body.Array b) is there before reads =
-      (record { optional = 0; form = form.Array (length (take n env)) }, refl,
-      subst (λ k. IsProper env made (form.Array k)) (sym (earlier-length n d there)) (_, content-here n d there ∙ ap (content_in (take n env)) is, (_, is-read n d there reads)), omega arith)
-  body-settled n d (written_body.Enum b) is there before reads =
-      (record { optional = 0; form = form.Enum (length (take n env)) }, refl,
-      subst (λ k. IsProper env made (form.Enum k)) (sym (earlier-length n d there)) (_, content-here n d there ∙ ap (content_in (take n env)) is, (_, is-read n d there reads)), omega arith)
+  body-settled n d (written_body.Struct b) is there before reads = (
+    record { optional = 0; form = form.Struct (length (take n env)) },
+    refl,
+    subst (λ k. IsProper env made (form.Struct k)) (sym (earlier-length n d there)) (_, content-here n d there ∙ ap (content_in (take n env)) is, (_, is-read n d there reads)),
+    omega arith,
+  )
+  body-settled n d (written_body.Union b) is there before reads = (
+    record { optional = 0; form = form.Union (length (take n env)) },
+    refl,
+    subst (λ k. IsProper env made (form.Union k)) (sym (earlier-length n d there)) (_, content-here n d there ∙ ap (content_in (take n env)) is, (_, is-read n d there reads)),
+    omega arith,
+  )
+  body-settled n d (written_body.Array b) is there before reads = (
+    record { optional = 0; form = form.Array (length (take n env)) },
+    refl,
+    subst (λ k. IsProper env made (form.Array k)) (sym (earlier-length n d there)) (_, content-here n d there ∙ ap (content_in (take n env)) is, (_, is-read n d there reads)),
+    omega arith,
+  )
+  body-settled n d (written_body.Enum b) is there before reads = (
+    record { optional = 0; form = form.Enum (length (take n env)) },
+    refl,
+    subst (λ k. IsProper env made (form.Enum k)) (sym (earlier-length n d there)) (_, content-here n d there ∙ ap (content_in (take n env)) is, (_, is-read n d there reads)),
+    omega arith,
+  )
   body-settled n d (written_body.Typedef b) is there before reads =
       let pieces = subst (λ inner. Each (FreePiece (site_of decls n d)) (body_pieces (take n env) n (map (param_named (take n env)) (params_of d.body)) inner)) is (body-pieces n d there) in
       wider (2 * n + 1) (2 * n + 2) (type_sort (take n env) b.of) (omega arith) (used-settled n d _ b.of there before reads pieces.0)

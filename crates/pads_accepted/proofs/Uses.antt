@@ -129,8 +129,8 @@ module _ (tree : Ast) (none : violations tree ≡ []) where
       let types = take n (env tree none) in
       let m = meaning types t.name.text in
       let plain : is_base is_param_base (unless_popt t.optional m) ≡ true =
-          sym (ap (is_base is_param_base) (plain-is types t))
-          ∙ both-left (is_base is_param_base (plain_meaning types t)) (is_empty (args_of t)) (is-not-false (is_bare is_param_base site t) (not-when (not (is_bare is_param_base site t)) (breaks 19 t.name.at) piece.params)) in
+      sym (ap (is_base is_param_base) (plain-is types t))
+      ∙ both-left (is_base is_param_base (plain_meaning types t)) (is_empty (args_of t)) (is-not-false (is_bare is_param_base site t) (not-when (not (is_bare is_param_base site t)) (breaks 19 t.name.at) piece.params)) in
       by t m plain (named-at tree.decls n t.name.text (param-known site t piece))
     where
       by : (t : «Type») (m : Meaning) → is_base is_param_base (unless_popt t.optional (meaning (take n (env tree none)) t.name.text)) ≡ true → Named tree.decls n t.name.text
@@ -154,7 +154,7 @@ module _ (tree : Ast) (none : violations tree ≡ []) where
   number-typed n d e names later w sees spelled free taken =
       let x = expr-typed n d e names later w sees spelled free in
       let s = known-operand tree.decls (env tree none) (made tree none) (sorts tree none) (described tree none) is_num_form x.0 (expr_at (site_of tree.decls n d) names e) w x.2
-          (ap (accepts is_num_form) x.1 ∙ is-taken is_num_form (judged_here e names later) taken) in
+      (ap (accepts is_num_form) x.1 ∙ is-taken is_num_form (judged_here e names later) taken) in
       s.5 ∙ ap (λ s. Some s) (sort-is s.0 form.Num s.2 (num-form (s.0).form s.3))
 
   pub truth-typed : (n : ℕ) (d : WrittenDecl) (e : Tree) (names : Names) (later : List (List ℕ)) (w : Scope) → SeesHere names w → AreSpelled (names_in_expr e) → (judged_here e names later).faults ≡ []
@@ -162,7 +162,7 @@ module _ (tree : Ast) (none : violations tree ≡ []) where
   truth-typed n d e names later w sees spelled free taken =
       let x = expr-typed n d e names later w sees spelled free in
       let s = known-operand tree.decls (env tree none) (made tree none) (sorts tree none) (described tree none) is_truth_form x.0 (expr_at (site_of tree.decls n d) names e) w x.2
-          (ap (accepts is_truth_form) x.1 ∙ is-truth (judged_here e names later) taken) in
+      (ap (accepts is_truth_form) x.1 ∙ is-truth (judged_here e names later) taken) in
       s.5 ∙ ap (λ s. Some s) (sort-is s.0 form.Truth s.2 (truth-form (s.0).form s.3))
 
   agree-typed : (wanted : Sort) (sort : ExprSort) (e : Expr) (w : Scope) → TypedHere w e sort → agree (expr_sort.Known wanted) sort ≡ true → Has w e wanted
@@ -197,12 +197,13 @@ module _ (tree : Ast) (none : violations tree ≡ []) where
         let number : i + 0 ≡ i = omega arith in
         let param : slice_get (params_in m) i ≡ Some (expr_sort.Known p) = subst (λ i. slice_get (params_in m) i ≡ Some (expr_sort.Known p)) number (params 0 p refl) in
         let rule = none-left (argument_sort (env tree none) (judging_scope names later) m count (i, arg.Expr e)) (each (argument_sort (env tree none) (judging_scope names later) m count) (enumerate_from (i + 1) written)) sorted in
-        let agreed = is-not-false (agrees_with (slice_get (params_in m) i) j.sort) (not-when (not (agrees_with (slice_get (params_in m) i) j.sort)) (breaks 8 j.first) rule) in
-        (agreed-typed n d e names later w p sees (each-left IsSpelled (names_in_expr e) (flat_map names_in_arg written) spelled) (none-left j.faults (each (argument_faults site (judging_scope names later)) written) free)
-        (sym (ap (λ o. agrees_with o j.sort) param) ∙ agreed),
-        arguments-typed m count written (i + 1) wanted no_end (λ k q there. subst (λ m'. slice_get (params_in m) m' ≡ Some (expr_sort.Known q)) (one-on i k) (params (suc k) q there)) (omega arith)
-        (each-right IsSpelled (names_in_expr e) (flat_map names_in_arg written) spelled) (none-right j.faults (each (argument_faults site (judging_scope names later)) written) free)
-        (none-right (argument_sort (env tree none) (judging_scope names later) m count (i, arg.Expr e)) (each (argument_sort (env tree none) (judging_scope names later) m count) (enumerate_from (i + 1) written)) sorted))
+        let agreed = is-not-false (agrees_with (slice_get (params_in m) i) j.sort) (not-when (not (agrees_with (slice_get (params_in m) i) j.sort)) (breaks 8 j.first) rule) in (
+          agreed-typed n d e names later w p sees (each-left IsSpelled (names_in_expr e) (flat_map names_in_arg written) spelled) (none-left j.faults (each (argument_faults site (judging_scope names later)) written) free)
+              (sym (ap (λ o. agrees_with o j.sort) param) ∙ agreed),
+          arguments-typed m count written (i + 1) wanted no_end (λ k q there. subst (λ m'. slice_get (params_in m) m' ≡ Some (expr_sort.Known q)) (one-on i k) (params (suc k) q there)) (omega arith)
+              (each-right IsSpelled (names_in_expr e) (flat_map names_in_arg written) spelled) (none-right j.faults (each (argument_faults site (judging_scope names later)) written) free)
+              (none-right (argument_sort (env tree none) (judging_scope names later) m count (i, arg.Expr e)) (each (argument_sort (env tree none) (judging_scope names later) m count) (enumerate_from (i + 1) written)) sorted),
+        )
       where
         one-on : (i k : ℕ) → i + suc k ≡ i + 1 + k
         one-on i k = omega arith
@@ -278,7 +279,7 @@ module _ (tree : Ast) (none : violations tree ≡ []) where
         let y = mapped-there (param_of (take k (env tree none))) (params_of e.body) j x.0 x.1 in
         let pieces = each-left (FreePiece (site_of tree.decls k e)) (map (λ (param : WrittenParam). OfParam param.of) (params_of e.body)) _ (free tree none k e there).at_pieces in
         let piece = each-there (FreePiece (site_of tree.decls k e)) (map (λ (param : WrittenParam). OfParam param.of) (params_of e.body)) j (OfParam (y.0).of) pieces
-            (there-mapped (λ (param : WrittenParam). OfParam param.of) (params_of e.body) j y.0 y.1) in
+        (there-mapped (λ (param : WrittenParam). OfParam param.of) (params_of e.body) j y.0 y.1) in
         let s = param-sort k e y.0 piece in
         let is : sort_known (type_sort (take k (env tree none)) (y.0).of) ≡ p = ap (λ (param : Param). param.sort) y.2 ∙ x.2 in
         let same : s.0 ≡ p = sym (ap sort_known s.1) ∙ is in
@@ -311,12 +312,12 @@ module _ (tree : Ast) (none : violations tree ≡ []) where
         let number = short-is tree none k (few tree none k e named) in
         let counted = eqb-true (length (args_of t)) (length x.params) (sym (ap (λ m. is_count_of m (length (args_of t))) m) ∙ count-rule t piece) in
         let long : length (args_of t) ≡ length (param_sorts (made_params_of k e)) =
-            counted ∙ length-map (params_of e.body) (λ (param : WrittenParam). type_sort (take k (env tree none)) param.of)
-            ∙ sym (length-map (params_of e.body) (param_of (take k (env tree none)))) ∙ sym (length-map (made_params_of k e) (λ (param : Param). param.sort)) in
+        counted ∙ length-map (params_of e.body) (λ (param : WrittenParam). type_sort (take k (env tree none)) param.of)
+        ∙ sym (length-map (params_of e.body) (param_of (take k (env tree none)))) ∙ sym (length-map (made_params_of k e) (λ (param : Param). param.sort)) in
         let given = arguments-typed (Earlier x) (length (args_of t)) (args_of t) 0 (param_sorts (made_params_of k e)) refl (wanted-there k e named) long spelled piece.expressions
-            (subst (λ m. SortedArgs m (args_of t)) m piece.arguments) in
+        (subst (λ m. SortedArgs m (args_of t)) m piece.arguments) in
         let call : IsCall (made tree none) (sorts tree none) n w (made_args (args_of t)) k =
-            (less, decl_at (site_of tree.decls k e), made-there tree none k e named, read-if (role_of (site_of tree.decls k e)) (made_body (site_of tree.decls k e) (made_params (site_of tree.decls k e)) e.body) read, given) in
+        (less, decl_at (site_of tree.decls k e), made-there tree none k e named, read-if (role_of (site_of tree.decls k e)) (made_body (site_of tree.decls k e) (made_params (site_of tree.decls k e)) e.body) read, given) in
         subst (λ o. IsNamed (made tree none) (sorts tree none) n w (made_args (args_of t)) (type_name_of (is_end (args_of t)) o (declared_number types t.name.text))) (sym none_base)
         (subst (λ o. IsNamed (made tree none) (sorts tree none) n w (made_args (args_of t)) (declared_type o)) (sym place)
         (subst (IsCall (made tree none) (sorts tree none) n w (made_args (args_of t))) (sym number) call))

@@ -49,9 +49,10 @@ few-enough count within = le-leb count 65535 (omega arith)
 
 spelled-params : (ps : List WrittenParam) → AreSpelled (flat_map names_in_param ps) → AreSpelled (map (λ (param : WrittenParam). param.name.text) ps)
 spelled-params [] spelled = tt
-spelled-params (p ∷ ps) spelled =
-    ((each-right IsSpelled (names_in_type p.of) (p.name.text ∷ []) (each-left IsSpelled (names_in_param p) (flat_map names_in_param ps) spelled)).0,
-    spelled-params ps (each-right IsSpelled (names_in_param p) (flat_map names_in_param ps) spelled))
+spelled-params (p ∷ ps) spelled = (
+  (each-right IsSpelled (names_in_type p.of) (p.name.text ∷ []) (each-left IsSpelled (names_in_param p) (flat_map names_in_param ps) spelled)).0,
+  spelled-params ps (each-right IsSpelled (names_in_param p) (flat_map names_in_param ps) spelled),
+)
 
 -- parameters are counted among the names in scope
 abbrev AllAgain : List Name → Type 0
@@ -136,9 +137,10 @@ module _ (tree : Ast) (none : violations tree ≡ []) (n : ℕ) (d : WrittenDecl
         by (written_body.Array b) is pieces spelled free =
             array-typed tree none n d there reads (made_params site) (map (param_named types) (params_of d.body)) (params_scope (map (param_of types) (params_of d.body)) []) before params-here.0 b is pieces spelled
         by (written_body.Enum b) is pieces spelled free =
-            let within : length b.labels ≤ 4096 = subst (λ inner. part_count inner ≤ 4096) is (few-parts tree none n d there) in
-            (ap (λ count. nat_le count 65535) (length-map b.labels made_label) ∙ few-enough (length b.labels) within,
-            spellings-differ b.labels (λ label. breaks 15 (decl_rules.spelling_of label).1) (subst (λ inner. again same_spelling (λ label. breaks 15 (decl_rules.spelling_of label).1) [] (labels_of inner) ≡ []) is (free-site tree none n d there).spellings))
+            let within : length b.labels ≤ 4096 = subst (λ inner. part_count inner ≤ 4096) is (few-parts tree none n d there) in (
+              ap (λ count. nat_le count 65535) (length-map b.labels made_label) ∙ few-enough (length b.labels) within,
+              spellings-differ b.labels (λ label. breaks 15 (decl_rules.spelling_of label).1) (subst (λ inner. again same_spelling (λ label. breaks 15 (decl_rules.spelling_of label).1) [] (labels_of inner) ≡ []) is (free-site tree none n d there).spellings),
+            )
         by (written_body.Typedef b) is pieces spelled free =
             typedef-typed tree none n d there reads (made_params site) (map (param_named types) (params_of d.body)) (params_scope (map (param_of types) (params_of d.body)) []) before params-here.0 b pieces spelled
         by (written_body.Opt b) is pieces spelled free =
