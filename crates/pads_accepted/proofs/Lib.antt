@@ -9,6 +9,7 @@ pub mod Free
 pub mod Lists
 pub mod Scopes
 pub mod SortsAre
+pub mod Source
 pub mod Structs
 pub mod Trees
 pub mod Typed

@@ -1,5 +1,5 @@
 //! The laws of descriptions that break no rule.
-ghost use Rattle.std.specs.Prelude.{◌≡◌, ℕ, List, [], Some, slice_get};
+ghost use Rattle.std.specs.Prelude.{◌≡◌, ℕ, ◌<◌, List, [], Some, slice_get, length};
 ghost use Rattle.pads_ast.specs.declared.decl.Ast.{Ast};
 ghost use Rattle.pads_ast.specs.declared.decl.Decl.{Decl as WrittenDecl};
 ghost use Rattle.pads_ast.specs.declared.expr.Expr.{Expr as Tree};
@@ -14,7 +14,8 @@ ghost use Rattle.pads_rules.specs.Violations.{violations};
 ghost use Rattle.pads_rules.specs.declared.declared.Declared.{Declared};
 ghost use Rattle.pads_sorts.specs.declared.sort.Sort.{Sort};
 ghost use Rattle.pads_well_sorted.specs.Expressions.{Scope};
-ghost use Rattle.pads_well_sorted.specs.WellSorted.{AreSorts, IsDecl};
+ghost use Rattle.pads_trans.specs.Met.{names_of};
+ghost use Rattle.pads_well_sorted.specs.WellSorted.{AreSorts, IsDecl, WellSorted};
 ghost use Rattle.pads_accepted.specs.Described.{judging_scope, AreSpelled, Describes, Sees, Typed};
 ghost use Rattle.pads_accepted.specs.Known.{known_sorts, IsSpelledTree};
 
@@ -44,4 +45,10 @@ pub fn accepted_declarations_are_sorted()
     ensures sorts { (tree : Ast) → violations tree ≡ [] → AreSorts (known_sorts tree) (resolved tree).decls }
     ensures sorted { (tree : Ast) → violations tree ≡ [] → IsSpelledTree tree → (number : ℕ) (d : Decl) → slice_get (resolved tree).decls number ≡ Some d
         → IsDecl (resolved tree).decls (known_sorts tree) number d }
+{}
+
+/// The law of descriptions: a tree without violations resolves to a well-sorted description, where no name is
+/// spelled `@` and 16 bits number the names that the description gives.
+pub fn accepted_descriptions_are_sorted()
+    ensures sorted { (tree : Ast) → violations tree ≡ [] → IsSpelledTree tree → length (names_of (resolved tree)) < 65535 → WellSorted (resolved tree) }
 {}
