@@ -1,8 +1,9 @@
 //! The laws of descriptions that break no rule.
-ghost use Rattle.std.specs.Prelude.{◌≡◌, ℕ, List, [], Some, slice_get};
+ghost use Rattle.std.specs.Prelude.{◌≡◌, ℕ, true, List, [], Some, slice_get};
 ghost use Rattle.pads_ast.specs.declared.decl.Ast.{Ast};
 ghost use Rattle.pads_ast.specs.declared.decl.Decl.{Decl as WrittenDecl};
 ghost use Rattle.pads_ast.specs.declared.expr.Expr.{Expr as Tree};
+ghost use Rattle.pads_code.specs.declared.Coding.{Coding};
 ghost use Rattle.pads_resolved.specs.declared.decl.Decl.{Decl};
 ghost use Rattle.pads_resolution.specs.Expressions.{expression};
 ghost use Rattle.pads_resolution.specs.Resolution.{resolved};
@@ -12,9 +13,12 @@ ghost use Rattle.pads_rules.specs.NameTokens.{names_in_expr};
 ghost use Rattle.pads_rules.specs.Resolving.{declared};
 ghost use Rattle.pads_rules.specs.Violations.{violations};
 ghost use Rattle.pads_rules.specs.declared.declared.Declared.{Declared};
+ghost use Rattle.pads_sorted.specs.Plain.{Plain};
+ghost use Rattle.pads_sorted.specs.Sorted.{Sorted};
 ghost use Rattle.pads_sorts.specs.declared.sort.Sort.{Sort};
+ghost use Rattle.pads_trans.specs.Modules.{is_module, module_of};
 ghost use Rattle.pads_well_sorted.specs.Expressions.{Scope};
-ghost use Rattle.pads_well_sorted.specs.WellSorted.{AreSorts, IsDecl};
+ghost use Rattle.pads_well_sorted.specs.WellSorted.{AreSorts, IsDecl, WellSorted};
 ghost use Rattle.pads_accepted.specs.Described.{judging_scope, AreSpelled, Describes, Sees, Typed};
 ghost use Rattle.pads_accepted.specs.Known.{known_sorts, IsSpelledTree};
 
@@ -44,4 +48,18 @@ pub fn accepted_declarations_are_sorted()
     ensures sorts { (tree : Ast) → violations tree ≡ [] → AreSorts (known_sorts tree) (resolved tree).decls }
     ensures sorted { (tree : Ast) → violations tree ≡ [] → IsSpelledTree tree → (number : ℕ) (d : Decl) → slice_get (resolved tree).decls number ≡ Some d
         → IsDecl (resolved tree).decls (known_sorts tree) number d }
+{}
+
+/// The law of descriptions: a tree without violations resolves to a well-sorted description, where no name is spelled
+/// `@`.
+pub fn accepted_descriptions_are_sorted()
+    ensures sorted { (tree : Ast) → violations tree ≡ [] → IsSpelledTree tree → WellSorted (resolved tree) }
+{}
+
+/// The law of modules: in each coding the module of a tree without violations in which no name is spelled `@` is well
+/// formed, so that it is never refused, well-sorted and plain.
+pub fn accepted_modules_are_formed()
+    ensures formed { (tree : Ast) (ambient : Coding) → violations tree ≡ [] → IsSpelledTree tree → is_module (module_of (resolved tree) ambient) ≡ true }
+    ensures sorted { (tree : Ast) (ambient : Coding) → violations tree ≡ [] → IsSpelledTree tree → Sorted (module_of (resolved tree) ambient).decls }
+    ensures plain { (tree : Ast) (ambient : Coding) → violations tree ≡ [] → IsSpelledTree tree → Plain (module_of (resolved tree) ambient).decls }
 {}
