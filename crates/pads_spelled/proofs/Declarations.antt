@@ -1,9 +1,8 @@
 -- The names in a declaration.
-use Rattle.std.proofs.Common.{List, [], ◌∷◌, ◌++◌, map, Option, Some, None}
+use Rattle.std.proofs.Common.{List, ◌∷◌, ◌++◌, Option}
 use Rattle.std.specs.List.{flat_map}
 use Rattle.pads_grammar.specs.declared.kind.Kind.{Kind}
 use Rattle.pads_grammar.specs.declared.kind.Kind.TheVariants as kind
-use Rattle.pads_grammar.specs.Grammar.{optional, many, ◌<*◌, ◌*>◌}
 use Rattle.pads_ast.specs.declared.decl.Array.{Array}
 use Rattle.pads_ast.specs.declared.decl.Decl.{Decl}
 use Rattle.pads_ast.specs.declared.decl.DeclBody.{DeclBody}
@@ -22,15 +21,14 @@ use Rattle.pads_ast.specs.declared.types.Param.{Param}
 use Rattle.pads_rules.specs.NameTokens.{Names, names_in_expr, names_in_option, names_in_type, names_in_param, names_in_branch, names_in_part, names_in_array_option, names_in_union, names_in_constraint, names_in_decl}
 use Rattle.pads_rules.specs.Trees.{written, listed}
 use Rattle.pads_syntax_expr.specs.Leaves.{mark}
-use Rattle.pads_syntax_decl.specs.Types.{params}
-use Rattle.pads_syntax_decl.specs.Declarations.{signature, heading, struct_decl, union_body, union_decl, sized, array_body, array_decl, enum_heading, enum_decl, typedef_decl, opt_decl, marked, other_body, decl_body, decl, decls}
+use Rattle.pads_syntax_decl.specs.Declarations.{signature, heading, struct_decl, union_body, union_decl, sized, array_body, array_decl, enum_decl, typedef_decl, opt_decl, marked, other_body, decl_body, decl, decls}
 use Rattle.pads_well_sorted.specs.WellSorted.{Each, IfThere}
 use Rattle.pads_accepted.specs.Described.{IsSpelled, AreSpelled}
 use Rattle.pads_spelled.proofs.Expressions.{SpelledName, SpelledExpr, keeps-name}
 use Rattle.pads_spelled.proofs.Keeps.{Keeps, keeps-any, keeps-pair, keeps-apply, keeps-first, keeps-second, keeps-either, keeps-optional, keeps-many}
 use Rattle.pads_spelled.proofs.Lists.{each-append, each-flat_map, each-map, each-written, each-listed}
-use Rattle.pads_spelled.proofs.Parts.{SpelledPart, SpelledOption, SpelledLabel, SpelledConstraint, keeps-part, keeps-condition, keeps-switch, keeps-array-options, keeps-labels, keeps-refinement}
-use Rattle.pads_spelled.proofs.Types.{SpelledType, SpelledParam, SpelledBranch, keeps-expression, keeps-type, keeps-params, keeps-branch}
+use Rattle.pads_spelled.proofs.Parts.{SpelledOption, keeps-part, keeps-condition, keeps-switch, keeps-array-options, keeps-labels, keeps-refinement}
+use Rattle.pads_spelled.proofs.Types.{SpelledType, keeps-expression, keeps-type, keeps-params, keeps-branch}
 
 -- a name and the parameters behind it
 abbrev SpelledSignature : (Name × Option (List Param)) → Type 0
@@ -38,9 +36,11 @@ SpelledSignature both = SpelledName both.0 × AreSpelled (flat_map names_in_para
 
 keeps-signature : Keeps signature SpelledSignature
 unfolding signature
-keeps-signature = record { kept = λ both ts is fine.
-    let spelled = (keeps-pair keeps-name (keeps-optional keeps-params)).kept both ts is fine in
-    (spelled.0, each-written IsSpelled names_in_param both.1 spelled.1) }
+keeps-signature = record {
+  kept = λ both ts is fine.
+      let spelled = (keeps-pair keeps-name (keeps-optional keeps-params)).kept both ts is fine in
+      (spelled.0, each-written IsSpelled names_in_param both.1 spelled.1);
+}
 
 keeps-heading : (keyword : Kind) → Keeps (heading keyword) SpelledSignature
 keeps-heading keyword = keeps-first (mark kind.OpenBrace) (keeps-second (mark keyword) keeps-signature)

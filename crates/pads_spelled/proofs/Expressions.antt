@@ -1,12 +1,12 @@
 -- The names in an expression that is read from a text.
-use Rattle.std.proofs.Common.{◌≡◌, ◌∙◌, sym, ap, refl, subst, ℕ, zero, suc, pos, negsuc, true, false, List, [], ◌∷◌, ◌++◌}
+use Rattle.std.proofs.Common.{◌≡◌, sym, refl, subst, ℕ, zero, suc, pos, negsuc, true, false, List, [], ◌∷◌, ◌++◌}
 use Rattle.std.specs.List.{flat_map}
 use Rattle.std.specs.Prelude.{⊤}
 use Rattle.pads_lex.specs.declared.token.TokenKind.{TokenKind}
 use Rattle.pads_lex.specs.declared.token.TokenKind.TheVariants as token_kind
 use Rattle.pads_grammar.specs.declared.kind.Kind.TheVariants as kind
 use Rattle.pads_grammar.specs.Kinds.{kind_of}
-use Rattle.pads_grammar.specs.Grammar.{Grammar, token, apply, many, ◌&◌, ◌<*◌, ◌*>◌}
+use Rattle.pads_grammar.specs.Grammar.{Grammar, ◌*>◌}
 use Rattle.pads_ast.specs.Chains.{chain, post}
 use Rattle.pads_ast.specs.declared.expr.BinaryOperator.{BinaryOperator}
 use Rattle.pads_ast.specs.declared.expr.Expr.{Expr, Expr-F, roll-Expr, map-Expr}

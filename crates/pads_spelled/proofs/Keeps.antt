@@ -1,16 +1,16 @@
 -- What holds of all that a grammar makes of tokens of which none is a name spelled `@`.
-use Rattle.std.proofs.Common.{◌≡◌, sym, ap, subst, List, [], ◌∷◌, ◌++◌, Option, Some, None, ◌⊎◌, inl, inr}
+use Rattle.std.proofs.Common.{◌≡◌, subst, List, [], ◌∷◌, Option, Some, None, ◌⊎◌, inl, inr}
 use Rattle.std.specs.Prelude.{⊤}
 use Rattle.pads_lex.specs.declared.token.Token.{Token}
 use Rattle.pads_grammar.specs.declared.kind.Kind.{Kind}
 use Rattle.pads_grammar.specs.Kinds.{Tokens, kind_of}
-use Rattle.pads_grammar.specs.Grammar.{Grammar, Rule, Derives, Split, IsToken, Maybe, Many, Rest, Applied, token, pair, apply, either, optional, many, rest_of, ◌<*◌, ◌*>◌}
+use Rattle.pads_grammar.specs.Grammar.{Grammar, Derives, Split, Maybe, Many, Rest, token, pair, apply, either, optional, many, rest_of, ◌<*◌, ◌*>◌}
 use Rattle.pads_grammar.specs.Lists.{listed}
 use Rattle.pads_well_sorted.proofs.Lists.{each-left, each-right}
 use Rattle.pads_well_sorted.specs.WellSorted.{Each, IfThere}
 use Rattle.pads_spelled.proofs.Tokens.{IsFine}
 
--- What a rule reads of such tokens has the property.
+-- What a grammar makes of such tokens has the property.
 pub record Keeps {A : Type 0} (g : Grammar A) (P : A → Type 0) : Type 0 where
   pub kept : (a : A) (ts : Tokens) → Derives g a ts → Each IsFine ts → P a
 
@@ -20,11 +20,13 @@ split-kept X Y ts split fine one other =
     (one split.front split.first (each-left IsFine split.front split.back both), other split.back split.second (each-right IsFine split.front split.back both))
 
 pub keeps-token : {A : Type 0} (P : A → Type 0) (k : Kind) (take : Token → A) → ((t : Token) → kind_of t.kind ≡ k → IsFine t → P (take t)) → Keeps (token k take) P
-keeps-token P k take each = record { kept = λ a ts is fine.
-    let alone = subst (Each IsFine) is.alone fine in
-    subst P is.taken (each is.token is.kind alone.0) }
+keeps-token P k take each = record {
+  kept = λ a ts is fine.
+      let alone = subst (Each IsFine) is.alone fine in
+      subst P is.taken (each is.token is.kind alone.0);
+}
 
--- where nothing is asked of what the token gives
+-- where nothing is asked of what is made
 pub keeps-any : {A : Type 0} (g : Grammar A) → Keeps g (λ a. ⊤)
 keeps-any g = record { kept = λ a ts is fine. tt }
 

@@ -3,6 +3,7 @@ pub mod Expressions
 pub mod Keeps
 pub mod Lists
 pub mod Parts
+pub mod Refused
 pub mod Tokens
 pub mod Types
 pub mod Whole

@@ -1,8 +1,7 @@
 -- The names in what stands inside of declarations.
-use Rattle.std.proofs.Common.{List, [], ◌∷◌, ◌++◌, map, Option, Some, None}
-use Rattle.std.specs.List.{flat_map}
+use Rattle.std.proofs.Common.{List, ◌∷◌, ◌++◌, map, Option, Some, None}
 use Rattle.pads_grammar.specs.declared.kind.Kind.TheVariants as kind
-use Rattle.pads_grammar.specs.Grammar.{optional, many, ◌&◌, ◌<*◌, ◌*>◌}
+use Rattle.pads_grammar.specs.Grammar.{optional, ◌&◌, ◌<*◌, ◌*>◌}
 use Rattle.pads_ast.specs.declared.decl.ArrayOption.{ArrayOption}
 use Rattle.pads_ast.specs.declared.decl.ArrayOption.TheVariants as option_form
 use Rattle.pads_ast.specs.declared.decl.Case.{Case}
@@ -15,14 +14,14 @@ use Rattle.pads_ast.specs.declared.decl.UnionBody.TheVariants as union_form
 use Rattle.pads_ast.specs.declared.types.Branch.{Branch}
 use Rattle.pads_rules.specs.Trees.{listed}
 use Rattle.pads_rules.specs.NameTokens.{names_in_expr, names_in_type, names_in_branch, names_in_part, names_in_array_option, names_in_union, names_in_constraint}
-use Rattle.pads_syntax_expr.specs.Leaves.{mark, name, word}
+use Rattle.pads_syntax_expr.specs.Leaves.{mark, word}
 use Rattle.pads_syntax_decl.specs.Types.{literal}
-use Rattle.pads_syntax_decl.specs.Parts.{literal_part, computed_name, computed_part, part, condition, case_key, case_rule, default_case, switch_value, switch, opened, separator, terminator, last_test, array_option, or_none, array_options, spelling, label, labels, refined_names, refinement}
+use Rattle.pads_syntax_decl.specs.Parts.{literal_part, computed_name, computed_part, part, condition, case_key, case_rule, switch_value, switch, opened, separator, terminator, last_test, array_option, or_none, array_options, spelling, label, labels, refined_names, refinement}
 use Rattle.pads_well_sorted.specs.WellSorted.{Each, IfThere}
 use Rattle.pads_accepted.specs.Described.{IsSpelled, AreSpelled}
 use Rattle.pads_spelled.proofs.Expressions.{SpelledName, SpelledExpr, keeps-name}
 use Rattle.pads_spelled.proofs.Keeps.{Keeps, keeps-any, keeps-pair, keeps-apply, keeps-first, keeps-second, keeps-either, keeps-optional, keeps-many, keeps-rest_of, keeps-listed}
-use Rattle.pads_spelled.proofs.Lists.{each-append, each-flat_map, each-map, each-listed}
+use Rattle.pads_spelled.proofs.Lists.{each-append, each-flat_map, each-map}
 use Rattle.pads_spelled.proofs.Types.{SpelledType, SpelledBranch, keeps-expression, keeps-type, keeps-branch}
 
 abbrev pub SpelledPart : Part → Type 0

@@ -1,11 +1,10 @@
 -- The names among the tokens of a text: none is spelled `@`.
-use Rattle.std.proofs.Common.{◌≡◌, ◌∙◌, sym, ap, refl, subst, arith, ℕ, ◌+◌, Bool, true, false, cond, nat_eq, List, [], ◌∷◌, take, drop, Option, Some, None, IsTrue}
-use Rattle.std.specs.Prelude.{◌&&◌}
+use Rattle.std.proofs.Common.{◌≡◌, ◌∙◌, sym, ap, refl, subst, arith, ℕ, Bool, true, false, cond, nat_eq, List, [], ◌∷◌, take, Option, Some, None}
 use Rattle.std.specs.List.{list_all}
 use Rattle.std.proofs.lemmas.Bool.{and_parts}
 use Rattle.std.proofs.lemmas.Bool.Decides.{nat_tests}
 use Rattle.pads_lex.specs.Bytes.{is_letter}
-use Rattle.pads_lex.specs.Cut.{IsCut, StandsAt}
+use Rattle.pads_lex.specs.Cut.{IsCut}
 use Rattle.pads_lex.specs.Cut.IsCut.{ends, passes, stands}
 use Rattle.pads_lex.specs.Spelling.{Spells, word_kind, mark_of}
 use Rattle.pads_lex.specs.Spelling.Spells.{name, zero, decimal, hexadecimal, char, text, mark}
@@ -23,6 +22,7 @@ IsFineKind token = (word : List ℕ) → token ≡ kind.Name word → IsSpelled 
 abbrev pub IsFine : Token → Type 0
 IsFine t = IsFineKind t.kind
 
+-- a token that is no name
 abbrev is_other : TokenKind → Bool
 is_other (kind.Name word) = false
 is_other _ = true

@@ -1,24 +1,18 @@
 -- The names in the parts that declarations share.
-use Rattle.std.proofs.Common.{List, [], ◌∷◌, ◌++◌, Option}
-use Rattle.std.specs.List.{flat_map}
-use Rattle.std.specs.Prelude.{⊤}
-use Rattle.pads_lex.specs.declared.token.Token.{Token}
+use Rattle.std.proofs.Common.{[], ◌∷◌}
 use Rattle.pads_grammar.specs.declared.kind.Kind.TheVariants as kind
-use Rattle.pads_grammar.specs.Grammar.{optional, token, ◌<*◌, ◌*>◌}
-use Rattle.pads_grammar.specs.Lists.{listed as separated}
-use Rattle.pads_ast.specs.declared.expr.Expr.{Expr}
-use Rattle.pads_ast.specs.declared.name.Name.{Name}
+use Rattle.pads_grammar.specs.Grammar.{optional}
 use Rattle.pads_ast.specs.declared.types.Arg.{Arg}
 use Rattle.pads_ast.specs.declared.types.Arg.TheVariants as arg_form
 use Rattle.pads_ast.specs.declared.types.Branch.{Branch}
 use Rattle.pads_ast.specs.declared.types.Param.{Param}
 use Rattle.pads_ast.specs.declared.types.Type.{«Type»}
 use Rattle.pads_rules.specs.NameTokens.{names_in_expr, names_in_option, names_in_arg, names_in_type, names_in_param, names_in_branch}
-use Rattle.pads_syntax_expr.specs.Leaves.{mark, name}
+use Rattle.pads_syntax_expr.specs.Leaves.{mark}
 use Rattle.pads_syntax_decl.specs.Types.{expression, arg, args, type_use, param, params, constraint, branch}
 use Rattle.pads_well_sorted.specs.WellSorted.{Each, IfThere}
 use Rattle.pads_accepted.specs.Described.{IsSpelled, AreSpelled}
-use Rattle.pads_spelled.proofs.Expressions.{SpelledName, SpelledExpr, keeps-name, keeps-expr}
+use Rattle.pads_spelled.proofs.Expressions.{SpelledExpr, keeps-name, keeps-expr}
 use Rattle.pads_spelled.proofs.Keeps.{Keeps, keeps-token, keeps-any, keeps-pair, keeps-apply, keeps-first, keeps-second, keeps-either, keeps-optional, keeps-listed}
 use Rattle.pads_spelled.proofs.Lists.{each-append, each-written, each-listed}
 

@@ -1,10 +1,8 @@
 -- The names in a whole tree.
-use Rattle.std.proofs.Common.{◌≡◌, sym, ap, subst, ℕ, List, [], ◌∷◌, Some, slice_get}
+use Rattle.std.proofs.Common.{ap, subst, ℕ, List, [], ◌∷◌}
 use Rattle.pads_lex.specs.Cut.{IsCut}
-use Rattle.pads_lex.specs.declared.token.Token.{Token}
 use Rattle.pads_grammar.specs.Kinds.{Tokens}
 use Rattle.pads_ast.specs.declared.decl.Ast.{Ast}
-use Rattle.pads_ast.specs.declared.decl.Decl.{Decl}
 use Rattle.pads_syntax.specs.Trees.{IsTree}
 use Rattle.pads_well_sorted.proofs.Lists.{each-left, each-there}
 use Rattle.pads_well_sorted.specs.WellSorted.{Each}
