@@ -13,7 +13,7 @@ fn tell_verdict(rt: &HostRuntime, verdict: Verdict) -> io::Result<()> {
         Verdict::Lexical { kind, at } => println!(rt; "lexical {kind:?} at byte {at}"),
         Verdict::Syntax { token, at } => println!(rt; "syntax at token {token} byte {at}"),
         Verdict::Rule { rule, at } => println!(rt; "rule {rule} at byte {at}"),
-        Verdict::TooLong | Verdict::NoModule => println!(rt; "refused"),
+        Verdict::TooLong => println!(rt; "refused"),
     }
 }
 

@@ -17,7 +17,7 @@ use Rattle.pads_code.specs.declared.Coding.{Coding}
 use Rattle.pads_trans.specs.Modules.{Contents, is_module}
 use Rattle.pads_describe.specs.Describing.{Describes, contents_in}
 use Rattle.pads_describe.specs.Trees.{HasTokens, HasTree, IsAccepted}
-use Rattle.pads_describe.specs.Verdicts.{IsLexical, IsSyntax, IsRule, IsRefused, IsUndescribed}
+use Rattle.pads_describe.specs.Verdicts.{IsLexical, IsSyntax, IsRule, IsRefused}
 
 one_list : (text : List ℕ) (ts us : Tokens) → HasTokens text ts → HasTokens text us → ts ≡ us
 one_list text ts us h k = one_cut text ts us h.cut k.cut
@@ -70,26 +70,21 @@ one_verdict text verdict.TooLong verdict.TooLong h k = refl
 one_verdict text verdict.TooLong (verdict.Lexical kind at) h k = absurd (omega (arith, h, k.short))
 one_verdict text verdict.TooLong (verdict.Syntax token at) h k = absurd (omega (arith, h, k.has_tokens.short))
 one_verdict text verdict.TooLong (verdict.Rule rule at) h k = absurd (omega (arith, h, k.has_tree.has_tokens.short))
-one_verdict text verdict.TooLong verdict.NoModule h k = absurd k
 one_verdict text (verdict.Lexical kind at) verdict.TooLong h k = absurd (omega (arith, k, h.short))
 one_verdict text (verdict.Lexical kind at) (verdict.Lexical other place) h k =
     let same = one_break text kind other at place h.broken k.broken in same_lexical kind other at place same.0 same.1
 one_verdict text (verdict.Lexical kind at) (verdict.Syntax token place) h k = absurd (no_tokens_break text k.tokens kind at k.has_tokens h)
 one_verdict text (verdict.Lexical kind at) (verdict.Rule rule place) h k = absurd (no_tokens_break text k.has_tree.tokens kind at k.has_tree.has_tokens h)
-one_verdict text (verdict.Lexical kind at) verdict.NoModule h k = absurd k
 one_verdict text (verdict.Syntax token at) verdict.TooLong h k = absurd (omega (arith, k, h.has_tokens.short))
 one_verdict text (verdict.Syntax token at) (verdict.Lexical kind place) h k = absurd (no_tokens_break text h.tokens kind place h.has_tokens k)
 one_verdict text (verdict.Syntax token at) (verdict.Syntax other place) h k =
     let same = one_syntax text token at other place h k in same_syntax token other at place same.0 same.1
 one_verdict text (verdict.Syntax token at) (verdict.Rule rule place) h k = absurd (no_tree_faults text k.tree token at k.has_tree h)
-one_verdict text (verdict.Syntax token at) verdict.NoModule h k = absurd k
 one_verdict text (verdict.Rule rule at) verdict.TooLong h k = absurd (omega (arith, k, h.has_tree.has_tokens.short))
 one_verdict text (verdict.Rule rule at) (verdict.Lexical kind place) h k = absurd (no_tokens_break text h.has_tree.tokens kind place h.has_tree.has_tokens k)
 one_verdict text (verdict.Rule rule at) (verdict.Syntax token place) h k = absurd (no_tree_faults text h.tree token place h.has_tree k)
 one_verdict text (verdict.Rule rule at) (verdict.Rule other place) h k =
     let same = one_rule text rule at other place h k in same_violation rule other at place same.0 same.1
-one_verdict text (verdict.Rule rule at) verdict.NoModule h k = absurd k
-one_verdict text verdict.NoModule other h k = absurd h
 
 nothing_first : (tree : Ast) (fault : CheckFault) → violations tree ≡ [] → least (violations tree) ≡ Some fault → ⊥
 nothing_first tree fault none first = let e : least [] ≡ Some fault = sym (ap least none) ∙ first in cc
@@ -101,19 +96,9 @@ not_both text tree (verdict.Syntax token at) h k = no_tree_faults text tree toke
 not_both text tree (verdict.Rule rule at) h k =
     let same = one_tree text k.tree tree k.has_tree h.has_tree in
     nothing_first tree (breaks rule at) h.kept (subst (λ (t : Ast). least (violations t) ≡ Some (breaks rule at)) same k.first)
-not_both text tree verdict.NoModule h k = absurd k
 
-true_false : (b : Bool) → b ≡ true → b ≡ false → ⊥
-true_false b h k = let e : true ≡ false = sym h ∙ k in cc
-
-pub not_undescribed : (text : List ℕ) (coding : Coding) (made : Contents) (v : Verdict) → Describes text coding made → IsUndescribed text coding v → ⊥
-not_undescribed text coding made verdict.TooLong h k = not_both text h.tree verdict.TooLong h.accepted k
-not_undescribed text coding made (verdict.Lexical kind at) h k = not_both text h.tree (verdict.Lexical kind at) h.accepted k
-not_undescribed text coding made (verdict.Syntax token at) h k = not_both text h.tree (verdict.Syntax token at) h.accepted k
-not_undescribed text coding made (verdict.Rule rule at) h k = not_both text h.tree (verdict.Rule rule at) h.accepted k
-not_undescribed text coding made verdict.NoModule h k =
-    let same = one_tree text k.tree h.tree k.accepted.has_tree h.accepted.has_tree in
-    true_false (is_module made) h.formed (subst (λ (m : Contents). is_module m ≡ false) (ap (contents_in coding) same ∙ sym h.contents_is) k.unformed)
+pub not_refused : (text : List ℕ) (coding : Coding) (made : Contents) (v : Verdict) → Describes text coding made → IsRefused text v → ⊥
+not_refused text coding made v h k = not_both text h.tree v h.accepted k
 
 pub one_description : (text : List ℕ) (coding : Coding) (one other : Contents) → Describes text coding one → Describes text coding other → one ≡ other
 one_description text coding one other h k =

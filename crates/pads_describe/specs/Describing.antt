@@ -1,9 +1,9 @@
 -- What an accepted text describes, in a coding of the data.
-use Rattle.std.specs.Prelude.{◌≡◌, ℕ, true, false, List}
+use Rattle.std.specs.Prelude.{◌≡◌, ℕ, List}
 use Rattle.pads_ast.specs.declared.decl.Ast.{Ast}
 use Rattle.pads_code.specs.declared.Coding.{Coding}
 use Rattle.pads_resolution.specs.Resolution.{resolved}
-use Rattle.pads_trans.specs.Modules.{Contents, is_module, module_of}
+use Rattle.pads_trans.specs.Modules.{Contents, module_of}
 use Rattle.pads_describe.specs.Trees.{IsAccepted}
 
 -- what its module has, whose names are those of the tree, resolved
@@ -15,10 +15,3 @@ pub record Describes (text : List ℕ) (coding : Coding) (contents : Contents) :
   pub tree : Ast
   pub accepted : IsAccepted text tree
   pub contents_is : contents ≡ contents_in coding tree
-  pub formed : is_module contents ≡ true
-
--- The text is accepted, and what it describes isn't well formed.
-pub record HasNoModule (text : List ℕ) (coding : Coding) : Type 0 where
-  pub tree : Ast
-  pub accepted : IsAccepted text tree
-  pub unformed : is_module (contents_in coding tree) ≡ false

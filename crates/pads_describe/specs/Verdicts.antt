@@ -2,7 +2,6 @@
 -- rules of tokens; its tokens derive no tree; its tree breaks rules.
 use Rattle.std.specs.Prelude.{◌≡◌, ℕ, ◌<◌, ◌≤◌, List, Some, length}
 use Rattle.pads_ast.specs.declared.decl.Ast.{Ast}
-use Rattle.pads_code.specs.declared.Coding.{Coding}
 use Rattle.pads_grammar.specs.Kinds.{Tokens}
 use Rattle.pads_lex.specs.Cut.{BreaksAt}
 use Rattle.pads_lex.specs.declared.fault.LexKind.{LexKind}
@@ -11,7 +10,6 @@ use Rattle.pads_rules.specs.Violations.{violations}
 use Rattle.pads_syntax.specs.Trees.{IsTreeFault, StandsAt}
 use Rattle.pads_verdicts.specs.declared.verdict.Verdict.{Verdict}
 use Rattle.pads_verdicts.specs.declared.verdict.Verdict.TheVariants as verdict
-use Rattle.pads_describe.specs.Describing.{HasNoModule}
 use Rattle.pads_describe.specs.Trees.{HasTokens, HasTree, longest}
 
 -- It first breaks the rules of tokens there, and so.
@@ -37,9 +35,3 @@ IsRefused text verdict.TooLong = longest < length text
 IsRefused text (verdict.Lexical kind at) = IsLexical text kind at
 IsRefused text (verdict.Syntax token at) = IsSyntax text token at
 IsRefused text (verdict.Rule rule at) = IsRule text rule at
-IsRefused text verdict.NoModule = ⊥
-
--- It is refused, or it is accepted and has no module in this coding.
-abbrev pub IsUndescribed : List ℕ → Coding → Verdict → Type 0
-IsUndescribed text coding verdict.NoModule = HasNoModule text coding
-IsUndescribed text coding verdict = IsRefused text verdict

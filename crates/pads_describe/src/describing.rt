@@ -3,7 +3,9 @@
 ghost use Rattle.std.specs.Prelude.{IfOk};
 ghost use Rattle.pads_describe.specs.Answers.{OnFault};
 ghost use Rattle.pads_describe.specs.Describing.{Describes};
-ghost use Rattle.pads_describe.specs.Verdicts.{IsUndescribed};
+ghost use Rattle.pads_describe.specs.Verdicts.{IsRefused};
+ghost use Rattle.pads_sorted.specs.Plain.{Plain};
+ghost use Rattle.pads_sorted.specs.Sorted.{Sorted};
 ghost use Rattle.pads_trans.specs.Modules.{contents};
 
 use crate::accepting::checked;
@@ -15,16 +17,19 @@ use pads_value::Refusal;
 use pads_verdicts::Verdict;
 use std::alloc::Global;
 
-/// The module of an accepted text whose data is in this coding, or why there is none.
+/// The module of an accepted text whose data is in this coding, well-sorted and plain, or why it is refused. Every
+/// accepted text has one.
 pub fn describe(alloc: Global, text: &[u8], coding: Coding) -> Result<Module, Refusal<Verdict>>
     ensures described { IfOk result (λ made. Describes text.now coding (contents made)) }
-    ensures refused { OnFault result (IsUndescribed text.now coding) }
+    ensures sorted { IfOk result (λ made. Sorted (contents made).decls) }
+    ensures plain { IfOk result (λ made. Plain (contents made).decls) }
+    ensures refused { OnFault result (IsRefused text.now) }
 {
     let tree = tree_in(alloc, text)?;
     let checked = checked(alloc, text, &tree)?;
     match translate(alloc, &checked.description, coding) {
         Ok(made) => Ok(made),
-        Err(Refusal::Fault(_)) => Err(Refusal::Fault(Verdict::NoModule)),
+        Err(Refusal::Fault(_)) => unreachable!(),
         Err(Refusal::Memory) => Err(Refusal::Memory),
     }
 }

@@ -1,12 +1,14 @@
 //! What the rules of descriptions say of every text.
 
-ghost use Rattle.std.specs.Prelude.{◌≡◌, ℕ, List};
+ghost use Rattle.std.specs.Prelude.{◌≡◌, ℕ, true, List};
 ghost use Rattle.pads_ast.specs.declared.decl.Ast.{Ast};
 ghost use Rattle.pads_describe.specs.Trees.{IsAccepted};
 ghost use Rattle.pads_code.specs.declared.Coding.{Coding};
 ghost use Rattle.pads_describe.specs.Describing.{Describes};
-ghost use Rattle.pads_describe.specs.Verdicts.{IsRefused, IsUndescribed};
-ghost use Rattle.pads_trans.specs.Modules.{Contents};
+ghost use Rattle.pads_describe.specs.Verdicts.{IsRefused};
+ghost use Rattle.pads_sorted.specs.Plain.{Plain};
+ghost use Rattle.pads_sorted.specs.Sorted.{Sorted};
+ghost use Rattle.pads_trans.specs.Modules.{Contents, is_module};
 ghost use Rattle.pads_verdicts.specs.declared.verdict.Verdict.{Verdict};
 
 /// Each text has at most one answer: it is accepted with one tree, or it is refused for one reason.
@@ -16,9 +18,18 @@ pub fn each_text_has_one_answer()
     ensures not_both { (text : List ℕ) (tree : Ast) (verdict : Verdict) → IsAccepted text tree → IsRefused text verdict → ⊥ }
 {}
 
-/// In each coding a text describes at most one module, or it describes none.
+/// In each coding a text describes at most one module, and it describes one or it is refused.
 pub fn each_text_describes_one_module()
     ensures modules { (text : List ℕ) (coding : Coding) (one other : Contents) → Describes text coding one → Describes text coding other → one ≡ other }
     ensures not_both { (text : List ℕ) (coding : Coding) (made : Contents) (verdict : Verdict) → Describes text coding made
-        → IsUndescribed text coding verdict → ⊥ }
+        → IsRefused text verdict → ⊥ }
+{}
+
+/// In each coding an accepted text describes a module. What is described is well formed, well-sorted, so that nothing
+/// ill-sorted is ever evaluated, and plain.
+pub fn described_modules_are_sound()
+    ensures there { (text : List ℕ) (coding : Coding) (tree : Ast) → IsAccepted text tree → (made : Contents) × Describes text coding made }
+    ensures well_formed { (text : List ℕ) (coding : Coding) (made : Contents) → Describes text coding made → is_module made ≡ true }
+    ensures sorted { (text : List ℕ) (coding : Coding) (made : Contents) → Describes text coding made → Sorted made.decls }
+    ensures plain { (text : List ℕ) (coding : Coding) (made : Contents) → Describes text coding made → Plain made.decls }
 {}

@@ -11,4 +11,6 @@ mod reading;
 
 pub use accepting::check;
 pub use describing::describe;
-pub use laws::{each_text_describes_one_module, each_text_has_one_answer};
+pub use laws::{
+    described_modules_are_sound, each_text_describes_one_module, each_text_has_one_answer,
+};

@@ -9,7 +9,7 @@ use Rattle.pads_tool.specs.Describing.{Description, described, line_in, no_notes
 use Rattle.pads_tool.specs.Drives.{DriveGives}
 use Rattle.pads_tool.specs.Parsing.{LinesGive, ParseGives, ReadLittleAhead, ending_of}
 use Rattle.pads_tool.specs.Stopping.{HasSinkCause}
-use Rattle.pads_tool.specs.Texts.{IsDescribedIn, IsUndescribedIn, StopsBefore}
+use Rattle.pads_tool.specs.Texts.{IsDescribedIn, IsRefusedIn, StopsBefore}
 use Rattle.pads_tool.specs.declared.ended.Ended.{Ended}
 use Rattle.pads_tool.specs.declared.ended.Ended.TheVariants as ended
 use Rattle.pads_tool.specs.declared.ending.Ending.{Ending}
@@ -53,7 +53,7 @@ parse-read content coding cutting left left' o o' files files' source source' ou
 
 -- There is no description.
 pub parse-stopped : (content : Option (List ℕ)) (coding : Coding) (cutting : Cutting) (left left' o : Option (List ℕ)) (files files' source source' out out' : ℕ) (e : Ending)
-    → StopsBefore (IsUndescribedIn content coding) files files' e → ParseGives content coding cutting left left' o o files files' source source' out out' e
+    → StopsBefore (IsRefusedIn content) files files' e → ParseGives content coding cutting left left' o o files files' source source' out out' e
 parse-stopped content coding cutting left left' o files files' source source' out out' (ending.Refused verdict) h = (h, refl)
 parse-stopped content coding cutting left left' o files files' source source' out out' ending.FileFault h = (h, refl)
 parse-stopped content coding cutting left left' o files files' source source' out out' ending.Memory h = inl refl

@@ -1,7 +1,7 @@
 -- From what an order gives to what a run says of its status.
 use Rattle.std.proofs.Common.{◌≡◌, ◌≢◌, ◌↔◌, ◌∙◌, inl, inr, sym, subst, refl, ℕ, true, false, List, Option, None, Some, IfSome, arith}
-use Rattle.pads_describe.proofs.AnswerLaws.{not_both, not_undescribed}
-use Rattle.pads_describe.specs.Verdicts.{IsRefused, IsUndescribed}
+use Rattle.pads_describe.proofs.AnswerLaws.{not_both}
+use Rattle.pads_describe.specs.Verdicts.{IsRefused}
 use Rattle.pads_io.specs.Faults.{Rose}
 use Rattle.pads_orders.specs.Orders.{order_of}
 use Rattle.pads_orders.specs.declared.order.Order.{Order}
@@ -116,7 +116,7 @@ module _ (words : List (List ℕ)) (content : List ℕ → Option (List ℕ)) (l
 
   not-refused : (asked : Order) (v : Verdict) → CanFinish content left asked → Gives asked (ending.Refused v) → ⊥
   not-refused (order.Check name coding) v f p = not_both f.0 f.1 v f.3 (known-at (λ text. IsRefused text v) (content name) f.0 f.2 p.0)
-  not-refused (order.Parse name coding cutting) v f p = not_undescribed f.0 coding f.1 v f.4 (known-at (λ text. IsUndescribed text coding v) (content name) f.0 f.3 p.0)
+  not-refused (order.Parse name coding cutting) v f p = not_both f.0 f.1 v f.4 (known-at (λ text. IsRefused text v) (content name) f.0 f.3 p.0)
 
   not-too-long : (asked : Order) → CanFinish content left asked → Gives asked ending.TooLong → ⊥
   not-too-long (order.Check name coding) f p = p

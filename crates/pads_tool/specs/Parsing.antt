@@ -9,7 +9,7 @@ use Rattle.pads_orders.specs.declared.order.Cutting.{Cutting}
 use Rattle.pads_trans.specs.Modules.{Contents}
 use Rattle.pads_tool.specs.Describing.{Description, described, all_clean, complete_frames_of, frames_of, line_in, lines_for}
 use Rattle.pads_tool.specs.Halting.{IsLittleAhead}
-use Rattle.pads_tool.specs.Texts.{IsDescribedIn, IsUndescribedIn}
+use Rattle.pads_tool.specs.Texts.{IsDescribedIn, IsRefusedIn}
 use Rattle.pads_tool.specs.declared.ended.Ended.{Ended}
 use Rattle.pads_tool.specs.declared.ended.Ended.TheVariants as ended
 use Rattle.pads_tool.specs.declared.ending.Ending.{Ending}
@@ -78,7 +78,7 @@ module _ (content : Option (List ℕ)) (coding : Coding) (cutting : Cutting) (le
     abbrev pub ParseGives : Ending → Type 0
     ParseGives ending.Done = Reads (WroteAll left' o o' true)
     ParseGives ending.Dirty = Reads (WroteAll left' o o' false)
-    ParseGives (ending.Refused verdict) = IsUndescribedIn content coding verdict × (o' ≡ o)
+    ParseGives (ending.Refused verdict) = IsRefusedIn content verdict × (o' ≡ o)
     ParseGives ending.FileFault = Rose files files' × (o' ≡ o)
     ParseGives ending.ReadFault = Rose source source' × Reads (WroteComplete left' o o')
     ParseGives ending.WriteFault = Rose out out' × Reads (WroteSome left' o o')

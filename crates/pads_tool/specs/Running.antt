@@ -2,18 +2,16 @@
 use Rattle.std.specs.Prelude.{◌≡◌, ℕ, ◌^◌, ◌≤◌, ◌⊎◌, Bool, true, List, Option, Some, None, length}
 use Rattle.std.specs.Io.KnownBytes.{Appends}
 use Rattle.pads_ast.specs.declared.decl.Ast.{Ast}
-use Rattle.pads_describe.specs.Describing.{Describes}
 use Rattle.pads_describe.specs.Trees.{IsAccepted}
 use Rattle.pads_io.specs.Faults.{Rose}
 use Rattle.pads_io.specs.Transfer.{AppendsPrefix}
 use Rattle.pads_orders.specs.Orders.{order_of}
 use Rattle.pads_orders.specs.declared.order.Order.{Order}
 use Rattle.pads_orders.specs.declared.order.Order.TheVariants as order
-use Rattle.pads_trans.specs.Modules.{Contents}
 use Rattle.pads_verdicts.specs.declared.verdict.Verdict.{Verdict}
 use Rattle.pads_tool.specs.Checking.{Accepts, CheckGives}
 use Rattle.pads_tool.specs.Parsing.{ParseGives, ReadLittleAhead, Reads, WroteAll, WroteComplete, WroteMost, WrotePrefix}
-use Rattle.pads_tool.specs.Texts.{IsRefusedIn, IsUndescribedIn}
+use Rattle.pads_tool.specs.Texts.{IsRefusedIn}
 use Rattle.pads_tool.specs.declared.ending.Ending.{Ending}
 use Rattle.pads_tool.specs.declared.ending.Ending.TheVariants as ending
 use Rattle.pads_tool.specs.declared.status.Status.{Status}
@@ -69,7 +67,7 @@ module _ (content : List ℕ → Option (List ℕ)) (left left' o o' : Option (L
 -- The description that the order names is refused for this reason.
 abbrev pub IsRefusedFor : (List ℕ → Option (List ℕ)) → Verdict → Order → Type 0
 IsRefusedFor content verdict (order.Check name coding) = IsRefusedIn (content name) verdict
-IsRefusedFor content verdict (order.Parse name coding cutting) = IsUndescribedIn (content name) coding verdict
+IsRefusedFor content verdict (order.Parse name coding cutting) = IsRefusedIn (content name) verdict
 
 -- A refusal's verdict is that on the description.
 abbrev pub HasReason : List (List ℕ) → (List ℕ → Option (List ℕ)) → Ending → Type 0
@@ -89,11 +87,11 @@ module _ (words : List (List ℕ)) (content : List ℕ → Option (List ℕ)) (l
   RunGives ending.Usage = (order_of words ≡ None) × (o' ≡ o)
   RunGives e = Ordered words (λ asked. OrderGives content left left' o o' files files' source source' out out' asked e)
 
--- The description is accepted, and under `parse` it has a module and the input at most 2^62 bytes.
+-- The description is accepted, and under `parse` the input has at most 2^62 bytes.
 abbrev pub CanFinish : (List ℕ → Option (List ℕ)) → Option (List ℕ) → Order → Type 0
 CanFinish content left (order.Check name coding) = (text : List ℕ) × (tree : Ast) × (content name ≡ Some text) × IsAccepted text tree
 CanFinish content left (order.Parse name coding cutting) =
-    (text : List ℕ) × (made : Contents) × (input : List ℕ) × (content name ≡ Some text) × Describes text coding made × (left ≡ Some input) × (length input ≤ 2 ^ 62)
+    (text : List ℕ) × (tree : Ast) × (input : List ℕ) × (content name ≡ Some text) × IsAccepted text tree × (left ≡ Some input) × (length input ≤ 2 ^ 62)
 
 -- The words are an order that can be done, and no call failed.
 pub record IsFair (words : List (List ℕ)) (content : List ℕ → Option (List ℕ)) (left : Option (List ℕ)) (files files' source source' out out' : ℕ) : Type 0 where

@@ -3,7 +3,7 @@ use Rattle.std.specs.Prelude.{◌≡◌, ℕ, List, Option, IfSome}
 use Rattle.pads_code.specs.declared.Coding.{Coding}
 use Rattle.pads_describe.specs.Answers.{IsAcceptedWith}
 use Rattle.pads_describe.specs.Describing.{Describes}
-use Rattle.pads_describe.specs.Verdicts.{IsRefused, IsUndescribed}
+use Rattle.pads_describe.specs.Verdicts.{IsRefused}
 use Rattle.pads_io.specs.Faults.{Rose}
 use Rattle.pads_trans.specs.Modules.{Contents}
 use Rattle.pads_verdicts.specs.declared.verdict.Verdict.{Verdict}
@@ -24,9 +24,6 @@ IsDescribedIn content coding made = IfSome content (λ text. Describes text codi
 -- It is refused for this reason.
 abbrev pub IsRefusedIn : Option (List ℕ) → Verdict → Type 0
 IsRefusedIn content verdict = IfSome content (λ text. IsRefused text verdict)
-
-abbrev pub IsUndescribedIn : Option (List ℕ) → Coding → Verdict → Type 0
-IsUndescribedIn content coding verdict = IfSome content (λ text. IsUndescribed text coding verdict)
 
 -- The run ends so before a description is there: its text is refused, its file can't be read, or there is no memory.
 -- The numbers are the files' count of failures before and after.

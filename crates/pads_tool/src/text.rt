@@ -1,5 +1,5 @@
 ghost use Rattle.std.specs.Prelude.{◌≡◌, IfOk, IfErr};
-ghost use Rattle.pads_tool.specs.Texts.{IsAcceptedIn, IsDescribedIn, IsRefusedIn, IsTextIn, IsUndescribedIn, StopsBefore};
+ghost use Rattle.pads_tool.specs.Texts.{IsAcceptedIn, IsDescribedIn, IsRefusedIn, IsTextIn, StopsBefore};
 ghost use Rattle.pads_trans.specs.Modules.{contents};
 
 use crate::description::Described;
@@ -49,7 +49,7 @@ pub(crate) fn described_in<F: Files>(
     coding: Coding,
 ) -> Result<Module, Ending>
     ensures described { IfOk result (λ made. IsDescribedIn (F.content files.old name.now) coding (contents made)) }
-    ensures stops { IfErr result (StopsBefore (IsUndescribedIn (F.content files.old name.now) coding) (F.faults files.old) (F.faults files.new)) }
+    ensures stops { IfErr result (StopsBefore (IsRefusedIn (F.content files.old name.now)) (F.faults files.old) (F.faults files.new)) }
 {
     let text = match text_in(alloc, files, name) {
         Ok(text) => text,

@@ -24,7 +24,6 @@ reason verdict.TooLong = codes "description too long"
 reason (verdict.Lexical kind at) = (codes "description lexical " ++ kind_words kind) ++ with_number (codes " at byte ") at
 reason (verdict.Syntax token at) = with_number (codes "description syntax at token ") token ++ with_number (codes " byte ") at
 reason (verdict.Rule rule at) = with_number (codes "description rule ") rule ++ with_number (codes " at byte ") at
-reason verdict.NoModule = codes "description has no module"
 
 -- the last line of a run that refuses a description
 abbrev pub refusal_line : Verdict → List ℕ

@@ -78,7 +78,6 @@ fn put_reason(line: &mut Line, verdict: Verdict)
             put_place(line, b"description rule ", u64::from(rule));
             put_place(line, b" at byte ", at);
         }
-        Verdict::NoModule => put(line, b"description has no module"),
     }
 }
 

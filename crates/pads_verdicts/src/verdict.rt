@@ -11,6 +11,4 @@ pub enum Verdict {
     Syntax { token: u64, at: u64 },
     /// Its tree breaks that rule there, and none before.
     Rule { rule: u8, at: u64 },
-    /// It breaks no rule, and yet what it describes isn't well formed.
-    NoModule,
 }

@@ -1,0 +1,35 @@
+-- What an accepted text describes is a module, well-sorted and plain.
+use Rattle.std.proofs.Common.{◌≡◌, sym, refl, subst, ℕ, true, List}
+use Rattle.pads_accepted.proofs.Sorted.{well-sorted}
+use Rattle.pads_ast.specs.declared.decl.Ast.{Ast}
+use Rattle.pads_code.specs.declared.Coding.{Coding}
+use Rattle.pads_resolution.specs.Resolution.{resolved}
+use Rattle.pads_sorted.specs.Plain.{Plain}
+use Rattle.pads_sorted.specs.Sorted.{Sorted}
+use Rattle.pads_spelled.proofs.Whole.{tree-spelled}
+use Rattle.pads_trans.specs.Modules.{Contents, is_module}
+use Rattle.pads_well_sorted.proofs.Formed.{module-formed}
+use Rattle.pads_well_sorted.proofs.PlainTerms.{module-plain}
+use Rattle.pads_well_sorted.proofs.SortedTerms.{module-sorted}
+use Rattle.pads_well_sorted.specs.WellSorted.{WellSorted}
+use Rattle.pads_describe.specs.Describing.{Describes, contents_in}
+use Rattle.pads_describe.specs.Trees.{IsAccepted}
+
+tree-sorted : (text : List ℕ) (tree : Ast) → IsAccepted text tree → WellSorted (resolved tree)
+tree-sorted text tree h = well-sorted tree h.kept (tree-spelled text h.has_tree.tokens tree h.has_tree.has_tokens.cut h.has_tree.derived)
+
+pub accepted-formed : (text : List ℕ) (tree : Ast) (coding : Coding) → IsAccepted text tree → is_module (contents_in coding tree) ≡ true
+accepted-formed text tree coding h = module-formed (resolved tree) coding (tree-sorted text tree h)
+
+pub formed : (text : List ℕ) (coding : Coding) (made : Contents) → Describes text coding made → is_module made ≡ true
+formed text coding made h = subst (λ (m : Contents). is_module m ≡ true) (sym h.contents_is) (accepted-formed text h.tree coding h.accepted)
+
+pub sorted : (text : List ℕ) (coding : Coding) (made : Contents) → Describes text coding made → Sorted made.decls
+sorted text coding made h = subst (λ (m : Contents). Sorted m.decls) (sym h.contents_is) (module-sorted (resolved h.tree) coding (tree-sorted text h.tree h.accepted))
+
+pub plain : (text : List ℕ) (coding : Coding) (made : Contents) → Describes text coding made → Plain made.decls
+plain text coding made h = subst (λ (m : Contents). Plain m.decls) (sym h.contents_is) (module-plain (resolved h.tree) coding (tree-sorted text h.tree h.accepted))
+
+-- Each accepted text describes something.
+pub there : (text : List ℕ) (coding : Coding) (tree : Ast) → IsAccepted text tree → (made : Contents) × Describes text coding made
+there text coding tree h = (contents_in coding tree, record { tree = tree; accepted = h; contents_is = refl })
