@@ -1,5 +1,5 @@
 -- What it says that nothing comes again.
-use Rattle.std.proofs.Common.{◌≡◌, ◌∙◌, sym, ap, refl, subst, arith, ℕ, zero, suc, ◌+◌, ◌<◌, ◌≤◌, Bool, true, false, ◌||◌, if◌then◌else◌, nat_lt, List, [], ◌∷◌, ◌++◌, append_assoc, append-nil, map, length, length-append, Option, Some, None, option_map, slice_get, ltb-true, ltb-false}
+use Rattle.std.proofs.Common.{◌≡◌, ◌∙◌, sym, ap, refl, subst, arith, ℕ, zero, suc, ◌+◌, ◌<◌, ◌≤◌, Bool, true, false, ◌||◌, if◌then◌else◌, nat_lt, List, [], ◌∷◌, ◌++◌, map, length, length-append, Option, Some, None, option_map, slice_get, ltb-true, ltb-false}
 use Rattle.std.specs.List.{list_any}
 use Rattle.std.proofs.lemmas.List.{length-map, map-append}
 use Rattle.std.proofs.lemmas.List.Folds.{list_any-append}
@@ -13,7 +13,7 @@ use Rattle.pads_resolved.specs.declared.decl.Label.{Label}
 use Rattle.pads_resolution.specs.Bodies.{label_of as made_label}
 use Rattle.pads_rules.specs.DeclRules.{same_name, spelling_or, spelling_of, same_spelling}
 use Rattle.pads_rules.specs.Faults.{breaks, when, again}
-use Rattle.pads_rules.specs.NameTokens.{Names as Texts, with_name, with_names, count_of_different}
+use Rattle.pads_rules.specs.NameTokens.{Names as Texts, with_name, with_names}
 use Rattle.pads_rules.specs.Texts.{same_text, is_among}
 use Rattle.pads_rules.specs.Trees.{points_of}
 use Rattle.pads_rules.specs.declared.fault.CheckFault.{CheckFault}

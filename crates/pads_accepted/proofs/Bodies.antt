@@ -1,51 +1,37 @@
 -- The declarations that a description without violations resolves to are well-sorted.
-use Rattle.std.proofs.Common.{◌≡◌, ◌∙◌, sym, ap, refl, subst, arith, ⊎_elim, ◌⊎◌, inl, inr, ℕ, zero, suc, ◌+◌, ◌<◌, ◌≤◌, Bool, true, false, not, cond, ◌&&◌, ◌||◌, ◌==◌, nat_le, List, [], ◌∷◌, ◌++◌, append_assoc, append-nil, map, flat_map, length, length-append, take, find, codes, Option, Some, None, option_map, option_and_then, slice_get, le-leb}
+use Rattle.std.proofs.Common.{◌≡◌, ◌∙◌, sym, ap, subst, ℕ, ◌+◌, true, false, List, [], ◌∷◌, ◌++◌, append_assoc, map, flat_map, take, Option, Some, None, slice_get}
 use Rattle.std.specs.Prelude.{⊤}
 use Rattle.std.specs.List.{list_any}
-use Rattle.std.proofs.lemmas.List.{length-map, map-append}
 use Rattle.std.proofs.lemmas.List.Folds.{list_any-append}
-use Rattle.pads_ast.specs.declared.decl.Array.{Array as WrittenArray}
-use Rattle.pads_ast.specs.declared.decl.ArrayOption.{ArrayOption as WrittenOption}
-use Rattle.pads_ast.specs.declared.decl.ArrayOption.TheVariants as written_option
 use Rattle.pads_ast.specs.declared.decl.Ast.{Ast}
-use Rattle.pads_ast.specs.declared.decl.Case.{Case as WrittenCase}
-use Rattle.pads_ast.specs.declared.decl.Constraint.{Constraint as WrittenConstraint}
 use Rattle.pads_ast.specs.declared.decl.Decl.{Decl as WrittenDecl}
-use Rattle.pads_ast.specs.declared.decl.DeclBody.{DeclBody as WrittenBody}
-use Rattle.pads_ast.specs.declared.decl.DeclBody.TheVariants as written_body
 use Rattle.pads_ast.specs.declared.decl.Part.{Part as WrittenPart}
 use Rattle.pads_ast.specs.declared.decl.Part.TheVariants as written_part
-use Rattle.pads_ast.specs.declared.decl.Struct.{Struct as WrittenStruct}
 use Rattle.pads_ast.specs.declared.expr.Expr.{Expr as Tree}
 use Rattle.pads_ast.specs.declared.name.Name.{Name}
 use Rattle.pads_ast.specs.declared.types.Branch.{Branch as WrittenBranch}
 use Rattle.pads_ast.specs.declared.types.Type.{«Type»}
-use Rattle.pads_sorts.specs.declared.sort.Form.TheVariants as form
 use Rattle.pads_sorts.specs.declared.sort.Sort.{Sort}
-use Rattle.pads_resolved.specs.declared.decl.Decl.{Decl}
 use Rattle.pads_resolution.specs.declared.visible.Known.{Known}
-use Rattle.pads_resolution.specs.declared.visible.Stands.TheVariants as stands
-use Rattle.pads_resolution.specs.declared.visible.Visible.{Visible}
-use Rattle.pads_resolution.specs.Bodies.{expr_at, option_at, branch_at, part_at, parts_at}
-use Rattle.pads_resolution.specs.Scopes.{Scope as Names, known_in, variable, names_after}
+use Rattle.pads_resolution.specs.Bodies.{option_at, branch_at, part_at, parts_at}
+use Rattle.pads_resolution.specs.Scopes.{Scope as Names, variable, names_after}
 use Rattle.pads_resolution.specs.Types.{computed_of, type_at}
 use Rattle.pads_rules.specs.Judging.{Scope as Judging, judged}
-use Rattle.pads_rules.specs.NameTokens.{names_in_expr, names_in_option, names_in_arg, names_in_type, names_in_branch, names_in_part}
-use Rattle.pads_rules.specs.Pieces.{Site, Piece, Used, Computed, Condition, conditions, part_pieces, parts_pieces, names_after as rule_names_after, texts_of_parts, branch_pieces}
-use Rattle.pads_rules.specs.Resolving.{type_sort, named, branch_named, declared}
+use Rattle.pads_rules.specs.NameTokens.{names_in_expr, names_in_option, names_in_type, names_in_branch, names_in_part}
+use Rattle.pads_rules.specs.Pieces.{Site, Piece, Used, Computed, conditions, part_pieces, parts_pieces, names_after as rule_names_after, texts_of_parts, branch_pieces}
+use Rattle.pads_rules.specs.Resolving.{type_sort, branch_named}
 use Rattle.pads_rules.specs.Sorts.{agree}
-use Rattle.pads_rules.specs.Trees.{args_of, named_part, part_names}
+use Rattle.pads_rules.specs.Trees.{part_names}
 use Rattle.pads_rules.specs.DeclRules.{same_name}
 use Rattle.pads_rules.specs.Violations.{violations}
 use Rattle.pads_rules.specs.declared.declared.Declared.{Declared}
 use Rattle.pads_rules.specs.declared.declared.Named.{Named as RuleNamed}
-use Rattle.pads_rules.specs.declared.expr_sort.ExprSort.{ExprSort}
 use Rattle.pads_rules.specs.declared.expr_sort.ExprSort.TheVariants as expr_sort
-use Rattle.pads_well_sorted.specs.Expressions.{Scope, sort_in}
+use Rattle.pads_well_sorted.specs.Expressions.{Scope}
 use Rattle.pads_well_sorted.specs.Sorts as sorts_of
-use Rattle.pads_well_sorted.specs.WellSorted.{Each, IfThere, IsTruth, IsConstraint, IsType, IsBranch, IsPart, AreParts}
+use Rattle.pads_well_sorted.specs.WellSorted.{Each, IfThere, IsTruth, IsBranch, AreParts}
 use Rattle.pads_well_sorted.proofs.Lists.{each-left, each-right}
-use Rattle.pads_accepted.specs.Described.{as_named, judging_scope, IsSpelled, AreSpelled, IsProper, IsKnown, Sees}
+use Rattle.pads_accepted.specs.Described.{judging_scope, IsSpelled, AreSpelled, IsProper, Sees}
 use Rattle.pads_accepted.proofs.Described.{used-sort, used-proper, computed-sort, computed-proper}
 use Rattle.pads_accepted.proofs.Environment.{site_of}
 use Rattle.pads_accepted.proofs.Free.{FreePiece}

@@ -1,8 +1,6 @@
 -- The bodies of the declarations that a description without violations resolves to.
-use Rattle.std.proofs.Common.{◌≡◌, ◌∙◌, sym, ap, refl, subst, arith, ⊎_elim, ◌⊎◌, inl, inr, ℕ, zero, suc, ◌+◌, ◌<◌, ◌≤◌, Bool, true, false, not, ◌&&◌, ◌||◌, ◌==◌, nat_le, List, [], ◌∷◌, ◌++◌, map, flat_map, length, take, Option, Some, None, option_map, slice_get, le-leb}
-use Rattle.std.specs.Prelude.{⊤}
+use Rattle.std.proofs.Common.{◌≡◌, ◌∙◌, sym, ap, refl, subst, arith, inl, inr, ℕ, ◌+◌, ◌≤◌, Bool, true, false, not, ◌||◌, nat_le, List, [], ◌∷◌, ◌++◌, map, flat_map, length, take, Option, Some, None, option_map, slice_get, le-leb}
 use Rattle.std.proofs.lemmas.List.{length-map}
-use Rattle.pads_calc.specs.Counts.{few}
 use Rattle.pads_ast.specs.declared.decl.Array.{Array as WrittenArray}
 use Rattle.pads_ast.specs.declared.decl.ArrayOption.{ArrayOption as WrittenOption}
 use Rattle.pads_ast.specs.declared.decl.ArrayOption.TheVariants as written_option
@@ -10,7 +8,6 @@ use Rattle.pads_ast.specs.declared.decl.Ast.{Ast}
 use Rattle.pads_ast.specs.declared.decl.Case.{Case as WrittenCase}
 use Rattle.pads_ast.specs.declared.decl.Constraint.{Constraint as WrittenConstraint}
 use Rattle.pads_ast.specs.declared.decl.Decl.{Decl as WrittenDecl}
-use Rattle.pads_ast.specs.declared.decl.DeclBody.{DeclBody as WrittenBody}
 use Rattle.pads_ast.specs.declared.decl.DeclBody.TheVariants as written_body
 use Rattle.pads_ast.specs.declared.decl.Switch.{Switch as WrittenSwitch}
 use Rattle.pads_ast.specs.declared.decl.Typedef.{Typedef as WrittenTypedef}
@@ -23,7 +20,6 @@ use Rattle.pads_ast.specs.declared.types.Branch.{Branch as WrittenBranch}
 use Rattle.pads_ast.specs.declared.types.Const.{Const as WrittenConst}
 use Rattle.pads_ast.specs.declared.types.Type.{«Type»}
 use Rattle.pads_ast.specs.declared.types.Const.TheVariants as written_const
-use Rattle.pads_sorts.specs.declared.sort.Form.{Form}
 use Rattle.pads_sorts.specs.declared.sort.Form.TheVariants as form
 use Rattle.pads_sorts.specs.declared.sort.Sort.{Sort}
 use Rattle.pads_resolution.specs.declared.visible.Stands.TheVariants as stands
@@ -32,16 +28,15 @@ use Rattle.pads_resolution.specs.Scopes.{Scope as Names, hiding, array_scope}
 use Rattle.pads_resolution.specs.Types.{const_of, type_at}
 use Rattle.pads_rules.specs.DeclRules.{part_count}
 use Rattle.pads_rules.specs.Faults.{breaks, when, each}
-use Rattle.pads_rules.specs.Judging.{Scope as Judging, Judged, judged}
+use Rattle.pads_rules.specs.Judging.{Scope as Judging, judged}
 use Rattle.pads_rules.specs.NameTokens.{names_in_expr, names_in_option, names_in_type, names_in_branch, names_in_array_option, names_in_constraint, names_in_union}
 use Rattle.pads_rules.specs.PieceRules.{is_num_or_text, const_sort, const_place}
-use Rattle.pads_rules.specs.Pieces.{Site, Piece, Used, Condition, Size, Choice, conditions, sizes, option_pieces, constraint_pieces, union_body_pieces, array_pieces, array_scope as rule_array_scope, scope_of}
+use Rattle.pads_rules.specs.Pieces.{Site, Piece, Used, Choice, conditions, sizes, option_pieces, constraint_pieces, union_body_pieces, array_pieces}
 use Rattle.pads_rules.specs.Resolving.{type_sort, content_in}
 use Rattle.pads_rules.specs.Sorts as rules
 use Rattle.pads_rules.specs.Sorts.{accepts, agree, is_num_form, is_text_form}
-use Rattle.pads_rules.specs.Trees.{args_of, listed, branches_of}
+use Rattle.pads_rules.specs.Trees.{listed, branches_of}
 use Rattle.pads_rules.specs.Violations.{violations}
-use Rattle.pads_rules.specs.declared.declared.Content.TheVariants as content
 use Rattle.pads_rules.specs.declared.declared.Declared.{Declared}
 use Rattle.pads_rules.specs.declared.declared.Named.{Named as RuleNamed}
 use Rattle.pads_rules.specs.declared.expr_sort.ExprSort.{ExprSort}
@@ -49,7 +44,7 @@ use Rattle.pads_rules.specs.declared.expr_sort.ExprSort.TheVariants as expr_sort
 use Rattle.pads_trans.specs.Names.{at_sign}
 use Rattle.pads_well_sorted.specs.Expressions.{Scope, sort_in, union_branches}
 use Rattle.pads_well_sorted.specs.Sorts as sorts_of
-use Rattle.pads_well_sorted.specs.WellSorted.{Each, IfThere, IsTruth, IsNumber, IsNumberKey, IsTextKey, IsConstraint, IsType, IsBranch, Chooses, IsChosen, IsUnion, IsOption, IsArray, IsTypedef}
+use Rattle.pads_well_sorted.specs.WellSorted.{Each, IfThere, IsTruth, IsNumber, IsNumberKey, IsTextKey, IsBranch, Chooses, IsChosen, IsUnion, IsOption, IsArray, IsTypedef}
 use Rattle.pads_well_sorted.proofs.Lists.{each-left, each-right}
 use Rattle.pads_accepted.specs.Described.{as_named, judging_scope, IsSpelled, AreSpelled, IsProper}
 use Rattle.pads_accepted.proofs.Bodies.{condition-typed, type-known, used-here, branches-typed}

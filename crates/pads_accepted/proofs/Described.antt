@@ -1,8 +1,7 @@
 -- The declarations that a description without violations resolves to are what the rules know of them.
-use Rattle.std.proofs.Common.{◌≡◌, ◌∙◌, sym, ap, refl, subst, arith, ℕ, zero, suc, ◌+◌, ◌*◌, ◌<◌, ◌≤◌, Bool, true, false, not, cond, ◌&&◌, ◌||◌, if◌then◌else◌, nat_le, nat_lt, List, [], ◌∷◌, ◌++◌, map, flat_map, length, take, find, position, Option, Some, None, option_map, option_and_then, slice_get, ltb-true, ltb-false, lt-ltb}
-use Rattle.std.specs.Prelude.{⊤}
-use Rattle.std.specs.List.{list_any, prefix_len, position_or_len}
-use Rattle.std.proofs.lemmas.List.{length-map, map-append}
+use Rattle.std.proofs.Common.{◌≡◌, ◌∙◌, sym, ap, refl, subst, arith, ℕ, suc, ◌+◌, ◌<◌, ◌≤◌, Bool, true, false, not, cond, ◌||◌, if◌then◌else◌, nat_le, nat_lt, List, [], ◌∷◌, ◌++◌, map, flat_map, length, take, find, position, Option, Some, None, option_map, option_and_then, slice_get, ltb-true, ltb-false, lt-ltb}
+use Rattle.std.specs.List.{list_any, position_or_len}
+use Rattle.std.proofs.lemmas.List.{length-map}
 use Rattle.std.proofs.lemmas.List.Folds.{find_at}
 use Rattle.pads_ast.specs.declared.decl.Ast.{Ast}
 use Rattle.pads_ast.specs.declared.decl.Array.{Array as WrittenArray}
@@ -21,11 +20,9 @@ use Rattle.pads_ast.specs.declared.decl.UnionBody.TheVariants as written_union
 use Rattle.pads_ast.specs.declared.expr.Expr.{Expr as Tree}
 use Rattle.pads_ast.specs.declared.types.Branch.{Branch as WrittenBranch}
 use Rattle.pads_ast.specs.declared.types.Type.{«Type»}
-use Rattle.pads_base_names.specs.Names.{base_name}
 use Rattle.pads_base_names.specs.declared.meaning.BaseName.{BaseName}
 use Rattle.pads_base_names.specs.declared.meaning.BaseName.TheVariants as base
 use Rattle.pads_base_names.specs.declared.meaning.NamedCoding.TheVariants as coding
-use Rattle.pads_sorts.specs.declared.sort.Form.{Form}
 use Rattle.pads_sorts.specs.declared.sort.Form.TheVariants as form
 use Rattle.pads_sorts.specs.declared.sort.Sort.{Sort}
 use Rattle.pads_resolved.specs.declared.decl.Case.{Case}
@@ -42,12 +39,12 @@ use Rattle.pads_resolution.specs.Resolution.{role_of, params_scope as made_param
 use Rattle.pads_resolution.specs.Scopes.{Scope as Names, names_after}
 use Rattle.pads_resolution.specs.Types.{computed_as, computed_of, type_at}
 use Rattle.pads_rules.specs.DeclRules.{part_count, scope_count, token_count, decl_name}
-use Rattle.pads_rules.specs.Faults.{breaks, when}
+use Rattle.pads_rules.specs.Faults.{breaks}
 use Rattle.pads_rules.specs.Judging.{Scope as Judging, judged}
 use Rattle.pads_rules.specs.Members.{content_of}
-use Rattle.pads_rules.specs.PieceRules.{is_bare, is_base, is_computable_base, is_undeclared}
-use Rattle.pads_rules.specs.Pieces.{Site, sites, Piece, Used, Computed, part_pieces, parts_pieces, names_after as rule_names_after, texts_of_parts, branch_pieces, union_body_pieces, body_pieces}
-use Rattle.pads_rules.specs.Resolving.{Meaning, Base, Earlier, Undeclared, meaning, meaning_sort, behind_popt, type_sort, plain_meaning, is_record_list_type, named, branch_named, param_named, content_in, declare, declared}
+use Rattle.pads_rules.specs.PieceRules.{is_bare, is_base, is_computable_base}
+use Rattle.pads_rules.specs.Pieces.{Site, Piece, Used, Computed, part_pieces, parts_pieces, names_after as rule_names_after, texts_of_parts, branch_pieces, union_body_pieces, body_pieces}
+use Rattle.pads_rules.specs.Resolving.{Meaning, Base, Earlier, Undeclared, meaning, meaning_sort, behind_popt, type_sort, plain_meaning, named, branch_named, param_named, content_in, declare, declared}
 use Rattle.pads_rules.specs.Sorts as rules
 use Rattle.pads_rules.specs.Sorts.{agree}
 use Rattle.pads_rules.specs.Texts.{same_text, is_among, sort_of}
@@ -68,12 +65,12 @@ use Rattle.pads_well_sorted.proofs.Names.{first-there}
 use Rattle.pads_well_sorted.proofs.Trees.{and_then-is}
 use Rattle.pads_accepted.specs.Described.{IsRead, IsProper, IsKnown, Describes}
 use Rattle.pads_accepted.specs.Known.{known_sorts}
-use Rattle.pads_accepted.proofs.Environment.{site_of, env-at, site-back}
-use Rattle.pads_accepted.proofs.Faultless.{not-when, is-not-false, both-left, both-right}
-use Rattle.pads_accepted.proofs.Free.{Free, FreePiece}
-use Rattle.pads_accepted.proofs.Lists.{get-below, get-there}
+use Rattle.pads_accepted.proofs.Environment.{site_of, site-back}
+use Rattle.pads_accepted.proofs.Faultless.{not-when, is-not-false, both-left}
+use Rattle.pads_accepted.proofs.Free.{FreePiece}
+use Rattle.pads_accepted.proofs.Lists.{get-below}
 use Rattle.pads_accepted.proofs.Typed.{same-swapped}
-use Rattle.pads_accepted.proofs.Types.{or-false, IsReadRole, IsReadAt, shape-off, Named, base-named, earlier-named, named-at, meaning-base, meaning-earlier, used-known, computed-known, no-list, decls, env, made, sorts, free, few, is-read, Settled, decl-settled, used-settled, type-same, made-there, body-pieces, content-here, short-is}
+use Rattle.pads_accepted.proofs.Types.{or-false, IsReadRole, IsReadAt, shape-off, Named, base-named, earlier-named, named-at, meaning-base, meaning-earlier, used-known, computed-known, no-list, decls, env, made, sorts, free, is-read, decl-settled, used-settled, type-same, body-pieces, content-here}
 
 read-role : (r : Role) (inner found : DeclBody) → if_read r inner ≡ Some found → IsReadRole r
 read-role role.Part inner found is = tt

@@ -1,6 +1,5 @@
 -- The names in scope of a description without violations.
-use Rattle.std.proofs.Common.{◌≡◌, ◌∙◌, sym, ap, refl, subst, ⊎_elim, ℕ, zero, suc, ◌+◌, Bool, true, false, not, cond, ◌||◌, nat_eq, List, [], ◌∷◌, ◌++◌, append_assoc, append-nil, map, length, take, find, codes, Option, Some, None, option_map, option_and_then, slice_get}
-use Rattle.std.specs.Prelude.{⊤}
+use Rattle.std.proofs.Common.{◌≡◌, ◌∙◌, sym, ap, refl, subst, ⊎_elim, ℕ, ◌+◌, Bool, true, false, cond, nat_eq, List, [], ◌∷◌, ◌++◌, append_assoc, append-nil, map, take, find, codes, Option, Some, None, option_map}
 use Rattle.std.specs.List.{list_any}
 use Rattle.std.proofs.lemmas.List.Folds.{list_any-append}
 use lib.Pointwise.{pointwise, bytes_decides}
@@ -28,9 +27,8 @@ use Rattle.pads_rules.specs.declared.declared.Declared.{Declared}
 use Rattle.pads_rules.specs.declared.declared.Named.{Named as RuleNamed}
 use Rattle.pads_rules.specs.declared.expr_sort.ExprSort.{ExprSort}
 use Rattle.pads_rules.specs.declared.expr_sort.ExprSort.TheVariants as expr_sort
-use Rattle.pads_rules.specs.declared.fault.CheckFault.{CheckFault}
 use Rattle.pads_trans.specs.Names.{at_sign}
-use Rattle.pads_well_sorted.specs.Expressions.{Scope, sort_in_scope, meaning_sort}
+use Rattle.pads_well_sorted.specs.Expressions.{Scope, meaning_sort}
 use Rattle.pads_well_sorted.specs.Sorts as sorts_of
 use Rattle.pads_well_sorted.specs.WellSorted.{Each, params_scope}
 use Rattle.pads_accepted.specs.Described.{as_named, IsSpelled, AreSpelled, IsProper, IsKnown, Sees}

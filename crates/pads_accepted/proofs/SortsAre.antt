@@ -1,5 +1,5 @@
 -- The declarations that a description without violations resolves to have the sorts that the rules know.
-use Rattle.std.proofs.Common.{◌≡◌, ◌∙◌, sym, ap, refl, subst, arith, ℕ, suc, ◌+◌, ◌*◌, ◌^◌, ◌-◌, min, ◌<◌, ◌≤◌, Bool, true, false, not, ◌&&◌, ◌||◌, ◌==◌, List, [], map, length, take, Some, slice_get}
+use Rattle.std.proofs.Common.{◌≡◌, ◌∙◌, ap, refl, subst, arith, ℕ, suc, ◌-◌, ◌≤◌, Bool, true, false, not, ◌&&◌, ◌||◌, ◌==◌, List, [], map, length, take, Some, slice_get}
 use Rattle.pads_ast.specs.declared.decl.Ast.{Ast}
 use Rattle.pads_ast.specs.declared.decl.Decl.{Decl as WrittenDecl}
 use Rattle.pads_ast.specs.declared.decl.DeclBody.{DeclBody as WrittenBody}
@@ -15,12 +15,11 @@ use Rattle.pads_rules.specs.DeclRules.{decl_name}
 use Rattle.pads_rules.specs.Faults.{breaks}
 use Rattle.pads_rules.specs.PieceRules.{is_source_shape, is_header_shape}
 use Rattle.pads_rules.specs.Pieces.{body_pieces}
-use Rattle.pads_rules.specs.Resolving.{is_record_list, is_record_list_body, param_named, sort_in, type_sort}
+use Rattle.pads_rules.specs.Resolving.{is_record_list_body, param_named, sort_in, type_sort}
 use Rattle.pads_rules.specs.Sorts as rules
 use Rattle.pads_rules.specs.Trees.{params_of, is_precord, is_psource}
 use Rattle.pads_rules.specs.Violations.{violations}
 use Rattle.pads_rules.specs.declared.declared.Declared.{Declared}
-use Rattle.pads_rules.specs.declared.expr_sort.ExprSort.TheVariants as expr_sort
 use Rattle.pads_well_sorted.specs.Sorts as sorts_of
 use Rattle.pads_well_sorted.specs.WellSorted.{Each, AreSorts}
 use Rattle.pads_accepted.specs.Known.{known_sorts}

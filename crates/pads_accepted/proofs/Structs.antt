@@ -1,6 +1,5 @@
 -- The structs that a description without violations resolves to: the names of a `Pwhere`.
-use Rattle.std.proofs.Common.{◌≡◌, ◌∙◌, sym, ap, refl, subst, arith, ℕ, zero, suc, ◌+◌, ◌<◌, ◌≤◌, Bool, true, List, [], ◌∷◌, ◌++◌, append_assoc, append-nil, map, flat_map, length, take, Option, Some, None, option_and_then, nat_le, slice_get, le-leb}
-use Rattle.std.specs.Prelude.{⊤}
+use Rattle.std.proofs.Common.{◌≡◌, ◌∙◌, sym, ap, refl, subst, arith, ℕ, zero, suc, ◌+◌, ◌≤◌, true, List, [], ◌∷◌, ◌++◌, append_assoc, append-nil, map, flat_map, length, take, Some, option_and_then, nat_le, slice_get, le-leb}
 use Rattle.std.proofs.lemmas.List.{map-append}
 use Rattle.pads_ast.specs.declared.decl.Ast.{Ast}
 use Rattle.pads_ast.specs.declared.decl.Decl.{Decl as WrittenDecl}
@@ -14,16 +13,15 @@ use Rattle.pads_sorts.specs.declared.sort.Form.TheVariants as form
 use Rattle.pads_sorts.specs.declared.sort.Sort.{Sort}
 use Rattle.pads_resolution.specs.declared.visible.Known.{Known}
 use Rattle.pads_resolution.specs.declared.visible.Stands.TheVariants as stands
-use Rattle.pads_resolution.specs.declared.visible.Visible.{Visible}
-use Rattle.pads_resolution.specs.Bodies.{option_at, branch_at, part_at, parts_at, struct_at, body_at as made_body}
+use Rattle.pads_resolution.specs.Bodies.{branch_at, part_at, parts_at, struct_at, body_at as made_body}
 use Rattle.pads_resolution.specs.Expressions.{meaning_of}
 use Rattle.pads_resolution.specs.Numbers.{short}
 use Rattle.pads_resolution.specs.Resolution.{params_scope as made_params}
-use Rattle.pads_resolution.specs.Scopes.{Scope as Names, known_in, field, fields_after, names_after}
+use Rattle.pads_resolution.specs.Scopes.{Scope as Names, field, fields_after, names_after}
 use Rattle.pads_resolution.specs.Types.{computed_of}
 use Rattle.pads_rules.specs.DeclRules.{part_count}
 use Rattle.pads_rules.specs.NameTokens.{names_in_option, names_in_part}
-use Rattle.pads_rules.specs.Pieces.{Site, Piece, Used, Computed, conditions, part_pieces, parts_pieces, names_after as rule_names_after, names_after_all, texts_of_parts, struct_pieces, scope_of}
+use Rattle.pads_rules.specs.Pieces.{Site, Piece, conditions, part_pieces, parts_pieces, names_after as rule_names_after, names_after_all, texts_of_parts, struct_pieces, scope_of}
 use Rattle.pads_rules.specs.Resolving.{type_sort, named}
 use Rattle.pads_rules.specs.Trees.{named_part, part_names}
 use Rattle.pads_rules.specs.Violations.{violations}
@@ -36,7 +34,7 @@ use Rattle.pads_well_sorted.specs.Expressions.{Scope, body_at, value_of, part_so
 use Rattle.pads_well_sorted.specs.Sorts as sorts_of
 use Rattle.pads_well_sorted.specs.WellSorted.{Each, IsStruct}
 use Rattle.pads_well_sorted.proofs.Lists.{each-left, each-right}
-use Rattle.pads_accepted.specs.Described.{as_named, judging_scope, IsSpelled, AreSpelled, IsKnown, Sees}
+use Rattle.pads_accepted.specs.Described.{as_named, IsSpelled, AreSpelled, IsKnown, Sees}
 use Rattle.pads_accepted.proofs.Bodies.{condition-typed, parts-typed}
 use Rattle.pads_accepted.proofs.Described.{used-proper, computed-sort, computed-proper, few-parts}
 use Rattle.pads_accepted.proofs.Environment.{site_of}

@@ -29,10 +29,10 @@ use Rattle.pads_resolution.specs.Scopes.{Scope as Names, known_in, hiding}
 use Rattle.pads_rules.specs.Faults.{breaks, when}
 use Rattle.pads_rules.specs.Judging as judging
 use Rattle.pads_rules.specs.Judging.{Judged, judged, judge_form, judgement, too_high, takes, wrong_sort, no_truth, unary_takes, unary_gives, is_text_or_array}
-use Rattle.pads_rules.specs.Members.{content_of, names_in, has_choice_in, element_in, optional_branch, plain_member, member, element, may_choose, plain_choice as plain_chosen, has_choice}
+use Rattle.pads_rules.specs.Members.{content_of, names_in, has_choice_in, element_in, optional_branch, plain_member, member, element, may_choose, has_choice}
 use Rattle.pads_rules.specs.NameTokens.{names_in_expr, names_in_form, names_in_step, Names as Texts}
 use Rattle.pads_rules.specs.Sorts as rules
-use Rattle.pads_rules.specs.Sorts.{accepts, agree, is_num_form, is_text_form, is_truth_form, is_array_form}
+use Rattle.pads_rules.specs.Sorts.{accepts, agree, is_num_form, is_truth_form, is_array_form}
 use Rattle.pads_rules.specs.Texts.{same_text, sort_of}
 use Rattle.pads_rules.specs.Trees.{points_of}
 use Rattle.pads_rules.specs.declared.declared.Content.TheVariants as content

@@ -1,5 +1,5 @@
 -- The sorts of types and declarations of a description without violations.
-use Rattle.std.proofs.Common.{◌≡◌, ◌∙◌, sym, ap, refl, subst, arith, ℕ, zero, suc, ◌+◌, ◌*◌, ◌-◌, ◌^◌, min, ◌<◌, ◌≤◌, Bool, true, false, not, ◌&&◌, ◌||◌, ◌==◌, if◌then◌else◌, nat_le, nat_lt, List, [], ◌∷◌, ◌++◌, map, length, take, find, position, Option, Some, None, option_and_then, unwrap_or, is_some, slice_get, eqb-true, leb-false}
+use Rattle.std.proofs.Common.{◌≡◌, ◌∙◌, sym, ap, refl, subst, arith, ℕ, zero, suc, ◌+◌, ◌*◌, ◌-◌, ◌^◌, min, ◌<◌, ◌≤◌, Bool, true, false, not, ◌&&◌, ◌||◌, ◌==◌, if◌then◌else◌, nat_le, nat_lt, List, [], ◌∷◌, map, length, take, position, Option, Some, None, option_and_then, unwrap_or, is_some, slice_get, eqb-true, leb-false}
 use Rattle.std.specs.Prelude.{⊤}
 use Rattle.pads_ast.specs.declared.decl.Ast.{Ast}
 use Rattle.pads_ast.specs.declared.decl.Decl.{Decl as WrittenDecl}
@@ -11,43 +11,39 @@ use Rattle.pads_ast.specs.declared.types.Type.{«Type»}
 use Rattle.pads_base_names.specs.Names.{base_name}
 use Rattle.pads_base_names.specs.declared.meaning.BaseName.{BaseName}
 use Rattle.pads_base_names.specs.declared.meaning.BaseName.TheVariants as base
-use Rattle.pads_sorts.specs.declared.sort.Form.{Form}
 use Rattle.pads_sorts.specs.declared.sort.Form.TheVariants as form
 use Rattle.pads_sorts.specs.declared.sort.Sort.{Sort}
 use Rattle.pads_resolved.specs.declared.decl.Decl.{Decl}
 use Rattle.pads_resolved.specs.declared.decl.DeclBody.{DeclBody}
 use Rattle.pads_resolved.specs.declared.decl.Role.{Role}
 use Rattle.pads_resolved.specs.declared.decl.Role.TheVariants as role
-use Rattle.pads_resolved.specs.declared.types.TypeName.{TypeName}
-use Rattle.pads_resolved.specs.declared.types.TypeName.TheVariants as type_name
-use Rattle.pads_resolution.specs.Bodies.{body_at as made_body, typedef_at}
+use Rattle.pads_resolution.specs.Bodies.{body_at as made_body}
 use Rattle.pads_resolution.specs.Expressions.{sort_known}
 use Rattle.pads_resolution.specs.Numbers.{short, declared_number}
 use Rattle.pads_resolution.specs.Resolution.{role_of, params_scope as made_params, decl_at}
 use Rattle.pads_resolution.specs.Scopes.{Scope as Names}
-use Rattle.pads_resolution.specs.Types.{prefix_of, is_end, until, base_type_of, declared_type, type_name_of, named_type, type_at}
-use Rattle.pads_rules.specs.DeclRules.{misplaced_source, too_much, part_count, scope_count, token_count, decl_name}
+use Rattle.pads_resolution.specs.Types.{is_end, base_type_of, declared_type, type_name_of, named_type, type_at}
+use Rattle.pads_rules.specs.DeclRules.{part_count, scope_count, token_count, decl_name}
 use Rattle.pads_rules.specs.Faults.{breaks, when}
 use Rattle.pads_rules.specs.Judging.{Scope as Judging}
 use Rattle.pads_rules.specs.Members.{content_of}
-use Rattle.pads_rules.specs.PieceRules.{is_undeclared, comes_later, unknown_type, later_type, record_type_named, is_source_shape, is_header_shape}
-use Rattle.pads_rules.specs.Pieces.{Site, sites, pieces, Piece, Used, Computed, OfParam, body_pieces, earlier}
-use Rattle.pads_rules.specs.Resolving.{Meaning, Base, Earlier, Undeclared, declared_as, of_declared, unless_base, meaning, meaning_sort, behind_popt, type_sort, is_precord_type, is_record_list_type, is_record_list_body, is_record_list, param_named, content_in, sort_in, declare, declared}
+use Rattle.pads_rules.specs.PieceRules.{is_undeclared, comes_later, is_source_shape, is_header_shape}
+use Rattle.pads_rules.specs.Pieces.{Site, sites, pieces, Used, Computed, OfParam, body_pieces, earlier}
+use Rattle.pads_rules.specs.Resolving.{Base, Earlier, declared_as, of_declared, unless_base, meaning, meaning_sort, behind_popt, type_sort, is_precord_type, is_record_list_type, is_record_list_body, is_record_list, param_named, content_in, sort_in, declare, declared}
 use Rattle.pads_rules.specs.Sorts as rules
 use Rattle.pads_rules.specs.Texts.{same_text}
 use Rattle.pads_rules.specs.Trees.{args_of, params_of, is_precord, is_psource}
 use Rattle.pads_rules.specs.Violations.{violations}
-use Rattle.pads_rules.specs.declared.declared.Content.{Content}
 use Rattle.pads_rules.specs.declared.declared.Declared.{Declared}
 use Rattle.pads_rules.specs.declared.expr_sort.ExprSort.{ExprSort}
 use Rattle.pads_rules.specs.declared.expr_sort.ExprSort.TheVariants as expr_sort
 use Rattle.pads_well_sorted.specs.Expressions.{if_read, body_at}
 use Rattle.pads_well_sorted.specs.Sorts as sorts_of
-use Rattle.pads_well_sorted.specs.WellSorted.{Each, AreSorts}
-use Rattle.pads_well_sorted.proofs.Lists.{each-left, each-right, there-mapped}
-use Rattle.pads_accepted.specs.Described.{IsRead, IsProper}
-use Rattle.pads_accepted.proofs.Environment.{site_of, env-at, env-length, site-there, site-back}
-use Rattle.pads_accepted.proofs.Faultless.{not-when, is-not-false}
+use Rattle.pads_well_sorted.specs.WellSorted.{Each}
+use Rattle.pads_well_sorted.proofs.Lists.{each-right, there-mapped}
+use Rattle.pads_accepted.specs.Described.{IsProper}
+use Rattle.pads_accepted.proofs.Environment.{site_of, env-at, env-length, site-there}
+use Rattle.pads_accepted.proofs.Faultless.{not-when}
 use Rattle.pads_accepted.proofs.Free.{Free, FreePiece, free-at}
 use Rattle.pads_accepted.proofs.Lists.{get-below, get-there, taken-there, length-taken, found-place}
 

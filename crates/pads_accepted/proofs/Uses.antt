@@ -1,6 +1,5 @@
 -- What types, arguments and conditions of a description without violations are.
-use Rattle.std.proofs.Common.{◌≡◌, ◌∙◌, sym, ap, ap₂, refl, subst, arith, ◌⊎◌, inl, inr, ℕ, zero, suc, ◌+◌, ◌*◌, ◌<◌, Bool, true, false, not, ◌&&◌, ◌||◌, ◌==◌, List, [], ◌∷◌, ◌++◌, map, flat_map, length, take, Option, Some, None, is_some, slice_get, eqb-true}
-use Rattle.std.specs.Prelude.{⊤}
+use Rattle.std.proofs.Common.{◌≡◌, ◌∙◌, sym, ap, ap₂, refl, subst, arith, ◌⊎◌, inl, inr, ℕ, zero, suc, ◌+◌, Bool, true, false, not, ◌&&◌, ◌||◌, ◌==◌, List, [], ◌∷◌, map, flat_map, length, take, Option, Some, None, slice_get, eqb-true}
 use Rattle.std.specs.List.{enumerate_from}
 use Rattle.std.proofs.lemmas.List.{length-map}
 use Rattle.pads_ast.specs.declared.decl.Ast.{Ast}
@@ -10,32 +9,27 @@ use Rattle.pads_ast.specs.declared.types.Arg.{Arg}
 use Rattle.pads_ast.specs.declared.types.Arg.TheVariants as arg
 use Rattle.pads_ast.specs.declared.types.Param.{Param as WrittenParam}
 use Rattle.pads_ast.specs.declared.types.Type.{«Type»}
-use Rattle.pads_base_names.specs.Names.{base_name, takes}
+use Rattle.pads_base_names.specs.Names.{takes}
 use Rattle.pads_base_names.specs.declared.meaning.BaseName.{BaseName}
 use Rattle.pads_base_names.specs.declared.meaning.BaseName.TheVariants as base
 use Rattle.pads_base_names.specs.declared.meaning.NamedCoding.{NamedCoding}
 use Rattle.pads_sorts.specs.declared.sort.Form.{Form}
 use Rattle.pads_sorts.specs.declared.sort.Form.TheVariants as form
 use Rattle.pads_sorts.specs.declared.sort.Sort.{Sort}
-use Rattle.pads_resolved.specs.declared.decl.Decl.{Decl}
-use Rattle.pads_resolved.specs.declared.decl.DeclBody.{DeclBody}
-use Rattle.pads_resolved.specs.declared.decl.Role.{Role}
-use Rattle.pads_resolved.specs.declared.decl.Role.TheVariants as role
 use Rattle.pads_resolved.specs.declared.expr.Expr.{Expr}
 use Rattle.pads_resolved.specs.declared.types.Param.{Param}
-use Rattle.pads_resolved.specs.declared.types.TypeName.TheVariants as type_name
 use Rattle.pads_resolution.specs.Bodies.{expr_at, body_at as made_body}
 use Rattle.pads_resolution.specs.Expressions.{expression, expr_of, sort_known}
 use Rattle.pads_resolution.specs.Numbers.{declared_number}
 use Rattle.pads_resolution.specs.Resolution.{role_of, params_scope as made_params, decl_at}
 use Rattle.pads_resolution.specs.Scopes.{Scope as Names}
-use Rattle.pads_resolution.specs.Types.{is_end, base_type_of, declared_type, type_name_of, named_type, arg_exprs, args, type_at, param_of}
+use Rattle.pads_resolution.specs.Types.{is_end, base_type_of, declared_type, type_name_of, named_type, args, type_at, param_of}
 use Rattle.pads_rules.specs.Faults.{breaks, when, each}
 use Rattle.pads_rules.specs.Judging.{Judged, judged, wrong_sort, no_truth}
 use Rattle.pads_rules.specs.NameTokens.{names_in_expr, names_in_arg}
-use Rattle.pads_rules.specs.PieceRules.{takes_so_many, is_count_of, base_params, params_in, takes_end, agrees_with, argument_sort, argument_faults, faults_of, is_bare, is_base, is_computable_base, is_param_base, is_undeclared}
-use Rattle.pads_rules.specs.Pieces.{Site, Piece, Used, OfParam}
-use Rattle.pads_rules.specs.Resolving.{Meaning, Base, Earlier, Undeclared, declared_as, meaning, meaning_sort, behind_popt, type_sort, plain_meaning, is_record_list_type, declare, declared}
+use Rattle.pads_rules.specs.PieceRules.{takes_so_many, is_count_of, params_in, takes_end, agrees_with, argument_sort, argument_faults, is_bare, is_base, is_param_base}
+use Rattle.pads_rules.specs.Pieces.{Site, Used, OfParam}
+use Rattle.pads_rules.specs.Resolving.{Meaning, Base, Earlier, meaning, meaning_sort, behind_popt, type_sort, plain_meaning, declare}
 use Rattle.pads_rules.specs.Sorts as rules
 use Rattle.pads_rules.specs.Sorts.{accepts, agree, is_num_form, is_text_form, is_truth_form}
 use Rattle.pads_rules.specs.Trees.{is_empty, args_of, params_of}
@@ -43,19 +37,18 @@ use Rattle.pads_rules.specs.Violations.{violations}
 use Rattle.pads_rules.specs.declared.declared.Declared.{Declared}
 use Rattle.pads_rules.specs.declared.expr_sort.ExprSort.{ExprSort}
 use Rattle.pads_rules.specs.declared.expr_sort.ExprSort.TheVariants as expr_sort
-use Rattle.pads_well_sorted.specs.Expressions.{Scope, if_read, sort_in}
+use Rattle.pads_well_sorted.specs.Expressions.{Scope, sort_in}
 use Rattle.pads_well_sorted.specs.Sorts as sorts_of
-use Rattle.pads_well_sorted.specs.WellSorted.{Each, Takes, HaveSorts, IsCall, IsNamed, IsType, IsParam, param_sorts}
+use Rattle.pads_well_sorted.specs.WellSorted.{Takes, HaveSorts, IsCall, IsNamed, IsType, param_sorts}
 use Rattle.pads_well_sorted.proofs.Lists.{each-left, each-right, each-there, there-mapped, mapped-there}
-use Rattle.pads_accepted.specs.Described.{judging_scope, AreSpelled, IsSpelled, IsProper, Describes, Typed, Sees}
+use Rattle.pads_accepted.specs.Described.{judging_scope, AreSpelled, IsSpelled, Typed, Sees}
 use Rattle.pads_accepted.proofs.Described.{described, unless_popt, plain-is}
-use Rattle.pads_accepted.proofs.Environment.{site_of, env-at}
+use Rattle.pads_accepted.proofs.Environment.{site_of}
 use Rattle.pads_accepted.proofs.Faultless.{none-left, none-right, not-when, is-not-false, both-left, both-right, is-taken, is-truth}
 use Rattle.pads_accepted.proofs.Forms.{num-form, truth-form}
-use Rattle.pads_accepted.proofs.Free.{Free, FreePiece}
-use Rattle.pads_accepted.proofs.Lists.{get-below}
+use Rattle.pads_accepted.proofs.Free.{FreePiece}
 use Rattle.pads_accepted.proofs.Typed.{lawful, known-operand}
-use Rattle.pads_accepted.proofs.Types.{IsReadRole, IsReadAt, shape-off, Named, base-named, earlier-named, named-at, meaning-base, meaning-earlier, used-known, param-known, no-list, read-if, env, made, sorts, free, few, made-there, earlier-read, short-is}
+use Rattle.pads_accepted.proofs.Types.{IsReadAt, shape-off, Named, base-named, earlier-named, named-at, meaning-base, meaning-earlier, used-known, param-known, no-list, read-if, env, made, sorts, free, few, made-there, earlier-read, short-is}
 
 -- sorts that are the same
 pub sort-is : (s : Sort) (f : Form) → s.optional ≡ 0 → s.form ≡ f → s ≡ sorts_of.plain f

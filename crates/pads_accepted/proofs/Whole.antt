@@ -1,15 +1,12 @@
 -- Each declaration that a description without violations resolves to is well-sorted.
-use Rattle.std.proofs.Common.{◌≡◌, ◌∙◌, sym, ap, refl, subst, arith, ⊎_elim, ◌⊎◌, inl, inr, ℕ, zero, suc, ◌+◌, ◌<◌, ◌≤◌, Bool, true, false, ◌||◌, nat_le, nat_lt, List, [], ◌∷◌, ◌++◌, append-nil, map, flat_map, length, take, Option, Some, None, slice_get, ltb-false, le-leb}
-use Rattle.std.specs.Prelude.{⊤}
+use Rattle.std.proofs.Common.{◌≡◌, ◌∙◌, sym, ap, refl, subst, arith, ⊎_elim, ◌⊎◌, inl, inr, ℕ, ◌+◌, ◌≤◌, true, ◌||◌, nat_le, nat_lt, List, [], ◌∷◌, ◌++◌, append-nil, map, flat_map, length, take, Some, slice_get, ltb-false, le-leb}
 use Rattle.std.proofs.lemmas.List.{length-map}
-use Rattle.pads_calc.specs.Counts.{few}
 use Rattle.pads_ast.specs.declared.decl.Ast.{Ast}
 use Rattle.pads_ast.specs.declared.decl.Decl.{Decl as WrittenDecl}
 use Rattle.pads_ast.specs.declared.decl.DeclBody.{DeclBody as WrittenBody}
 use Rattle.pads_ast.specs.declared.decl.DeclBody.TheVariants as written_body
 use Rattle.pads_ast.specs.declared.name.Name.{Name}
 use Rattle.pads_ast.specs.declared.types.Param.{Param as WrittenParam}
-use Rattle.pads_sorts.specs.declared.sort.Sort.{Sort}
 use Rattle.pads_resolved.specs.declared.decl.Decl.{Decl}
 use Rattle.pads_resolved.specs.declared.decl.Role.{Role}
 use Rattle.pads_resolved.specs.declared.decl.Role.TheVariants as role
@@ -17,18 +14,17 @@ use Rattle.pads_resolution.specs.Bodies.{label_of as made_label, body_at as made
 use Rattle.pads_resolution.specs.Expressions.{sort_known}
 use Rattle.pads_resolution.specs.Resolution.{role_of, params_scope as made_params, decl_at, resolved}
 use Rattle.pads_resolution.specs.Types.{param_of}
-use Rattle.pads_rules.specs.DeclRules.{name_again, same_name, same_option, option_place, options_of, spelling_again, same_spelling, labels_of, texts, part_count, scope_count, token_count, decl_name}
+use Rattle.pads_rules.specs.DeclRules.{same_name, same_option, option_place, options_of, same_spelling, labels_of, texts, part_count, scope_count, token_count, decl_name}
 use Rattle.pads_rules.specs.DeclRules as decl_rules
-use Rattle.pads_rules.specs.Faults.{breaks, when, again}
-use Rattle.pads_rules.specs.NameTokens.{names_in_type, names_in_param, names_in_body, names_in_decl, with_names, count_of_different}
+use Rattle.pads_rules.specs.Faults.{breaks, again}
+use Rattle.pads_rules.specs.NameTokens.{names_in_type, names_in_param, names_in_body, names_in_decl, count_of_different}
 use Rattle.pads_rules.specs.Pieces.{Site, Piece, OfParam, body_pieces}
 use Rattle.pads_rules.specs.Resolving.{type_sort, param_named}
-use Rattle.pads_rules.specs.Trees.{params_of, param_names, inner_names, name_of}
+use Rattle.pads_rules.specs.Trees.{params_of, param_names, inner_names}
 use Rattle.pads_rules.specs.Violations.{violations}
 use Rattle.pads_rules.specs.declared.declared.Declared.{Declared}
 use Rattle.pads_rules.specs.declared.declared.Named.{Named as RuleNamed}
 use Rattle.pads_well_sorted.specs.Expressions.{if_read}
-use Rattle.pads_well_sorted.specs.Sorts as sorts_of
 use Rattle.pads_well_sorted.specs.WellSorted.{Each, IfThere, IsParam, IsBody, IsDecl, params_scope}
 use Rattle.pads_well_sorted.proofs.Lists.{each-left, each-right}
 use Rattle.pads_accepted.specs.Described.{IsSpelled, AreSpelled}
@@ -38,7 +34,7 @@ use Rattle.pads_accepted.proofs.Decls.{typedef-typed, array-typed, union-typed, 
 use Rattle.pads_accepted.proofs.Described.{few-parts}
 use Rattle.pads_accepted.proofs.Environment.{site_of, site-back}
 use Rattle.pads_accepted.proofs.Faultless.{none-left, not-when}
-use Rattle.pads_accepted.proofs.Free.{Free, FreePiece}
+use Rattle.pads_accepted.proofs.Free.{FreePiece}
 use Rattle.pads_accepted.proofs.Scopes.{State, start, Again, params-state}
 use Rattle.pads_accepted.proofs.Structs.{struct-typed}
 use Rattle.pads_accepted.proofs.Types.{or-false, IsReadRole, IsReadAt, env, made, sorts, free as free-site, body-pieces}
