@@ -1,13 +1,14 @@
 -- What an accepted text describes is a module, well-sorted and plain.
-use Rattle.std.proofs.Common.{◌≡◌, sym, refl, subst, ℕ, true, List}
+use Rattle.std.proofs.Common.{◌≡◌, ◌∙◌, sym, ap, refl, subst, ℕ, true, false, List}
 use Rattle.pads_accepted.proofs.Sorted.{well-sorted}
 use Rattle.pads_ast.specs.declared.decl.Ast.{Ast}
 use Rattle.pads_code.specs.declared.Coding.{Coding}
 use Rattle.pads_resolution.specs.Resolution.{resolved}
+use Rattle.pads_resolved.specs.declared.decl.Description.{Description}
 use Rattle.pads_sorted.specs.Plain.{Plain}
 use Rattle.pads_sorted.specs.Sorted.{Sorted}
 use Rattle.pads_spelled.proofs.Whole.{tree-spelled}
-use Rattle.pads_trans.specs.Modules.{Contents, is_module}
+use Rattle.pads_trans.specs.Modules.{Contents, is_module, module_of}
 use Rattle.pads_well_sorted.proofs.Formed.{module-formed}
 use Rattle.pads_well_sorted.proofs.PlainTerms.{module-plain}
 use Rattle.pads_well_sorted.proofs.SortedTerms.{module-sorted}
@@ -33,3 +34,14 @@ plain text coding made h = subst (λ (m : Contents). Plain m.decls) (sym h.conte
 -- Each accepted text describes something.
 pub there : (text : List ℕ) (coding : Coding) (tree : Ast) → IsAccepted text tree → (made : Contents) × Describes text coding made
 there text coding tree h = (contents_in coding tree, record { tree = tree; accepted = h; contents_is = refl })
+
+-- What an accepted tree resolves to is translated to what the text describes, and never refused.
+pub describes : (text : List ℕ) (tree : Ast) (coding : Coding) (d : Description) (made : Contents) → IsAccepted text tree → d ≡ resolved tree → made ≡ module_of d coding
+    → Describes text coding made
+describes text tree coding d made h same is =
+    record { tree = tree; accepted = h; contents_is = is ∙ ap (λ (d : Description). module_of d coding) same }
+
+pub never-unformed : (text : List ℕ) (tree : Ast) (coding : Coding) (d : Description) → IsAccepted text tree → d ≡ resolved tree → is_module (module_of d coding) ≡ false → ⊥
+never-unformed text tree coding d h same refused =
+    let unformed = subst (λ (d : Description). is_module (module_of d coding) ≡ false) same refused in
+    let e : true ≡ false = sym (accepted-formed text tree coding h) ∙ unformed in cc
