@@ -36,7 +36,7 @@ fn constraint(
     ensures told { IfOk result (λ fault. fault ≡ pieces_told (stands site.now) (pieces.conditions (pieces.scope_of (names.old ++ branch_named (pieces.earlier (stands site.now)) branch.now ∷ [])) branch.now.constraint)) }
     ensures restored { OnOk result (names.new ≡ names.old) }
 {
-    add_branch(alloc, earlier(site), names, branch)?;
+    add_branch(alloc, &earlier(site), names, branch)?;
     let fault = conditions(
         site,
         &Scope::Names(names.as_slice(), &[]),
@@ -79,15 +79,17 @@ fn branches(
 
 /// The expression of a switch, and its case constants.
 #[tactic(auto, using(crate::proofs::WalkLemmas::walk_rules))]
-fn switch(site: &Site<'_>, names: &[Named], switch: &Switch) -> Option<CheckFault>
-    ensures told { result ≡ pieces_told (stands site.now) (pieces.Choice (pieces.scope_of names.now) switch.now.value (map (λ case. case.key) switch.now.cases) ∷ []) }
+fn switch(
+    alloc: Global,
+    site: &Site<'_>,
+    names: &[Named],
+    switch: &Switch,
+) -> Result<Option<CheckFault>, Memory>
+    ensures told { IfOk result (λ fault. fault ≡ pieces_told (stands site.now) (pieces.Choice (pieces.scope_of names.now) switch.now.value (map (λ case. case.key) switch.now.cases) ∷ [])) }
 {
-    choice(
-        site,
-        &Scope::Names(names, &[]),
-        &switch.value,
-        switch.cases.as_slice(),
-    )
+    let scope = Scope::Names(names, &[]);
+    let fault = choice(alloc, site, &scope, &switch.value, switch.cases.as_slice())?;
+    Ok(fault)
 }
 
 /// A union behind its parameters.
@@ -103,7 +105,7 @@ fn union(
     let mut names = params;
     let key = match &d.body {
         UnionBody::Branches(_) => None,
-        UnionBody::Switch(d) => switch(site, names.as_slice(), d),
+        UnionBody::Switch(d) => switch(alloc, site, names.as_slice(), d)?,
     };
     let all = branches_of(alloc, &d.body)?;
     Ok(lesser(key, branches(alloc, site, &mut names, all.as_slice())?))
@@ -212,7 +214,7 @@ fn typedef(site: &Site<'_>, params: &[Named], d: &Typedef) -> Option<CheckFault>
     ensures told { result ≡ pieces_told (stands site.now) (pieces.Used (pieces.scope_of params.now) d.now.of ∷ pieces.constraint_pieces (pieces.earlier (stands site.now)) params.now d.now.of d.now.constraint) }
 {
     let fault = used(site, &Scope::Names(params, &[]), &d.of);
-    let sort = type_sort(earlier(site), &d.of);
+    let sort = type_sort(&earlier(site), &d.of);
     lesser(fault, typedef_constraint(site, params, sort, &d.constraint))
 }
 
@@ -247,6 +249,6 @@ pub fn all_pieces(alloc: Global, site: &Site<'_>) -> Result<Option<CheckFault>, 
     ensures told { IfOk result (λ fault. fault ≡ pieces_told (stands site.now) (pieces.pieces (stands site.now))) }
 {
     let written = params_of(&site.decl.body);
-    let names = param_names(alloc, earlier(site), written)?;
+    let names = param_names(alloc, &earlier(site), written)?;
     Ok(lesser(params(site, written), body(alloc, site, names)?))
 }

@@ -60,7 +60,7 @@ fn part(
     ensures names { OnOk result (names.new ≡ pieces.names_after (pieces.earlier (stands site.now)) names.old part.now) }
 {
     let before = first(site, names.as_slice(), from, part);
-    add_part(alloc, earlier(site), names, part)?;
+    add_part(alloc, &earlier(site), names, part)?;
     Ok(lesser(before, last(site, names.as_slice(), from, part)))
 }
 

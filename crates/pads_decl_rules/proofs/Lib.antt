@@ -1,2 +1,3 @@
 pub mod NameLists
 pub mod AgainSteps
+pub mod MetKinds

@@ -7,7 +7,7 @@ ghost use Rattle.pads_pieces.specs.Told.{stands};
 
 use pads_ast::DeclBody;
 use pads_base_names::base_name;
-use pads_declared::{declared_as, is_psource, name_of, params_of, same_text};
+use pads_declared::{is_psource, name_of, params_of, same_text};
 use pads_pieces::{Site, earlier, is_source_shape};
 use pads_rules::{CheckFault, fault_if};
 
@@ -16,7 +16,7 @@ pub fn name_taken(site: &Site<'_>) -> Option<CheckFault>
     ensures told { result ≡ least (rules.name_taken (stands site.now)) }
 {
     let name = name_of(&site.decl.body);
-    let declared = declared_as(earlier(site), name.text.as_slice()).is_some();
+    let declared = earlier(site).declared_as(name.text.as_slice()).is_some();
     let base = base_name(name.text.as_slice()).is_some();
     fault_if(declared || base, 1, name.at)
 }

@@ -5,9 +5,10 @@ ghost use Rattle.pads_rules.specs.Pieces.{names_after, names_after_all};
 ghost use Rattle.pads_rules.specs.Resolving as resolving;
 ghost use Rattle.pads_declared.specs.Meanings.{with_sort};
 
+use crate::EarlierTypes;
 use crate::types::type_sort;
 use pads_ast::{Branch, Label, Name, Param, Part};
-use pads_rules::{Declared, ExprSort, Named};
+use pads_rules::{ExprSort, Named};
 use pads_value::{Bytes, Items, Memory};
 use std::alloc::Global;
 
@@ -30,7 +31,7 @@ fn add(alloc: Global, names: &mut Items<Named>, name: &Name, sort: ExprSort) -> 
 /// Puts the name of a field or branch behind some others.
 pub fn add_branch(
     alloc: Global,
-    earlier: &[Declared],
+    earlier: &EarlierTypes<'_>,
     names: &mut Items<Named>,
     branch: &Branch,
 ) -> Result<(), Memory>
@@ -42,7 +43,7 @@ pub fn add_branch(
 /// Puts the name of a struct's part behind some others, where it has one.
 pub fn add_part(
     alloc: Global,
-    earlier: &[Declared],
+    earlier: &EarlierTypes<'_>,
     names: &mut Items<Named>,
     part: &Part,
 ) -> Result<(), Memory>
@@ -58,7 +59,7 @@ pub fn add_part(
 /// Puts the names of a struct's parts behind some others.
 pub fn add_parts(
     alloc: Global,
-    earlier: &[Declared],
+    earlier: &EarlierTypes<'_>,
     names: &mut Items<Named>,
     parts: &[Part],
 ) -> Result<(), Memory>
@@ -74,7 +75,7 @@ pub fn add_parts(
 #[tactic(auto, using(std::proofs::lemmas::Grind::common_steps, crate::proofs::Lists::lists))]
 pub fn branch_names(
     alloc: Global,
-    earlier: &[Declared],
+    earlier: &EarlierTypes<'_>,
     branches: &[&Branch],
 ) -> Result<Items<Named>, Memory>
     ensures names { IfOk result (λ names. names ≡ map (λ branch. resolving.branch_named earlier.now branch.now) branches.now) }
@@ -89,7 +90,7 @@ pub fn branch_names(
 /// The names of parameters with their sorts.
 pub fn param_names(
     alloc: Global,
-    earlier: &[Declared],
+    earlier: &EarlierTypes<'_>,
     params: &[Param],
 ) -> Result<Items<Named>, Memory>
     ensures names { IfOk result (λ names. names ≡ map (resolving.param_named earlier.now) params.now) }
@@ -109,7 +110,7 @@ pub fn param_names(
 /// The sorts of parameters.
 pub(crate) fn param_sorts(
     alloc: Global,
-    earlier: &[Declared],
+    earlier: &EarlierTypes<'_>,
     params: &[Param],
 ) -> Result<Items<ExprSort>, Memory>
     ensures sorts { IfOk result (λ sorts. sorts ≡ map (λ param. resolving.type_sort earlier.now param.of) params.now) }

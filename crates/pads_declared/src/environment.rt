@@ -8,14 +8,15 @@ use crate::copies::{add_parts, branch_names, label_names, param_sorts};
 use crate::records::is_record_list;
 use crate::trees::{branches_of, name_of, params_of};
 use crate::types::type_sort;
+use crate::{EarlierTypes, TypeTable};
 use pads_ast::{Decl, DeclBody, Part, Union};
-use pads_rules::{Content, Declared, Environment, ExprSort, Named};
+use pads_rules::{Content, Declared, ExprSort, Named};
 use pads_sorts::Form;
 use pads_value::{Items, Memory};
 use std::alloc::Global;
 
 /// The named parts of a struct.
-fn fields(alloc: Global, earlier: &[Declared], parts: &[Part]) -> Result<Items<Named>, Memory>
+fn fields(alloc: Global, earlier: &EarlierTypes<'_>, parts: &[Part]) -> Result<Items<Named>, Memory>
     ensures fields { IfOk result (λ fields. fields ≡ resolving.fields earlier.now parts.now) }
 {
     let mut fields = Items::new(alloc);
@@ -25,7 +26,7 @@ fn fields(alloc: Global, earlier: &[Declared], parts: &[Part]) -> Result<Items<N
 
 /// The branches of a union.
 #[tactic(auto, using(std::proofs::lemmas::Grind::common_steps, crate::proofs::Lists::lists))]
-fn branches(alloc: Global, earlier: &[Declared], union: &Union) -> Result<Content, Memory>
+fn branches(alloc: Global, earlier: &EarlierTypes<'_>, union: &Union) -> Result<Content, Memory>
     ensures branches { IfOk result (λ content. content ≡ resolving.content_in earlier.now (decl_body.Union union.now)) }
 {
     let branches = branches_of(alloc, &union.body)?;
@@ -34,7 +35,7 @@ fn branches(alloc: Global, earlier: &[Declared], union: &Union) -> Result<Conten
 }
 
 /// What a declared type is made of.
-fn content_in(alloc: Global, earlier: &[Declared], body: &DeclBody) -> Result<Content, Memory>
+fn content_in(alloc: Global, earlier: &EarlierTypes<'_>, body: &DeclBody) -> Result<Content, Memory>
     ensures content { IfOk result (λ content. content ≡ resolving.content_in earlier.now body.now) }
 {
     match body {
@@ -47,7 +48,7 @@ fn content_in(alloc: Global, earlier: &[Declared], body: &DeclBody) -> Result<Co
 }
 
 /// The sort of the type that is declared next.
-fn sort_in(earlier: &[Declared], body: &DeclBody) -> ExprSort
+fn sort_in(earlier: &EarlierTypes<'_>, body: &DeclBody) -> ExprSort
     ensures sort { result ≡ resolving.sort_in earlier.now body.now }
 {
     let number = earlier.len() as u64;
@@ -62,7 +63,7 @@ fn sort_in(earlier: &[Declared], body: &DeclBody) -> ExprSort
 }
 
 /// The type that a declaration declares behind some earlier ones.
-pub fn declare(alloc: Global, earlier: &[Declared], decl: &Decl) -> Result<Declared, Memory>
+pub fn declare(alloc: Global, earlier: &EarlierTypes<'_>, decl: &Decl) -> Result<Declared, Memory>
     ensures declared { IfOk result (λ declared. declared ≡ resolving.declare earlier.now decl.now) }
 {
     let name = Items::from_slice(alloc, name_of(&decl.body).text.as_slice())?;
@@ -80,13 +81,13 @@ pub fn declare(alloc: Global, earlier: &[Declared], decl: &Decl) -> Result<Decla
 
 /// The declared types of a description, in order.
 #[tactic(auto, unfolding(pads_rules::specs::Resolving::declared))]
-pub fn declared(alloc: Global, decls: &[Decl]) -> Result<Environment, Memory>
-    ensures declared { IfOk result (λ env. env ≡ resolving.declared decls.now) }
+pub fn declared(alloc: Global, decls: &[Decl]) -> Result<TypeTable, Memory>
+    ensures declared { IfOk result (λ types. types ≡ resolving.declared decls.now) }
 {
-    let mut env = Items::new(alloc);
+    let mut types = TypeTable::new(alloc);
     for decl in decls {
-        let next = declare(alloc, env.as_slice(), decl)?;
-        env.push(next)?;
+        let next = declare(alloc, &types.all(), decl)?;
+        types = types.with(alloc, next)?;
     }
-    Ok(env)
+    Ok(types)
 }

@@ -11,6 +11,7 @@ mod records;
 #[cfg(test)]
 mod tests;
 mod trees;
+mod type_table;
 mod types;
 
 pub use copies::{add_branch, add_part, add_parts, branch_names, param_names};
@@ -18,6 +19,7 @@ pub use environment::{declare, declared};
 pub use name_set::NameSet;
 pub use records::{is_precord, is_precord_type, is_psource, is_record_list, is_record_list_type};
 pub use trees::{branches_of, name_of, params_of};
+pub use type_table::{EarlierTypes, TypeTable};
 pub use types::{
-    Meaning, base_sort, declared_as, meaning_of, meaning_sort, plain_meaning, same_text, type_sort,
+    Meaning, base_sort, meaning_of, meaning_sort, plain_meaning, same_text, type_sort,
 };

@@ -5,10 +5,10 @@ ghost use Rattle.pads_rules.specs.Resolving as resolving;
 ghost use Rattle.pads_rules.specs.Trees as trees;
 ghost use Rattle.pads_declared.specs.Meanings.{meant, is_bare_array};
 
+use crate::EarlierTypes;
 use crate::trees::written;
 use crate::types::{Meaning, plain_meaning};
 use pads_ast::{Array, Decl, DeclBody, DeclMark};
-use pads_rules::Declared;
 
 /// Whether a declaration is marked `Precord`.
 pub fn is_precord(mark: Option<DeclMark>) -> bool
@@ -61,7 +61,7 @@ fn is_bare(array: &Array) -> bool
 }
 
 /// Whether a declaration declares a record list.
-pub fn is_record_list(earlier: &[Declared], decl: &Decl) -> bool
+pub fn is_record_list(earlier: &EarlierTypes<'_>, decl: &Decl) -> bool
     ensures list { result ≡ resolving.is_record_list earlier.now decl.now }
 {
     match &decl.body {

@@ -1,6 +1,6 @@
 use super::*;
 use pads_ast::{Decl, DeclBody, DeclMark, Name, Struct};
-use pads_rules::{Environment, ExprSort};
+use pads_rules::ExprSort;
 use pads_sorts::Form;
 use pads_value::{Items, Memory};
 use std::alloc::Global;
@@ -22,7 +22,7 @@ fn empty_struct(alloc: Global, name: &[u8]) -> Result<Decl, Memory> {
 }
 
 /// The declared types of two empty structs.
-fn two(alloc: Global) -> Result<Environment, Memory> {
+fn two(alloc: Global) -> Result<TypeTable, Memory> {
     let mut decls = Items::new(alloc);
     decls.push(empty_struct(alloc, b"a")?)?;
     decls.push(empty_struct(alloc, b"b")?)?;
@@ -31,12 +31,23 @@ fn two(alloc: Global) -> Result<Environment, Memory> {
 
 #[test]
 fn names_mean_what_is_declared(rt: HostRuntime) -> Result<(), Fail> {
-    let env = two(rt.alloc())?;
-    let second = meaning_of(env.as_slice(), b"b");
+    let types = two(rt.alloc())?;
+    let all = types.all();
+    let second = meaning_of(&all, b"b");
     assert_eq!(rt; meaning_sort(second), ExprSort::plain(Form::Struct(1)));
     assert!(rt; is_precord_type(second));
-    assert!(rt; matches!(meaning_of(env.as_slice(), b"c"), Meaning::Undeclared));
-    assert!(rt; matches!(meaning_of(env.as_slice(), b"Pip"), Meaning::Base(_)));
+    assert!(rt; matches!(meaning_of(&all, b"c"), Meaning::Undeclared));
+    assert!(rt; matches!(meaning_of(&all, b"Pip"), Meaning::Base(_)));
+    Ok(())
+}
+
+#[test]
+fn later_types_mean_nothing(rt: HostRuntime) -> Result<(), Fail> {
+    let types = two(rt.alloc())?;
+    let earlier = types.before(1);
+    assert!(rt; matches!(meaning_of(&earlier, b"a"), Meaning::Earlier(_)));
+    assert!(rt; matches!(meaning_of(&earlier, b"b"), Meaning::Undeclared));
+    assert_eq!(rt; types.all().number_of(b"b"), Some(1));
     Ok(())
 }
 

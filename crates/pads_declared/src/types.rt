@@ -1,11 +1,12 @@
 //! What type names mean.
 
-ghost use Rattle.std.specs.Prelude.{◌≡◌, option_map};
+ghost use Rattle.std.specs.Prelude.{◌≡◌};
 ghost use Rattle.pads_rules.specs.Resolving as resolving;
 ghost use Rattle.pads_rules.specs.Sorts as sorts;
 ghost use Rattle.pads_rules.specs.Texts as texts;
 ghost use Rattle.pads_declared.specs.Meanings.{meant};
 
+use crate::EarlierTypes;
 use pads_ast::Type;
 use pads_base_names::{BaseName, base_name};
 use pads_rules::{Declared, ExprSort};
@@ -29,23 +30,15 @@ pub fn same_text(first: &[u8], second: &[u8]) -> bool
     first == second
 }
 
-/// The first declared type of a name; `None` exactly where none has it.
-pub fn declared_as<'a>(env: &'a [Declared], name: &[u8]) -> Option<&'a Declared>
-    ensures first { option_map (λ found. found.now) result ≡ resolving.declared_as env.now name.now }
-{
-    env.iter()
-        .find(|declared| same_text(declared.name.as_slice(), name))
-}
-
 /// What a name means behind some earlier types.
 #[tactic(auto, unfolding(pads_rules::specs::Resolving::meaning))]
-pub fn meaning_of<'a>(earlier: &'a [Declared], name: &[u8]) -> Meaning<'a>
+pub fn meaning_of<'a>(earlier: &EarlierTypes<'a>, name: &[u8]) -> Meaning<'a>
     ensures meaning { meant result ≡ resolving.meaning earlier.now name.now }
 {
     if let Some(base) = base_name(name) {
         return Meaning::Base(base);
     }
-    match declared_as(earlier, name) {
+    match earlier.declared_as(name) {
         Some(declared) => Meaning::Earlier(declared),
         None => Meaning::Undeclared,
     }
@@ -79,7 +72,7 @@ pub fn meaning_sort(meaning: Meaning<'_>) -> ExprSort
 }
 
 /// The sort of a type.
-pub fn type_sort(earlier: &[Declared], of: &Type) -> ExprSort
+pub fn type_sort(earlier: &EarlierTypes<'_>, of: &Type) -> ExprSort
     ensures sort { result ≡ resolving.type_sort earlier.now of.now }
 {
     let sort = meaning_sort(meaning_of(earlier, of.name.text.as_slice()));
@@ -90,7 +83,7 @@ pub fn type_sort(earlier: &[Declared], of: &Type) -> ExprSort
 }
 
 /// The meaning of a type's name where the type isn't behind `Popt`.
-pub fn plain_meaning<'a>(earlier: &'a [Declared], of: &Type) -> Meaning<'a>
+pub fn plain_meaning<'a>(earlier: &EarlierTypes<'a>, of: &Type) -> Meaning<'a>
     ensures meaning { meant result ≡ resolving.plain_meaning earlier.now of.now }
 {
     match of.optional {

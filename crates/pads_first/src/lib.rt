@@ -41,13 +41,13 @@ fn at_site(
 fn in_decls(alloc: Global, decls: &[Decl]) -> Result<Option<CheckFault>, Memory>
     ensures told { IfOk result (λ fault. fault ≡ decls_told decls.now) }
 {
-    let env = declared(alloc, decls)?;
+    let types = declared(alloc, decls)?;
     let mut names = NameSet::new(alloc);
     let mut best = None;
     for number in 0..decls.len() {
         let site = Site {
             decls,
-            env: env.as_slice(),
+            env: &types,
             number,
             decl: &decls[number],
         };

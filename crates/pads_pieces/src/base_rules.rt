@@ -123,7 +123,7 @@ fn is_param_base(base: BaseName) -> bool
 pub(crate) fn is_computable(site: &Site<'_>, of: &Type) -> bool
     ensures computable { result ≡ rules.is_bare rules.is_computable_base (stands site.now) of.now }
 {
-    match plain_meaning(earlier(site), of) {
+    match plain_meaning(&earlier(site), of) {
         Meaning::Base(base) => is_computable_base(base) && args_of(of).is_empty(),
         Meaning::Earlier(_) | Meaning::Undeclared => false,
     }
@@ -133,7 +133,7 @@ pub(crate) fn is_computable(site: &Site<'_>, of: &Type) -> bool
 pub(crate) fn is_param(site: &Site<'_>, of: &Type) -> bool
     ensures param { result ≡ rules.is_bare rules.is_param_base (stands site.now) of.now }
 {
-    match plain_meaning(earlier(site), of) {
+    match plain_meaning(&earlier(site), of) {
         Meaning::Base(base) => is_param_base(base) && args_of(of).is_empty(),
         Meaning::Earlier(_) | Meaning::Undeclared => false,
     }

@@ -1,18 +1,17 @@
 //! The constants of cases.
 
-ghost use Rattle.std.specs.Prelude.{◌≡◌, [], map};
-ghost use Rattle.std.specs.List.{list_any};
+ghost use Rattle.std.specs.Prelude.{◌≡◌, IfOk};
 ghost use Rattle.pads_rules.specs.Faults.{least};
 ghost use Rattle.pads_rules.specs.Judging as judging;
 ghost use Rattle.pads_rules.specs.PieceRules as rules;
-ghost use Rattle.pads_rules.specs.Texts as texts;
-ghost use Rattle.pads_rules.specs.Trees.{points_of};
 ghost use Rattle.pads_pieces.specs.Told.{keys_of, keys_told, again_told};
 
+use crate::const_set::ConstSet;
 use pads_ast::{Case, Const, Number, Word};
-use pads_declared::same_text;
 use pads_rules::{CheckFault, ExprSort, fault_if, lesser};
 use pads_sorts::Form;
+use pads_value::Memory;
+use std::alloc::Global;
 
 /// The place of a literal.
 pub(crate) fn place_of(word: &Word) -> u64
@@ -42,52 +41,11 @@ fn const_place(key: &Const) -> u64
 }
 
 /// The number of a constant.
-fn signed(negative: bool, value: &Number) -> i128
+pub(crate) fn signed(negative: bool, value: &Number) -> i128
     ensures number { result ≡ rules.signed negative value.now }
 {
     let value = value.get();
     if negative { 0 - value } else { value }
-}
-
-/// Whether some points are those of a literal.
-fn are_points(points: &[u8], word: &Word) -> bool
-    ensures same { result ≡ texts.same_text points.now (points_of word.now) }
-{
-    match word {
-        Word::Char { point, .. } => same_text(points, &[*point]),
-        Word::Text { points: others, .. } => same_text(points, others.as_slice()),
-    }
-}
-
-fn same_word(first: &Word, second: &Word) -> bool
-    ensures same { result ≡ texts.same_text (points_of first.now) (points_of second.now) }
-{
-    match first {
-        Word::Char { point, .. } => are_points(&[*point], second),
-        Word::Text { points, .. } => are_points(points.as_slice(), second),
-    }
-}
-
-/// Whether two constants are the same by value.
-fn same_const(first: &Const, second: &Const) -> bool
-    ensures same { result ≡ rules.same_const first.now second.now }
-{
-    match (first, second) {
-        (
-            Const::Number {
-                negative,
-                value,
-                ..
-            },
-            Const::Number {
-                negative: other_negative,
-                value: other,
-                ..
-            },
-        ) => signed(*negative, value) == signed(*other_negative, other),
-        (Const::Word(first), Const::Word(second)) => same_word(first, second),
-        _ => false,
-    }
 }
 
 /// Constants of another sort than the switch's.
@@ -103,23 +61,16 @@ pub(crate) fn keys(sort: ExprSort, cases: &[Case]) -> Option<CheckFault>
     best
 }
 
-/// Whether a constant is that of one of some cases.
-fn is_key(key: &Const, cases: &[Case]) -> bool
-    ensures any { result ≡ list_any (λ case. rules.same_const key.now case.key) cases.now }
-{
-    cases.iter().any(|case| same_const(key, &case.key))
-}
-
 /// Constants that come again.
 #[tactic(auto, unfolding(crate::specs::Told::again_told))]
-pub(crate) fn keys_again(cases: &[Case]) -> Option<CheckFault>
-    ensures told { result ≡ again_told (keys_of cases.now) }
+pub(crate) fn keys_again(alloc: Global, cases: &[Case]) -> Result<Option<CheckFault>, Memory>
+    ensures told { IfOk result (λ fault. fault ≡ again_told (keys_of cases.now)) }
 {
+    let mut met = ConstSet::new(alloc);
     let mut best = None;
-    for number in 0..cases.len() {
-        let key = &cases[number].key;
-        let again = is_key(key, &cases[..number]);
-        best = lesser(best, fault_if(again, 13, const_place(key)));
+    for case in cases {
+        let again = met.add(&case.key)?;
+        best = lesser(best, fault_if(again, 13, const_place(&case.key)));
     }
-    best
+    Ok(best)
 }

@@ -5,6 +5,7 @@
 
 mod arguments;
 mod base_rules;
+mod const_set;
 mod constants;
 mod piece;
 mod shapes;

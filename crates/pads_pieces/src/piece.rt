@@ -1,6 +1,6 @@
 //! The rules at each kind of piece.
 
-ghost use Rattle.std.specs.Prelude.{◌≡◌};
+ghost use Rattle.std.specs.Prelude.{◌≡◌, IfOk};
 ghost use Rattle.pads_judge.specs.Scopes.{names_in_scope};
 ghost use Rattle.pads_rules.specs.Pieces as pieces;
 ghost use Rattle.pads_rules.specs.PieceRules.{is_num_or_text};
@@ -19,6 +19,8 @@ use pads_declared::type_sort;
 use pads_judge::{Scope, judge};
 use pads_rules::{CheckFault, ExprSort, fault_if, lesser};
 use pads_sorts::Form;
+use pads_value::Memory;
+use std::alloc::Global;
 
 /// The type of a field, a branch, an element, a typedef or an optional.
 #[tactic(auto, using(crate::proofs::PieceLemmas::piece_rules))]
@@ -52,9 +54,9 @@ pub fn computed(
 ) -> Option<CheckFault>
     ensures told { result ≡ piece_told (stands site.now) (pieces.Computed (names_in_scope scope.now) of.now value.now) }
 {
-    let judgement = judge(site.env, value, scope);
+    let judgement = judge(site.env.as_slice(), value, scope);
     let computable = is_computable(site, of);
-    let agrees = type_sort(earlier(site), of).agrees(judgement.sort);
+    let agrees = type_sort(&earlier(site), of).agrees(judgement.sort);
     let wrong = fault_if(!computable || !agrees, 18, of.name.at);
     let named = lesser(type_name(site, of), judgement.fault);
     lesser(lesser(named, wrong), record_name(site, of))
@@ -65,7 +67,7 @@ pub fn computed(
 pub fn condition(site: &Site<'_>, scope: &Scope<'_, '_>, e: &Expr) -> Option<CheckFault>
     ensures told { result ≡ piece_told (stands site.now) (pieces.Condition (names_in_scope scope.now) e.now) }
 {
-    let judgement = judge(site.env, e, scope);
+    let judgement = judge(site.env.as_slice(), e, scope);
     lesser(
         judgement.fault,
         fault_if(!judgement.sort.is_truth(), 10, judgement.first),
@@ -77,7 +79,7 @@ pub fn condition(site: &Site<'_>, scope: &Scope<'_, '_>, e: &Expr) -> Option<Che
 pub fn size(site: &Site<'_>, scope: &Scope<'_, '_>, e: &Expr) -> Option<CheckFault>
     ensures told { result ≡ piece_told (stands site.now) (pieces.Size (names_in_scope scope.now) e.now) }
 {
-    let judgement = judge(site.env, e, scope);
+    let judgement = judge(site.env.as_slice(), e, scope);
     lesser(
         judgement.fault,
         fault_if(!judgement.sort.is_num(), 9, judgement.first),
@@ -98,17 +100,19 @@ fn is_num_or_text(sort: ExprSort) -> bool
 /// The expression of a switch, and its case constants.
 #[tactic(auto, using(crate::proofs::PieceLemmas::piece_rules))]
 pub fn choice(
+    alloc: Global,
     site: &Site<'_>,
     scope: &Scope<'_, '_>,
     e: &Expr,
     cases: &[Case],
-) -> Option<CheckFault>
-    ensures told { result ≡ piece_told (stands site.now) (pieces.Choice (names_in_scope scope.now) e.now (keys_of cases.now)) }
+) -> Result<Option<CheckFault>, Memory>
+    ensures told { IfOk result (λ fault. fault ≡ piece_told (stands site.now) (pieces.Choice (names_in_scope scope.now) e.now (keys_of cases.now))) }
 {
-    let judgement = judge(site.env, e, scope);
+    let judgement = judge(site.env.as_slice(), e, scope);
     let wrong = fault_if(!is_num_or_text(judgement.sort), 12, judgement.first);
     let sorts = lesser(wrong, keys(judgement.sort, cases));
-    lesser(lesser(judgement.fault, sorts), keys_again(cases))
+    let again = keys_again(alloc, cases)?;
+    Ok(lesser(lesser(judgement.fault, sorts), again))
 }
 
 fn is_empty(word: &Word) -> bool

@@ -1,12 +1,12 @@
-ghost use Rattle.std.specs.Prelude.{◌≡◌, drop};
+ghost use Rattle.std.specs.Prelude.{◌≡◌, is_some};
 ghost use Rattle.pads_rules.specs.PieceRules as rules;
 ghost use Rattle.pads_rules.specs.Pieces as pieces;
+ghost use Rattle.pads_rules.specs.Resolving.{declared_as};
 ghost use Rattle.pads_declared.specs.Meanings.{meant};
 ghost use Rattle.pads_pieces.specs.Told.{stands};
 
 use pads_ast::{Decl, Type};
-use pads_declared::{Meaning, declared_as, meaning_of};
-use pads_rules::Declared;
+use pads_declared::{EarlierTypes, Meaning, TypeTable, meaning_of};
 
 /// A declaration where it stands.
 #[derive(Clone, Copy)]
@@ -14,44 +14,32 @@ pub struct Site<'a> {
     /// The declarations of the whole description.
     pub decls: &'a [Decl],
     /// Its declared types.
-    pub env: &'a [Declared],
+    pub env: &'a TypeTable,
     /// The declaration's number, from 0.
     pub number: usize,
     pub decl: &'a Decl,
 }
 
 /// The types that are declared before.
-pub fn earlier<'a>(site: &Site<'a>) -> &'a [Declared]
-    ensures types { result.now ≡ pieces.earlier (stands site.now) }
+pub fn earlier<'a>(site: &Site<'a>) -> EarlierTypes<'a>
+    ensures types { result ≡ pieces.earlier (stands site.now) }
 {
-    if site.number <= site.env.len() {
-        &site.env[..site.number]
-    } else {
-        site.env
-    }
-}
-
-/// This and the later declared types.
-fn later<'a>(site: &Site<'a>) -> &'a [Declared]
-    ensures types { result.now ≡ drop site.now.number site.now.env.now }
-{
-    if site.number <= site.env.len() {
-        &site.env[site.number..]
-    } else {
-        &[]
-    }
+    site.env.before(site.number)
 }
 
 /// What a type's name means where it stands.
 pub(crate) fn meaning_at<'a>(site: &Site<'a>, of: &Type) -> Meaning<'a>
     ensures meaning { meant result ≡ rules.meaning_at (stands site.now) of.now }
 {
-    meaning_of(earlier(site), of.name.text.as_slice())
+    meaning_of(&earlier(site), of.name.text.as_slice())
 }
 
-/// Whether a type's name is that of this or a later declaration.
-pub(crate) fn comes_later(site: &Site<'_>, of: &Type) -> bool
-    ensures later { result ≡ rules.comes_later (stands site.now) of.now }
+/// Whether a type's name is that of a declaration, wherever it stands.
+pub(crate) fn is_declared(site: &Site<'_>, of: &Type) -> bool
+    ensures declared { result ≡ is_some (declared_as site.now.env.now of.now.name.text) }
 {
-    declared_as(later(site), of.name.text.as_slice()).is_some()
+    site.env
+        .all()
+        .declared_as(of.name.text.as_slice())
+        .is_some()
 }

@@ -6,7 +6,7 @@ ghost use Rattle.pads_pieces.specs.Told.{stands, name_told, count_told, record_t
 use crate::Site;
 use crate::base_rules::{args_of, is_count_of, is_undeclared};
 use crate::shapes::is_source_shape;
-use crate::site::{comes_later, meaning_at};
+use crate::site::{is_declared, meaning_at};
 use pads_ast::Type;
 use pads_declared::{is_precord_type, is_record_list_type};
 use pads_rules::{CheckFault, fault_if};
@@ -19,7 +19,7 @@ pub(crate) fn type_name(site: &Site<'_>, of: &Type) -> Option<CheckFault>
     if !is_undeclared(meaning_at(site, of)) {
         return None;
     }
-    let rule = if comes_later(site, of) { 3 } else { 2 };
+    let rule = if is_declared(site, of) { 3 } else { 2 };
     Some(CheckFault {
         at: of.name.at,
         rule,

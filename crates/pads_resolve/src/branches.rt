@@ -30,7 +30,7 @@ pub(crate) fn branch_in(
     ensures names { OnOk result (names.new ≡ names.old ++ variable (branch_named (pieces.earlier (stands site.now)) f.now) ∷ []) }
 {
     let of = type_at(alloc, site, &Scope::Names(names.as_slice()), &f.of)?;
-    add_variable(alloc, earlier(site), names, &f.name, &f.of)?;
+    add_variable(alloc, &earlier(site), names, &f.name, &f.of)?;
     let scope = Scope::Names(names.as_slice());
     let constraint = option_at(alloc, site, &scope, &f.constraint)?;
     let name = text(alloc, f.name.text.as_slice())?;

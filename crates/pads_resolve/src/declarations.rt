@@ -10,12 +10,11 @@ use crate::scopes::variables;
 use crate::sources::role_of;
 use crate::types::params_of;
 use pads_ast::Decl as WrittenDecl;
-use pads_declared::{name_of, params_of as params_in};
+use pads_declared::{TypeTable, name_of, params_of as params_in};
 use pads_pieces::{Site, earlier};
 use pads_resolution::Visible;
 use pads_resolve_expr::text;
 use pads_resolved::Decl;
-use pads_rules::Declared;
 use pads_value::{Items, Memory};
 use std::alloc::Global;
 
@@ -24,7 +23,7 @@ use std::alloc::Global;
 fn params_scope(alloc: Global, site: &Site<'_>) -> Result<Items<Visible>, Memory>
     ensures made { IfOk result (λ made. made ≡ resolution.params_scope (stands site.now)) }
 {
-    variables(alloc, earlier(site), params_in(&site.decl.body))
+    variables(alloc, &earlier(site), params_in(&site.decl.body))
 }
 
 /// A declaration.
@@ -33,7 +32,7 @@ fn decl_at(alloc: Global, site: &Site<'_>) -> Result<Decl, Memory>
     ensures made { IfOk result (λ made. made ≡ resolution.decl_at (stands site.now)) }
 {
     let name = text(alloc, name_of(&site.decl.body).text.as_slice())?;
-    let params = params_of(alloc, earlier(site), params_in(&site.decl.body))?;
+    let params = params_of(alloc, &earlier(site), params_in(&site.decl.body))?;
     let scope = params_scope(alloc, site)?;
     let body = body_at(alloc, site, scope, &site.decl.body)?;
     Ok(Decl {
@@ -48,7 +47,7 @@ fn decl_at(alloc: Global, site: &Site<'_>) -> Result<Decl, Memory>
 pub(crate) fn decls_of(
     alloc: Global,
     decls: &[WrittenDecl],
-    env: &[Declared],
+    env: &TypeTable,
 ) -> Result<Items<Decl>, Memory>
     ensures made { IfOk result (λ made. made ≡ map resolution.decl_at (sites_among decls.now env.now)) }
 {

@@ -25,7 +25,7 @@ pub(crate) fn expr_at(
 {
     let types = Types {
         decls: site.decls,
-        env: site.env,
+        env: site.env.as_slice(),
     };
     let ResolvedExpr { expr, sort: _ } = resolve_expr(alloc, &types, e, scope)?;
     Ok(expr)

@@ -18,8 +18,8 @@ pub fn resolve(alloc: Global, tree: &Ast) -> Result<Description, Memory>
     ensures resolved { IfOk result (λ description. description ≡ resolved tree.now) }
 {
     let decls = tree.decls.as_slice();
-    let env = declared(alloc, decls)?;
-    let source = source_of(decls, env.as_slice());
-    let decls = decls_of(alloc, decls, env.as_slice())?;
+    let types = declared(alloc, decls)?;
+    let source = source_of(decls, &types);
+    let decls = decls_of(alloc, decls, &types)?;
     Ok(Description { decls, source })
 }

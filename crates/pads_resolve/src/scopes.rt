@@ -6,10 +6,10 @@ ghost use Rattle.pads_rules.specs.Resolving.{named, param_named};
 ghost use Rattle.pads_rules.specs.Trees.{named_part};
 
 use pads_ast::{Name, Param, Part, Type};
-use pads_declared::type_sort;
+use pads_declared::{EarlierTypes, type_sort};
 use pads_resolution::{Known, Stands, Visible};
 use pads_resolve_expr::{short, text};
-use pads_rules::{Declared, ExprSort};
+use pads_rules::ExprSort;
 use pads_value::{Items, Memory};
 use std::alloc::Global;
 
@@ -39,7 +39,7 @@ fn add(
 /// Puts the name of something of a type behind some others, as a variable.
 pub(crate) fn add_variable(
     alloc: Global,
-    earlier: &[Declared],
+    earlier: &EarlierTypes<'_>,
     names: &mut Items<Visible>,
     name: &Name,
     of: &Type,
@@ -53,7 +53,7 @@ pub(crate) fn add_variable(
 /// The parameters of a declaration as variables.
 pub(crate) fn variables(
     alloc: Global,
-    earlier: &[Declared],
+    earlier: &EarlierTypes<'_>,
     params: &[Param],
 ) -> Result<Items<Visible>, Memory>
     ensures made { IfOk result (λ made. made ≡ map (λ param. scopes.variable (param_named earlier.now param)) params.now) }
@@ -86,7 +86,7 @@ fn copied(alloc: Global, names: &[Visible]) -> Result<Items<Visible>, Memory>
 /// Puts the name of something of a type behind some others, as a field by number.
 fn add_numbered(
     alloc: Global,
-    earlier: &[Declared],
+    earlier: &EarlierTypes<'_>,
     names: &mut Items<Visible>,
     number: usize,
     name: &Name,
@@ -108,7 +108,7 @@ fn add_numbered(
 #[tactic(auto, using(crate::proofs::Steps::nothing_more))]
 fn add_field(
     alloc: Global,
-    earlier: &[Declared],
+    earlier: &EarlierTypes<'_>,
     names: &mut Items<Visible>,
     number: usize,
     part: &Part,
@@ -125,7 +125,7 @@ fn add_field(
 /// The names in the `Pwhere` of a struct behind those of its parameters: its fields, by their numbers among all parts.
 pub(crate) fn with_fields(
     alloc: Global,
-    earlier: &[Declared],
+    earlier: &EarlierTypes<'_>,
     params: &[Visible],
     parts: &[Part],
 ) -> Result<Items<Visible>, Memory>

@@ -1,17 +1,16 @@
 //! The record types of sources.
 
-ghost use Rattle.std.specs.Prelude.{◌≡◌, slice_get, take};
+ghost use Rattle.std.specs.Prelude.{◌≡◌, slice_get};
 ghost use Rattle.std.specs.Option.{option_copied};
 ghost use Rattle.pads_pieces.specs.Told.{stands};
 ghost use Rattle.pads_resolution.specs.Resolution as resolution;
 ghost use Rattle.pads_resolve.specs.Places.{sites_among};
 
 use pads_ast::{Decl as WrittenDecl, DeclBody, DeclMark, Part, Type};
-use pads_declared::{is_precord, is_psource, is_record_list};
+use pads_declared::{EarlierTypes, TypeTable, is_precord, is_psource, is_record_list};
 use pads_pieces::{Site, earlier};
-use pads_resolve_expr::{declared_number, number_of, short};
+use pads_resolve_expr::{number_of, short};
 use pads_resolved::{Role, Source};
-use pads_rules::Declared;
 
 /// What a declaration is for.
 #[tactic(auto, unfolding(pads_resolution::specs::Resolution::role_of))]
@@ -21,7 +20,7 @@ pub(crate) fn role_of(site: &Site<'_>) -> Role
     if is_precord(site.decl.mark) {
         return Role::Precord;
     }
-    if is_psource(site.decl.mark) || is_record_list(earlier(site), site.decl) {
+    if is_psource(site.decl.mark) || is_record_list(&earlier(site), site.decl) {
         return Role::Source;
     }
     Role::Part
@@ -29,14 +28,14 @@ pub(crate) fn role_of(site: &Site<'_>) -> Role
 
 /// The number of the declaration that a type names, among the types that are declared before.
 #[tactic(auto, unfolding(pads_resolution::specs::Resolution::named_number))]
-fn named_number(types: &[Declared], of: &Type) -> u16
+fn named_number(types: &EarlierTypes<'_>, of: &Type) -> u16
     ensures number { result ≡ resolution.named_number types.now of.now }
 {
-    number_of(declared_number(types, of.name.text.as_slice()))
+    number_of(types.number_of(of.name.text.as_slice()))
 }
 
 /// The record type of a record list.
-fn listed_record(types: &[Declared], body: &DeclBody) -> u16
+fn listed_record(types: &EarlierTypes<'_>, body: &DeclBody) -> u16
     ensures number { result ≡ resolution.listed_record types.now body.now }
 {
     match body {
@@ -52,25 +51,13 @@ fn decl(decls: &[WrittenDecl], number: u16) -> Option<&WrittenDecl>
     decls.get(number as usize)
 }
 
-/// The types that are declared before one of a number.
-fn before(env: &[Declared], number: u16) -> &[Declared]
-    ensures types { result.now ≡ take number env.now }
-{
-    let number = number as usize;
-    if number <= env.len() {
-        &env[..number]
-    } else {
-        env
-    }
-}
-
 /// The record type of a declared record list, by the list's number.
 #[tactic(auto, unfolding(pads_resolution::specs::Resolution::list_record))]
 fn list_record(site: &Site<'_>, list: u16) -> u16
     ensures number { result ≡ resolution.list_record (stands site.now) list }
 {
     match decl(site.decls, list) {
-        Some(d) => listed_record(before(site.env, list), &d.body),
+        Some(d) => listed_record(&site.env.before(list as usize), &d.body),
         None => 0,
     }
 }
@@ -91,8 +78,8 @@ fn headed_source(site: &Site<'_>, header: &Type, list: &Type) -> Source
 {
     let types = earlier(site);
     Source {
-        header: Some(named_number(types, header)),
-        record: list_record(site, named_number(types, list)),
+        header: Some(named_number(&types, header)),
+        record: list_record(site, named_number(&types, list)),
     }
 }
 
@@ -111,7 +98,7 @@ fn shaped_source(site: &Site<'_>, body: &DeclBody) -> Source
 {
     match body {
         DeclBody::Struct(d) => parts_source(site, d.parts.as_slice()),
-        DeclBody::Array(d) => plain_source(named_number(earlier(site), &d.of)),
+        DeclBody::Array(d) => plain_source(named_number(&earlier(site), &d.of)),
         _ => plain_source(0),
     }
 }
@@ -130,7 +117,7 @@ fn source_after(source: Source, site: &Site<'_>) -> Source
 
 /// The source of a description.
 #[tactic(auto, unfolding(pads_resolution::specs::Resolution::source_of))]
-pub(crate) fn source_of(decls: &[WrittenDecl], env: &[Declared]) -> Source
+pub(crate) fn source_of(decls: &[WrittenDecl], env: &TypeTable) -> Source
     ensures source { result ≡ resolution.source_of (sites_among decls.now env.now) }
 {
     let mut source = plain_source(0);

@@ -58,7 +58,7 @@ fn part_in(
         WrittenPart::Literal(literal) => Ok(Part::Literal(literal_of(alloc, literal)?)),
         WrittenPart::Pcompute { of, name, value } => {
             let made = computed_at(alloc, site, names.as_slice(), of, name, value)?;
-            add_variable(alloc, earlier(site), names, name, of)?;
+            add_variable(alloc, &earlier(site), names, name, of)?;
             Ok(made)
         }
         WrittenPart::Field(f) => Ok(Part::Field(branch_in(alloc, site, names, f)?)),
@@ -95,7 +95,7 @@ fn condition_at(
     let Some(condition) = &d.condition else {
         return Ok(None);
     };
-    let names = with_fields(alloc, earlier(site), params, d.parts.as_slice())?;
+    let names = with_fields(alloc, &earlier(site), params, d.parts.as_slice())?;
     let scope = Scope::Names(names.as_slice());
     Ok(Some(expr_at(alloc, site, &scope, condition)?))
 }

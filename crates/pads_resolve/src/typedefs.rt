@@ -27,7 +27,7 @@ fn constraint_at(
     ensures made { IfOk result (λ made. made ≡ bodies.constraint_at (stands site.now) params.now d.now c.now) }
 {
     let name = c.variable.text.as_slice();
-    let sort = type_sort(earlier(site), &d.of);
+    let sort = type_sort(&earlier(site), &d.of);
     let outside = Scope::Names(params);
     let scope = Scope::Hiding(name, Stands::Variable, sort, &outside);
     let condition = expr_at(alloc, site, &scope, &c.condition)?;

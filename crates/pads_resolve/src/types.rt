@@ -10,11 +10,10 @@ use crate::expressions::expr_at;
 use pads_ast::{Arg, Param as WrittenParam, Type as WrittenType};
 use pads_base_names::{BaseName, ByteOrder, NamedCoding, base_name};
 use pads_bases::Order;
-use pads_declared::type_sort;
+use pads_declared::{EarlierTypes, type_sort};
 use pads_pieces::{Site, earlier};
-use pads_resolve_expr::{Scope, declared_number, short, sort_known, text};
+use pads_resolve_expr::{Scope, short, sort_known, text};
 use pads_resolved::{BaseType, Computed, Expr, Param, Params, Prefix, Type, TypeName};
-use pads_rules::Declared;
 use pads_value::{Items, Memory};
 use std::alloc::Global;
 
@@ -94,13 +93,13 @@ fn args_of(of: &WrittenType) -> &[Arg]
 
 /// A type's name among the types that are declared before.
 #[tactic(auto, unfolding(pads_resolution::specs::Types::named_type))]
-fn named_type(earlier: &[Declared], of: &WrittenType) -> TypeName
+fn named_type(earlier: &EarlierTypes<'_>, of: &WrittenType) -> TypeName
     ensures named { result ≡ types.named_type earlier.now of.now }
 {
     let name = of.name.text.as_slice();
     match base_name(name) {
         Some(base) => TypeName::Base(base_type_of(is_end(args_of(of)), base)),
-        None => declared_type(declared_number(earlier, name)),
+        None => declared_type(earlier.number_of(name)),
     }
 }
 
@@ -151,7 +150,7 @@ pub(crate) fn type_at(
     let args = args(alloc, site, scope, args_of(of))?;
     Ok(Type {
         optional: of.optional.is_some(),
-        name: named_type(earlier(site), of),
+        name: named_type(&earlier(site), of),
         args,
     })
 }
@@ -169,7 +168,11 @@ pub(crate) fn computed_of(of: &WrittenType) -> Computed
 
 /// A parameter: its name, and the sort of its type.
 #[tactic(auto, unfolding(pads_resolution::specs::Types::param_of))]
-fn param_of(alloc: Global, earlier: &[Declared], param: &WrittenParam) -> Result<Param, Memory>
+fn param_of(
+    alloc: Global,
+    earlier: &EarlierTypes<'_>,
+    param: &WrittenParam,
+) -> Result<Param, Memory>
     ensures made { IfOk result (λ made. made ≡ types.param_of earlier.now param.now) }
 {
     let name = text(alloc, param.name.text.as_slice())?;
@@ -180,7 +183,7 @@ fn param_of(alloc: Global, earlier: &[Declared], param: &WrittenParam) -> Result
 /// The parameters of a declaration.
 pub(crate) fn params_of(
     alloc: Global,
-    earlier: &[Declared],
+    earlier: &EarlierTypes<'_>,
     written: &[WrittenParam],
 ) -> Result<Params, Memory>
     ensures made { IfOk result (λ made. made ≡ map (types.param_of earlier.now) written.now) }

@@ -15,7 +15,7 @@ mod tests;
 mod texts;
 
 pub use names::sort_known;
-pub use numbers::{declared_number, number_of, short};
+pub use numbers::{number_of, short};
 pub use resolving::resolve_expr;
 pub use scope::{Scope, Types};
 pub use texts::{points, text};

@@ -29,15 +29,6 @@ pub fn number_of(found: Option<usize>) -> u16
     }
 }
 
-/// The number of the first declared type of a name.
-pub fn declared_number(types: &[Declared], name: &[u8]) -> Option<usize>
-    ensures first { result ≡ numbers.declared_number types.now name.now }
-{
-    types
-        .iter()
-        .position(|declared| same_text(declared.name.as_slice(), name))
-}
-
 fn has_name(part: &Part, text: &[u8]) -> bool
     ensures named { result ≡ numbers.has_name text.now part.now }
 {

@@ -40,16 +40,16 @@ fn name_again(alloc: Global, site: &Site<'_>) -> Result<Option<CheckFault>, Memo
     ensures told { IfOk result (λ fault. fault ≡ joined.name_again_told (stands site.now)) }
 {
     let names = all_names(alloc, &site.decl.body)?;
-    let name = names_again(names.as_slice());
+    let name = names_again(alloc, names.as_slice())?;
     let option = options_again(options_of(&site.decl.body));
     Ok(lesser(name, option))
 }
 
 /// An enum spelling that comes again.
-fn spelling_again(site: &Site<'_>) -> Option<CheckFault>
-    ensures told { result ≡ joined.spelling_again_told (stands site.now) }
+fn spelling_again(alloc: Global, site: &Site<'_>) -> Result<Option<CheckFault>, Memory>
+    ensures told { IfOk result (λ fault. fault ≡ joined.spelling_again_told (stands site.now)) }
 {
-    spellings_again(labels_of(&site.decl.body))
+    spellings_again(alloc, labels_of(&site.decl.body))
 }
 
 /// The rules on the names and spellings that a declaration gives.
@@ -59,7 +59,7 @@ fn named(alloc: Global, site: &Site<'_>) -> Result<Option<CheckFault>, Memory>
     let again = name_again(alloc, site)?;
     let names = lesser(name_taken(site), again);
     let others = lesser(names, other_name(site));
-    Ok(lesser(others, spelling_again(site)))
+    Ok(lesser(others, spelling_again(alloc, site)?))
 }
 
 /// The rules on a declaration as a whole.

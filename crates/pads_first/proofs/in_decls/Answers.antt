@@ -12,7 +12,7 @@ loop-number-init c = record {
 pub loop-number-preserved : goal.loop-number-preserved
 loop-number-preserved c = record {
   told =
-      rw (c.lesser-best.ensures.least, c.in_ok-at_site.ensures.told, c.as_slice.ensures.items, c.in_ok-env.ensures.declared)
+      rw (c.lesser-best.ensures.least, c.in_ok-at_site.ensures.told, c.in_ok-types.ensures.declared)
       (told-step c.args.decls.now c.loop-number.number c.index-decls-number.result c.loop-number.best c.loop-number-test.true c.index-decls-number.is ∙ c.loop-number.invariant.told);
   names = c.in_ok-at_site.ensures.met;
 }

@@ -6,6 +6,6 @@ use Rattle.pads_sites.proofs.name_again.Goals as goal
 pub returns : goal.returns
 returns c = record {
   told =
-      rw (c.lesser.ensures.least, c.names_again-name.ensures.told, c.options_again-option.ensures.told, c.as_slice.ensures.value, c.in_ok-names.ensures.names, c.options_of.ensures.items)
+      rw (c.lesser.ensures.least, c.in_ok-name.ensures.told, c.options_again-option.ensures.told, c.as_slice.ensures.value, c.in_ok-names.ensures.names, c.options_of.ensures.items)
       (sym (told-names (stands c.args.site.now)));
 }

@@ -6,6 +6,6 @@ use Rattle.pads_sites.proofs.named.Goals as goal
 pub returns : goal.returns
 returns c = record {
   told =
-      rw (c.lesser.ensures.least, c.lesser-others.ensures.least, c.lesser-names.ensures.least, c.name_taken.ensures.told, c.in_ok-again.ensures.told, c.other_name.ensures.told, c.spelling_again.ensures.told)
+      rw (c.lesser.ensures.least, c.lesser-others.ensures.least, c.lesser-names.ensures.least, c.name_taken.ensures.told, c.in_ok-again.ensures.told, c.other_name.ensures.told, c.in_ok-spelling_again.ensures.told)
       (sym (told-named (stands c.args.site.now)));
 }

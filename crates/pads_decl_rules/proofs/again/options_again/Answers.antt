@@ -4,16 +4,21 @@ use Rattle.pads_rules.specs.Faults.{breaks}
 use Rattle.pads_decl_rules.specs.Again.{options_again_told}
 use Rattle.pads_pieces.proofs.Steps.{none-lesser, again-end}
 use Rattle.pads_decl_rules.proofs.AgainSteps.{plain-step}
+use Rattle.pads_decl_rules.proofs.MetKinds.{kinds-none, kinds-more}
 use Rattle.pads_decl_rules.proofs.again.options_again.Goals as goal
 
-pub loop-number-init : goal.loop-number-init
-loop-number-init c = none-lesser _
+pub loop-option-init : goal.loop-option-init
+loop-option-init c = record { told = none-lesser _; met = kinds-none }
 
-pub loop-number-preserved : goal.loop-number-preserved
-loop-number-preserved c =
-    rw (c.lesser-best.ensures.least, c.fault_if.ensures.least, c.is_option-again.ensures.any, c.option_place.ensures.place)
-    (plain-step same_option (λ option. breaks 4 (option_place option)) c.args.options.now c.loop-number.number c.index-options-number.result c.loop-number.best c.loop-number-test.true c.index-options-number.is ∙ c.loop-number.invariant)
+pub loop-option-preserved : goal.loop-option-preserved
+loop-option-preserved c = record {
+  told =
+      rw (c.lesser-best.ensures.least, c.fault_if.ensures.least, c.add-again.ensures.again, c.option_place.ensures.place, c.loop-option.invariant.met)
+      (plain-step same_option (λ option. breaks 4 (option_place option)) c.args.options.now c.loop-option.option-index c.option-item.result c.loop-option.best c.loop-option-test.true c.option-item.is
+      ∙ c.loop-option.invariant.told);
+  met = kinds-more _ _ c.args.options.now c.loop-option.option-index c.option-item.result c.loop-option-test.true c.option-item.is c.add-again.ensures.met c.loop-option.invariant.met;
+}
 
 pub returns : goal.returns
 unfolding options_again_told
-returns c = record { told = again-end same_option (λ option. breaks 4 (option_place option)) c.args.options.now c.loop-number.number c.loop-number.best _ c.loop-number-test.false c.loop-number.invariant }
+returns c = record { told = again-end same_option (λ option. breaks 4 (option_place option)) c.args.options.now c.loop-option.option-index c.loop-option.best _ c.loop-option-test.false c.loop-option.invariant.told }

@@ -1,19 +1,26 @@
-use Rattle.std.proofs.Common.{◌∙◌}
+use Rattle.std.proofs.Common.{◌∙◌, ap}
+use Rattle.pads_ast.specs.declared.decl.Label.{Label}
 use Rattle.pads_rules.specs.DeclRules.{same_spelling, spelling_of}
 use Rattle.pads_rules.specs.Faults.{breaks}
+use Rattle.pads_rules.specs.Texts.{is_among}
 use Rattle.pads_decl_rules.specs.Again.{spellings_again_told}
 use Rattle.pads_pieces.proofs.Steps.{none-lesser, again-end}
 use Rattle.pads_decl_rules.proofs.AgainSteps.{plain-step}
+use Rattle.pads_pieces.proofs.MetNames.{has-more}
 use Rattle.pads_decl_rules.proofs.again.spellings_again.Goals as goal
 
-pub loop-number-init : goal.loop-number-init
-loop-number-init c = none-lesser _
+pub loop-label-init : goal.loop-label-init
+loop-label-init c = record { told = none-lesser _; met = λ t. ap (λ names. is_among names t) c.new-met.ensures.empty }
 
-pub loop-number-preserved : goal.loop-number-preserved
-loop-number-preserved c =
-    rw (c.lesser-best.ensures.least, c.fault_if.ensures.least, c.is_spelling-again.ensures.any, c.spelling_place.ensures.place)
-    (plain-step same_spelling (λ label. breaks 15 (spelling_of label).1) c.args.labels.now c.loop-number.number c.index-labels-number.result c.loop-number.best c.loop-number-test.true c.index-labels-number.is ∙ c.loop-number.invariant)
+pub loop-label-preserved : goal.loop-label-preserved
+loop-label-preserved c = record {
+  told =
+      rw (c.lesser-best.ensures.least, c.fault_if.ensures.least, c.in_ok-again.ensures.again, c.spelling_place.ensures.place, c.loop-label.invariant.met)
+      (plain-step same_spelling (λ label. breaks 15 (spelling_of label).1) c.args.labels.now c.loop-label.label-index c.label-item.result c.loop-label.best c.loop-label-test.true c.label-item.is
+      ∙ c.loop-label.invariant.told);
+  met = has-more (λ (label : Label). (spelling_of label).0) _ _ c.args.labels.now c.loop-label.label-index c.label-item.result c.loop-label-test.true c.label-item.is c.in_ok-again.ensures.met c.loop-label.invariant.met;
+}
 
 pub returns : goal.returns
 unfolding spellings_again_told
-returns c = record { told = again-end same_spelling (λ label. breaks 15 (spelling_of label).1) c.args.labels.now c.loop-number.number c.loop-number.best _ c.loop-number-test.false c.loop-number.invariant }
+returns c = record { told = again-end same_spelling (λ label. breaks 15 (spelling_of label).1) c.args.labels.now c.loop-label.label-index c.loop-label.best _ c.loop-label-test.false c.loop-label.invariant.told }
