@@ -7,7 +7,7 @@ use crate::form::form_at;
 use crate::json::{Json, Members, Things};
 use crate::slot::{arm_at, name_at};
 use crate::terms::Terms;
-use crate::text::of_points;
+use crate::text::{as_ascii, of_points};
 use pads_bases::{Labels, spell_ip};
 use pads_calc::{Base, Part, Result2, Term};
 use pads_code::Coding;
@@ -95,8 +95,11 @@ fn with_named(
     match name {
         None => Ok(members),
         Some(name) => {
-            let key = of_points(alloc, name_at(terms, name))?;
-            members.with(alloc, key.as_str(), json)
+            let points = name_at(terms, name);
+            match as_ascii(points) {
+                Some(key) => members.with(alloc, key, json),
+                None => members.with(alloc, of_points(alloc, points)?.as_str(), json),
+            }
         }
     }
 }

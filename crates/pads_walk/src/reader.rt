@@ -76,6 +76,7 @@ impl Reader<'_> {
 
     /// The parts of a struct in turn, whatever the earlier ones gave.
     #[cycle(reader)]
+    #[inline(never)]
     fn read_struct(
         &self,
         parts: &[Part],
@@ -102,6 +103,7 @@ impl Reader<'_> {
 
     /// The first branch that reads without a fault; each is tried at the same place.
     #[cycle(reader)]
+    #[inline(never)]
     fn read_alt(
         &self,
         arms: &[Arm],
@@ -127,6 +129,7 @@ impl Reader<'_> {
 
     /// The case that the expression's value chooses.
     #[cycle(reader)]
+    #[inline(never)]
     fn read_switch(
         &self,
         e: &Expr,
@@ -155,6 +158,7 @@ impl Reader<'_> {
 
     /// The elements of an array by turns, until it ends.
     #[cycle(reader)]
+    #[inline(never)]
     fn read_seq(&self, seq: &Seq, env: &mut Env, place: u64, depth: u8) -> Result<Reading, Memory>
         requires within { place ≤ length self.now.record.bytes.now }
         requires elem { counts_fit seq.now.elem ≡ true }
@@ -182,6 +186,7 @@ impl Reader<'_> {
 
     /// Whether an array ends before the next element.
     #[cycle(reader)]
+    #[inline(never)]
     fn ending(
         &self,
         seq: &Seq,
@@ -215,6 +220,7 @@ impl Reader<'_> {
 
     /// Whether the terminator of an array stands here. It isn't consumed.
     #[cycle(reader)]
+    #[inline(never)]
     fn stops(&self, seq: &Seq, env: &mut Env, place: u64, depth: u8) -> Result<bool, Memory>
         requires within { place ≤ length self.now.record.bytes.now }
         requires stop { option_counts seq.now.stop ≡ true }
@@ -230,6 +236,7 @@ impl Reader<'_> {
 
     /// The next element and, from the second on, the separator before it.
     #[cycle(reader)]
+    #[inline(never)]
     fn turn(
         &self,
         seq: &Seq,
@@ -254,6 +261,7 @@ impl Reader<'_> {
 
     /// Where the next element begins; none where the separator isn't there.
     #[cycle(reader)]
+    #[inline(never)]
     fn element_at(
         &self,
         seq: &Seq,
@@ -284,6 +292,7 @@ impl Reader<'_> {
 
     /// The body of a declaration, with the arguments as its whole environment.
     #[cycle(reader)]
+    #[inline(never)]
     pub(crate) fn read_call(
         &self,
         number: u16,
@@ -312,6 +321,7 @@ impl Reader<'_> {
 
     /// A term at the first place from here to the record's end at which it reads without a fault.
     #[cycle(reader)]
+    #[inline(never)]
     fn read_scan(
         &self,
         inner: &Term,
