@@ -1,6 +1,6 @@
 -- The faults of a record: all nodes with a cause of their own, a node before its kids and kids in order,
 -- each with its place, its cause and its extent. A kid that its node's term doesn't give has no entry.
-use Rattle.std.specs.Prelude.{ℕ, ◌+◌, List, [], ◌∷◌, ◌++◌, map, true, codes, Option, Some, None}
+use Rattle.std.specs.Prelude.{ℕ, ◌+◌, List, [], ◌∷◌, ◌++◌, map, Bool, true, false, codes, Option, Some, None}
 use Rattle.serde_json.specs.Data.{Data, number, unsigned, string, array, object, item, no_items, member, no_members}
 use Rattle.pads_value.specs.declared.cause.Cause.{Cause}
 use Rattle.pads_value.specs.declared.descriptor.Pd.{Pd, Pd-F, fold-Pd, map-Pd, out-Pd}
@@ -59,3 +59,12 @@ module _ (decls : List Decl) (names : List (List ℕ)) where
 
   abbrev pub kid_told : List Step → ℕ → Option Slot → Pd → List Data
   kid_told steps depth given kid = kid_faults steps depth given (faults kid)
+
+-- A node without a cause of its own and without kids.
+abbrev pub has_nothing : Option Cause → List Pd → Bool
+has_nothing None [] = true
+has_nothing None (kid ∷ kids) = false
+has_nothing (Some cause) kids = false
+
+abbrev pub is_bare_node : Pd → Bool
+is_bare_node pd = has_nothing (out-Pd pd).cause (out-Pd pd).kids

@@ -1,7 +1,7 @@
 ghost use Rattle.std.specs.Prelude.{◌≡◌, ◌++◌, string_bytes, IfOk};
 ghost use Rattle.std.specs.Option.{option_copied, option_map};
 ghost use Rattle.pads_value.specs.declared.descriptor.Pd.{out-Pd};
-ghost use Rattle.pads_json.specs.Faults.{span_shown, fault as fault_of, own_fault as own_fault_of, faults as faults_of, kids_told, kid_told};
+ghost use Rattle.pads_json.specs.Faults.{span_shown, fault as fault_of, own_fault as own_fault_of, faults as faults_of, kids_told, kid_told, is_bare_node};
 ghost use Rattle.pads_json.specs.Forms.{form_seen};
 ghost use Rattle.pads_json.specs.Seen.{seen, things};
 ghost use Rattle.pads_json.specs.Slots.{slot_seen};
@@ -96,6 +96,13 @@ pub(crate) fn with_faults<'m>(
     }
 }
 
+/// Whether a node has neither a cause of its own nor kids, as most do: nothing is told of it.
+fn is_bare(pd: &Pd) -> bool
+    ensures bare { result ≡ is_bare_node pd.now }
+{
+    pd.cause.is_none() && pd.kids.as_slice().is_empty()
+}
+
 /// Faults with those of a node's kids behind them.
 #[cycle(faults)]
 fn with_kids<'m>(
@@ -130,6 +137,9 @@ fn with_kid<'m>(
 ) -> Result<Things, Memory>
     ensures faults { IfOk result (λ more. things more ≡ things faults ++ kid_told terms.now.decls.now terms.now.names.now (steps place.now) depth (option_map slot_seen slot.entry) kid.now) }
 {
+    if is_bare(kid) {
+        return Ok(faults);
+    }
     match slot {
         None => Ok(faults),
         Some(slot) => {
