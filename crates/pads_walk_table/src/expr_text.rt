@@ -39,20 +39,11 @@ fn put_numbered(out: &mut Line, names: &NameTable, form: &str, inner: &Expr, num
     out.put(")");
 }
 
-/// A form over one operand.
+/// What stands before an operand, the operand and a closing bracket.
 #[cycle(expr)]
 fn put_unary(out: &mut Line, names: &NameTable, form: &str, inner: &Expr) {
     out.put(form);
     put_expr(out, names, inner);
-    out.put(")");
-}
-
-/// Two operands with something between them.
-#[cycle(expr)]
-fn put_pair(out: &mut Line, names: &NameTable, left: &Expr, between: &str, right: &Expr) {
-    put_expr(out, names, left);
-    out.put(between);
-    put_expr(out, names, right);
     out.put(")");
 }
 
@@ -72,11 +63,13 @@ pub(crate) fn put_expr(out: &mut Line, names: &NameTable, e: &Expr) {
         Expr::Not(inner) => put_unary(out, names, "Not(", inner.get()),
         Expr::Elem(whole, index) => {
             out.put("Elem(");
-            put_pair(out, names, whole.get(), "; ", index.get());
+            put_expr(out, names, whole.get());
+            put_unary(out, names, "; ", index.get());
         }
         Expr::Bin(op, left, right) => {
             out.put("(");
-            put_pair(out, names, left.get(), operator(*op), right.get());
+            put_expr(out, names, left.get());
+            put_unary(out, names, operator(*op), right.get());
         }
         Expr::Forall(name, first, last, inner) => {
             out.put("Forall(");
@@ -85,8 +78,7 @@ pub(crate) fn put_expr(out: &mut Line, names: &NameTable, e: &Expr) {
             put_expr(out, names, first.get());
             out.put("; ");
             put_expr(out, names, last.get());
-            out.put("; ");
-            put_unary(out, names, "", inner.get());
+            put_unary(out, names, "; ", inner.get());
         }
     }
 }

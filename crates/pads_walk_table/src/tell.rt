@@ -183,7 +183,8 @@ pub(crate) fn tell_table(rt: &HostRuntime, name: &str) -> io::Result<()> {
             Ok(text) => print!(rt; "{text}")?,
             Err(Trouble::Memory) => return Err(AllocError.into()),
             Err(Trouble::Line(why)) => {
-                eprintln!(rt; "{name}: the line after {at} others: {why}")?;
+                let number = at.saturating_add(1);
+                eprintln!(rt; "{name}: line {number}: {why}")?;
                 return Err(io::ErrorKind::InvalidData.into());
             }
         }
