@@ -43,7 +43,7 @@ fn described(alloc: Global, text: &str, coding: Coding) -> Result<Module, Troubl
     }
 }
 
-/// A number `t1`, as many types more, each of the one before, and a record of the last.
+/// So many types, the first a number and each other of the one before, and a record of the last.
 fn nested(alloc: Global, depth: u64) -> Result<String, AllocError> {
     let mut text = String::from_str(alloc, "Ptypedef Puint8 t1;")?;
     for at in 1..depth {
