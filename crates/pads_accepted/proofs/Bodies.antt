@@ -32,7 +32,7 @@ use Rattle.pads_well_sorted.specs.Sorts as sorts_of
 use Rattle.pads_well_sorted.specs.WellSorted.{Each, IfThere, IsTruth, IsBranch, AreParts}
 use Rattle.pads_well_sorted.proofs.Lists.{each-left, each-right}
 use Rattle.pads_accepted.specs.Described.{judging_scope, IsSpelled, AreSpelled, IsProper, Sees}
-use Rattle.pads_accepted.proofs.Described.{used-sort, used-proper, computed-sort, computed-proper}
+use Rattle.pads_accepted.proofs.DescribedTypes.{used-sort, used-proper, computed-sort, computed-proper}
 use Rattle.pads_accepted.proofs.Environment.{site_of}
 use Rattle.pads_accepted.proofs.Free.{FreePiece}
 use Rattle.pads_accepted.proofs.Scopes.{State, step, no-more, Again, fresh-first, again-later}

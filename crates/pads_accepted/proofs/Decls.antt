@@ -48,14 +48,16 @@ use Rattle.pads_well_sorted.specs.WellSorted.{Each, IfThere, IsTruth, IsNumber, 
 use Rattle.pads_well_sorted.proofs.Lists.{each-left, each-right}
 use Rattle.pads_accepted.specs.Described.{as_named, judging_scope, IsSpelled, AreSpelled, IsProper}
 use Rattle.pads_accepted.proofs.Bodies.{condition-typed, type-known, used-here, branches-typed}
-use Rattle.pads_accepted.proofs.Described.{described, few-parts, branches-are, branch-pieces}
+use Rattle.pads_accepted.proofs.Described.{described, branches-are, branch-pieces}
+use Rattle.pads_accepted.proofs.DescribedTypes.{few-parts}
 use Rattle.pads_accepted.proofs.Environment.{site_of}
 use Rattle.pads_accepted.proofs.Faultless.{none-left, none-right, not-when, is-not-false}
 use Rattle.pads_accepted.proofs.Forms.{num-form}
 use Rattle.pads_accepted.proofs.Free.{FreePiece}
 use Rattle.pads_accepted.proofs.Lists.{each-none}
 use Rattle.pads_accepted.proofs.Scopes.{State, Again, sees-array}
-use Rattle.pads_accepted.proofs.Typed.{known-operand, sees-hiding}
+use Rattle.pads_accepted.proofs.Typed.{sees-hiding}
+use Rattle.pads_accepted.proofs.TypedOperators.{known-operand}
 use Rattle.pads_accepted.proofs.Types.{IsReadAt, env, made, sorts, content-here, is-read}
 use Rattle.pads_accepted.proofs.Uses.{expr-typed, number-typed, truth-typed, type-typed, text-form, sort-is}
 

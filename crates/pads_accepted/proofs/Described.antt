@@ -1,8 +1,7 @@
 -- The declarations that a description without violations resolves to are what the rules know of them.
 use Rattle.std.proofs.Common.{◌≡◌, ◌∙◌, sym, ap, refl, subst, arith, ℕ, suc, ◌+◌, ◌<◌, ◌≤◌, Bool, true, false, not, cond, ◌||◌, if◌then◌else◌, nat_le, nat_lt, List, [], ◌∷◌, ◌++◌, map, flat_map, length, take, find, position, Option, Some, None, option_map, option_and_then, slice_get, ltb-true, ltb-false, lt-ltb}
-use Rattle.std.specs.List.{list_any, position_or_len}
+use Rattle.std.specs.List.{position_or_len}
 use Rattle.std.proofs.lemmas.List.{length-map}
-use Rattle.std.proofs.lemmas.List.Folds.{find_at}
 use Rattle.pads_ast.specs.declared.decl.Ast.{Ast}
 use Rattle.pads_ast.specs.declared.decl.Array.{Array as WrittenArray}
 use Rattle.pads_ast.specs.declared.decl.Case.{Case as WrittenCase}
@@ -17,196 +16,58 @@ use Rattle.pads_ast.specs.declared.decl.Struct.{Struct as WrittenStruct}
 use Rattle.pads_ast.specs.declared.decl.Union.{Union as WrittenUnion}
 use Rattle.pads_ast.specs.declared.decl.UnionBody.{UnionBody}
 use Rattle.pads_ast.specs.declared.decl.UnionBody.TheVariants as written_union
-use Rattle.pads_ast.specs.declared.expr.Expr.{Expr as Tree}
 use Rattle.pads_ast.specs.declared.types.Branch.{Branch as WrittenBranch}
-use Rattle.pads_ast.specs.declared.types.Type.{«Type»}
-use Rattle.pads_base_names.specs.declared.meaning.BaseName.{BaseName}
-use Rattle.pads_base_names.specs.declared.meaning.BaseName.TheVariants as base
-use Rattle.pads_base_names.specs.declared.meaning.NamedCoding.TheVariants as coding
 use Rattle.pads_sorts.specs.declared.sort.Form.TheVariants as form
 use Rattle.pads_sorts.specs.declared.sort.Sort.{Sort}
 use Rattle.pads_resolved.specs.declared.decl.Case.{Case}
-use Rattle.pads_resolved.specs.declared.decl.Computed.{Computed as MadeComputed}
-use Rattle.pads_resolved.specs.declared.decl.Computed.TheVariants as computed
 use Rattle.pads_resolved.specs.declared.decl.Decl.{Decl}
-use Rattle.pads_resolved.specs.declared.decl.DeclBody.{DeclBody}
-use Rattle.pads_resolved.specs.declared.decl.Role.{Role}
-use Rattle.pads_resolved.specs.declared.decl.Role.TheVariants as role
 use Rattle.pads_resolved.specs.declared.types.Branch.{Branch}
 use Rattle.pads_resolution.specs.Bodies.{label_of, branch_at, part_at, parts_at, struct_at, case_at, switch_at, union_at, array_at, body_at as made_body}
-use Rattle.pads_resolution.specs.Numbers.{short, number_of, has_name, part_number, field_in, field_number, branch_number, label_number}
-use Rattle.pads_resolution.specs.Resolution.{role_of, params_scope as made_params, decl_at, resolved}
+use Rattle.pads_resolution.specs.Numbers.{number_of, has_name, part_number, field_in, field_number, branch_number, label_number}
+use Rattle.pads_resolution.specs.Resolution.{params_scope as made_params, resolved}
 use Rattle.pads_resolution.specs.Scopes.{Scope as Names, names_after}
-use Rattle.pads_resolution.specs.Types.{computed_as, computed_of, type_at}
-use Rattle.pads_rules.specs.DeclRules.{part_count, scope_count, token_count, decl_name}
-use Rattle.pads_rules.specs.Faults.{breaks}
-use Rattle.pads_rules.specs.Judging.{Scope as Judging, judged}
+use Rattle.pads_resolution.specs.Types.{computed_of}
+use Rattle.pads_rules.specs.DeclRules.{part_count}
 use Rattle.pads_rules.specs.Members.{content_of}
-use Rattle.pads_rules.specs.PieceRules.{is_bare, is_base, is_computable_base}
-use Rattle.pads_rules.specs.Pieces.{Site, Piece, Used, Computed, part_pieces, parts_pieces, names_after as rule_names_after, texts_of_parts, branch_pieces, union_body_pieces, body_pieces}
-use Rattle.pads_rules.specs.Resolving.{Meaning, Base, Earlier, Undeclared, meaning, meaning_sort, behind_popt, type_sort, plain_meaning, named, branch_named, param_named, content_in, declare, declared}
-use Rattle.pads_rules.specs.Sorts as rules
-use Rattle.pads_rules.specs.Sorts.{agree}
+use Rattle.pads_rules.specs.Pieces.{Site, Piece, part_pieces, parts_pieces, names_after as rule_names_after, texts_of_parts, branch_pieces, union_body_pieces, body_pieces}
+use Rattle.pads_rules.specs.Resolving.{type_sort, named, branch_named, param_named, content_in, declared}
 use Rattle.pads_rules.specs.Texts.{same_text, is_among, sort_of}
-use Rattle.pads_rules.specs.Trees.{is_empty, listed, args_of, params_of, named_part, branches_of}
+use Rattle.pads_rules.specs.Trees.{listed, params_of, named_part, branches_of}
 use Rattle.pads_rules.specs.Violations.{violations}
 use Rattle.pads_rules.specs.declared.declared.Content.{Content}
 use Rattle.pads_rules.specs.declared.declared.Content.TheVariants as content
 use Rattle.pads_rules.specs.declared.declared.Declared.{Declared}
 use Rattle.pads_rules.specs.declared.declared.Named.{Named as RuleNamed}
 use Rattle.pads_rules.specs.declared.expr_sort.ExprSort.{ExprSort}
-use Rattle.pads_rules.specs.declared.expr_sort.ExprSort.TheVariants as expr_sort
 use Rattle.pads_well_sorted.specs.Expressions as sorting
-use Rattle.pads_well_sorted.specs.Expressions.{if_read, if_default, union_branches, body_at, value_of, part_sort, union_branch, plain_choice, of_elements, element_of}
+use Rattle.pads_well_sorted.specs.Expressions.{if_default, union_branches, body_at, value_of, part_sort, union_branch, plain_choice, of_elements, element_of}
 use Rattle.pads_well_sorted.specs.Sorts as sorts_of
 use Rattle.pads_well_sorted.specs.WellSorted.{Each}
-use Rattle.pads_well_sorted.proofs.Lists.{each-left, each-right, each-flat, there-mapped, mapped-there, some-map}
+use Rattle.pads_well_sorted.proofs.Lists.{each-left, each-right, each-flat, there-mapped, mapped-there}
 use Rattle.pads_well_sorted.proofs.Names.{first-there}
-use Rattle.pads_well_sorted.proofs.Trees.{and_then-is}
-use Rattle.pads_accepted.specs.Described.{IsRead, IsProper, IsKnown, Describes}
+use Rattle.pads_accepted.specs.Described.{Describes}
 use Rattle.pads_accepted.specs.Known.{known_sorts}
-use Rattle.pads_accepted.proofs.Environment.{site_of, site-back}
-use Rattle.pads_accepted.proofs.Faultless.{not-when, is-not-false, both-left}
 use Rattle.pads_accepted.proofs.Free.{FreePiece}
 use Rattle.pads_accepted.proofs.Lists.{get-below}
-use Rattle.pads_accepted.proofs.Typed.{same-swapped}
-use Rattle.pads_accepted.proofs.Types.{or-false, IsReadRole, IsReadAt, shape-off, Named, base-named, earlier-named, named-at, meaning-base, meaning-earlier, used-known, computed-known, no-list, decls, env, made, sorts, free, is-read, decl-settled, used-settled, type-same, body-pieces, content-here}
-
-read-role : (r : Role) (inner found : DeclBody) → if_read r inner ≡ Some found → IsReadRole r
-read-role role.Part inner found is = tt
-read-role role.Precord inner found is = tt
-read-role role.Source inner found is = cc
-
--- the first of a name has its place
-found-sort : (xs : List RuleNamed) (name : List ℕ) (sort : ExprSort) → sort_of xs name ≡ Some sort
-    → (x : RuleNamed) × (slice_get xs (position_or_len (λ x. same_text x.text name) xs) ≡ Some x) × (x.sort ≡ sort)
-found-sort xs name sort is =
-    let x = some-map (λ (x : RuleNamed). x.sort) (find (λ x. same_text x.text name) xs) sort is in
-    (x.0, sym (find_at (λ x. same_text x.text name) xs) ∙ x.1, x.2)
-
-place-number : {A : Type 0} (p : A → Bool) (xs : List A) → position_or_len p xs < length xs → length xs ≤ 4096 → number_of (position p xs) ≡ position_or_len p xs
-place-number p xs less within =
-    let k = position_or_len p xs in
-    ap number_of (ap (λ b. cond b (Some k) None) (lt-ltb k (length xs) less)) ∙ small k (omega arith)
-  where
-    small : (k : ℕ) → k < 4096 → short k ≡ k
-    small k less = omega arith
-
-swapped-same : (a b : List ℕ) → same_text a b ≡ true → same_text b a ≡ true
-unfolding same_text
-swapped-same a b h = same-swapped a b true h
-
-any-by : (a b rest later : Bool) → (a ≡ true → b ≡ true) → (rest ≡ true → later ≡ true) → (a || rest) ≡ true → (b || later) ≡ true
-any-by true b rest later own more h = ap (λ b. b || later) (own refl)
-any-by false true rest later own more h = refl
-any-by false false rest later own more h = more h
-
-swapped-any : (labels : List (List ℕ)) (name : List ℕ) → list_any (same_text name) labels ≡ true → list_any (λ label. same_text label name) labels ≡ true
-swapped-any [] name h = h
-swapped-any (label ∷ labels) name h =
-    any-by (same_text name label) (same_text label name) (list_any (same_text name) labels) (list_any (λ label. same_text label name) labels) (swapped-same name label) (swapped-any labels name) h
-
--- what a computed field's type says
-computable : (b : BaseName) → is_computable_base b ≡ true → rules.base_sort b ≡ expr_sort.Known (sorts_of.computed_sort (computed_as (Some b)))
-computable (base.Int coding.Ambient kind) h = refl
-computable (base.Until coding.Ambient) h = refl
-computable _ h = cc
-
-abbrev pub unless_popt : Option ℕ → Meaning → Meaning
-unless_popt (Some place) m = Undeclared
-unless_popt None m = m
-
-pub plain-is : (before : List Declared) (t : «Type») → plain_meaning before t ≡ unless_popt t.optional (meaning before t.name.text)
-plain-is before t = refl
-
-computed-base : (o : Option ℕ) (b : BaseName) (m : Meaning) → m ≡ Base b → is_base is_computable_base (unless_popt o m) ≡ true
-    → behind_popt o (meaning_sort m) ≡ expr_sort.Known (sorts_of.computed_sort (computed_as (Some b)))
-computed-base None b m is h = ap meaning_sort is ∙ computable b (sym (ap (is_base is_computable_base) is) ∙ h)
-computed-base (Some place) b m is h = cc
-
-computed-earlier : (o : Option ℕ) (x : Declared) (m : Meaning) → m ≡ Earlier x → is_base is_computable_base (unless_popt o m) ≡ true → ⊥
-computed-earlier None x m is h = let e = sym (ap (is_base is_computable_base) is) ∙ h in cc
-computed-earlier (Some place) x m is h = cc
+use Rattle.pads_accepted.proofs.Types.{IsReadAt, is-read, body-pieces, content-here}
+use Rattle.pads_accepted.proofs.DescribedTypes as of_types
+use Rattle.pads_accepted.proofs.DescribedTypes.{found-sort, place-number, swapped-any}
 
 module _ (tree : Ast) (none : violations tree ≡ []) where
   abbrev made_here : List Decl
-  made_here = made tree none
+  made_here = of_types.made_here tree none
 
   abbrev env_here : List Declared
-  env_here = env tree none
+  env_here = of_types.env_here tree none
 
   abbrev sorts_here : List Sort
-  sorts_here = sorts tree none
+  sorts_here = of_types.sorts_here tree none
 
   abbrev site_at : ℕ → WrittenDecl → Site
-  site_at n d = site_of tree.decls n d
+  site_at = of_types.site_at tree none
 
   abbrev Known : (Sort → Type 0) → ExprSort → Type 0
-  Known = IsKnown env_here made_here
-
-  -- a declaration that is read
-  read-decl : (k : ℕ) → IsRead made_here k → (d : WrittenDecl) × (slice_get tree.decls k ≡ Some d) × IsReadAt tree.decls k d
-  unfolding decl_at
-  read-decl k reads =
-      let x = and_then-is (λ (d : Decl). if_read d.role d.body) (slice_get made_here k) reads.0 reads.1 in
-      let d = site-back tree.decls k x.0 x.1 in
-      let is = subst (λ (m : Decl). if_read m.role m.body ≡ Some reads.0) (sym d.2) x.2 in
-      (d.0, d.1, read-role (role_of (site_at k d.0)) (made_body (site_at k d.0) (made_params (site_at k d.0)) (d.0).body) reads.0 is)
-
-  pub few-parts : (n : ℕ) (d : WrittenDecl) → slice_get tree.decls n ≡ Some d → part_count d.body ≤ 4096
-  few-parts n d there =
-      ltb-false 4096 (part_count d.body)
-      (or-false (nat_le 4096 n) (nat_lt 4096 (part_count d.body))
-      (or-false _ (nat_lt 4096 (scope_count d.body))
-      (or-false _ (nat_lt 65000 (token_count (site_at n d))) (not-when _ (breaks 24 (decl_name (site_at n d)).at) (free tree none n d there).counted)).0).0).1
-
-  -- the type of a field or a branch
-  pub used-sort : (n : ℕ) (d : WrittenDecl) (names : Names) (scope : Judging) (t : «Type») → slice_get tree.decls n ≡ Some d → IsReadAt tree.decls n d → FreePiece (site_at n d) (Used scope t)
-      → type_sort (take n env_here) t ≡ expr_sort.Known (sorts_of.type_sort sorts_here (type_at (site_at n d) names t))
-  used-sort n d names scope t there reads piece =
-      type-same tree none n d names t there (named-at tree.decls n t.name.text (used-known (site_at n d) scope t piece)) (no-list (site_at n d) t piece.records (shape-off tree.decls n d reads))
-
-  pub used-proper : (n : ℕ) (d : WrittenDecl) (names : Names) (scope : Judging) (t : «Type») → slice_get tree.decls n ≡ Some d → IsReadAt tree.decls n d → FreePiece (site_at n d) (Used scope t)
-      → (P : Sort → Type 0) → P (sorts_of.type_sort sorts_here (type_at (site_at n d) names t)) → Known P (type_sort (take n env_here) t)
-  used-proper n d names scope t there reads piece P has =
-      let s = sorts_of.type_sort sorts_here (type_at (site_at n d) names t) in
-      let is = used-sort n d names scope t there reads piece in
-      let h = used-settled tree none n d scope t there (λ k e less. decl-settled tree none k e) reads piece in
-      let same : h.0 ≡ s = let a = h.1 in cc in
-      (s, is, subst (λ (s : Sort). IsProper env_here made_here s.form) same h.2, has)
-
-  computed-by : (n : ℕ) (t : «Type») → Named tree.decls n t.name.text → is_base is_computable_base (plain_meaning (take n env_here) t) ≡ true
-      → type_sort (take n env_here) t ≡ expr_sort.Known (sorts_of.computed_sort (computed_of t))
-  unfolding computed_of
-  computed-by n t (base-named b is) plain =
-      let m = meaning (take n env_here) t.name.text in
-      computed-base t.optional b m (meaning-base (take n env_here) t.name.text b is) (sym (ap (is_base is_computable_base) (plain-is (take n env_here) t)) ∙ plain)
-      ∙ ap (λ o. expr_sort.Known (sorts_of.computed_sort (computed_as o))) (sym is)
-  computed-by n t (earlier-named k e none_base less there found place) plain =
-      absurd (computed-earlier t.optional (declare (take k env_here) e) (meaning (take n env_here) t.name.text) (meaning-earlier (take n env_here) t.name.text (declare (take k env_here) e) none_base found)
-      (sym (ap (is_base is_computable_base) (plain-is (take n env_here) t)) ∙ plain))
-
-  -- the rule at a computed field: its type, and its value's sort
-  computed-rule : (n : ℕ) (d : WrittenDecl) (scope : Judging) (t : «Type») (value : Tree) → FreePiece (site_at n d) (Computed scope t value)
-      → (is_bare is_computable_base (site_at n d) t ≡ true) × (agree (type_sort (take n env_here) t) (judged env_here value scope).sort ≡ true)
-  computed-rule n d scope t value piece =
-      let bare = is_bare is_computable_base (site_at n d) t in
-      let same = agree (type_sort (take n env_here) t) (judged env_here value scope).sort in
-      let both = or-false (not bare) (not same) (not-when (not bare || not same) (breaks 18 t.name.at) piece.computed) in
-      (is-not-false bare both.0, is-not-false same both.1)
-
-  pub computed-sort : (n : ℕ) (d : WrittenDecl) (scope : Judging) (t : «Type») (value : Tree) → FreePiece (site_at n d) (Computed scope t value)
-      → (type_sort (take n env_here) t ≡ expr_sort.Known (sorts_of.computed_sort (computed_of t))) × (agree (type_sort (take n env_here) t) (judged env_here value scope).sort ≡ true)
-  computed-sort n d scope t value piece =
-      let rule = computed-rule n d scope t value piece in (
-        computed-by n t (named-at tree.decls n t.name.text (computed-known (site_at n d) scope t value piece))
-            (both-left (is_base is_computable_base (plain_meaning (take n env_here) t)) (is_empty (args_of t)) rule.0),
-        rule.1,
-      )
-
-  pub computed-proper : (of : MadeComputed) → IsProper env_here made_here (sorts_of.computed_sort of).form
-  computed-proper (computed.Int kind) = tt
-  computed-proper computed.Text = tt
+  Known = of_types.Known tree none
 
   -- a part of a struct by its name
   module _ (n : ℕ) (d : WrittenDecl) (there : slice_get tree.decls n ≡ Some d) (reads : IsReadAt tree.decls n d) where
@@ -257,14 +118,14 @@ module _ (tree : Ast) (none : violations tree ≡ []) where
         later-part names (written_part.Literal l) parts name sort refl
         (field-there (names_after types names (written_part.Literal l)) (rule_names_after types seen (written_part.Literal l)) parts name sort rest found)
     field-there names seen (written_part.Pcompute of own value ∷ parts) name sort pieces found =
-        let rule = computed-sort n d _ of value pieces.0 in
+        let rule = of_types.computed-sort tree none n d _ of value pieces.0 in
         field-by (same_text own.text name) names (written_part.Pcompute of own value) parts name own.text (type_sort types of) sort refl
-        (sorts_of.computed_sort (computed_of of), rule.0, computed-proper (computed_of of), refl)
+        (sorts_of.computed_sort (computed_of of), rule.0, of_types.computed-proper tree none (computed_of of), refl)
         (field-there (names_after types names (written_part.Pcompute of own value)) (rule_names_after types seen (written_part.Pcompute of own value)) parts name sort pieces.1) found
     field-there names seen (written_part.Field f ∷ parts) name sort pieces found =
         let rest = each-right Free_here (part_pieces types seen (texts_of_parts (written_part.Field f ∷ parts)) (written_part.Field f)) (parts_pieces types (rule_names_after types seen (written_part.Field f)) parts) pieces in
         field-by (same_text (f.name).text name) names (written_part.Field f) parts name (f.name).text (type_sort types f.of) sort refl
-        (used-proper n d names _ f.of there reads pieces.0 (λ s. value_of made_here sorts_here (part_at (site_at n d) names (written_part.Field f)) ≡ Some s) refl)
+        (of_types.used-proper tree none n d names _ f.of there reads pieces.0 (λ s. value_of made_here sorts_here (part_at (site_at n d) names (written_part.Field f)) ≡ Some s) refl)
         (field-there (names_after types names (written_part.Field f)) (rule_names_after types seen (written_part.Field f)) parts name sort rest) found
 
     body-is : body_at made_here n ≡ Some (made_body (site_at n d) (made_params (site_at n d)) d.body)
@@ -280,7 +141,7 @@ module _ (tree : Ast) (none : violations tree ≡ []) where
         let x = field-there params (map (param_named types) (params_of d.body)) sd.parts name sort inside found in
         let k = position_or_len (has_name name) sd.parts in
         let number : field_number tree.decls n name ≡ k =
-        ap (λ (o : Option WrittenDecl). by o) there ∙ ap (λ inner. field_in inner name) is ∙ place-number (has_name name) sd.parts x.3 (subst (λ inner. part_count inner ≤ 4096) is (few-parts n d there)) in
+        ap (λ (o : Option WrittenDecl). by o) there ∙ ap (λ inner. field_in inner name) is ∙ place-number (has_name name) sd.parts x.3 (subst (λ inner. part_count inner ≤ 4096) is (of_types.few-parts tree none n d there)) in
         let body : body_at made_here n ≡ Some (made_body (site_at n d) params (written_body.Struct sd)) = body-is ∙ ap (λ inner. Some (made_body (site_at n d) params inner)) is in (
           x.4.0,
           x.4.1,
@@ -328,7 +189,7 @@ module _ (tree : Ast) (none : violations tree ≡ []) where
         let f = mapped-there (branch_named types) bs k x.0 x.1 in
         let less : k < length bs = get-below bs k f.0 f.1 in
         let many : length (map (branch_named types) bs) ≡ length bs = length-map bs (branch_named types) in
-        let within : length bs ≤ 4096 = subst (λ inner. part_count inner ≤ 4096) is (few-parts n d there) in
+        let within : length bs ≤ 4096 = subst (λ inner. part_count inner ≤ 4096) is (of_types.few-parts tree none n d there) in
         let number : number_of (position p (map (branch_named types) bs)) ≡ k =
         place-number p (map (branch_named types) bs) (subst (λ m. k < m) (sym many) less) (subst (λ m. m ≤ 4096) (sym many) within) in
         let pieces = subst (λ inner. Each Free_here (body_pieces types n (map (param_named types) (params_of d.body)) inner)) is (body-pieces tree none n d there) in
@@ -338,7 +199,7 @@ module _ (tree : Ast) (none : violations tree ≡ []) where
         ap (λ bs. slice_get bs k) (branches-are params ud.body) ∙ there-mapped (branch_at (site_at n d) params) bs k f.0 f.1 in (
           subst (λ m. m < length bs) (sym number) less,
           subst (Known (λ s. option_map (λ (f : Branch). sorts_of.type_sort sorts_here f.of) (slice_get (union_branches (union_at (site_at n d) params ud.body)) (number_of (position p (map (branch_named types) bs)))) ≡ Some s)) sort_is
-              (used-proper n d params _ (f.0).of there reads own.0
+              (of_types.used-proper tree none n d params _ (f.0).of there reads own.0
               (λ s. option_map (λ (f : Branch). sorts_of.type_sort sorts_here f.of) (slice_get (union_branches (union_at (site_at n d) params ud.body)) (number_of (position p (map (branch_named types) bs)))) ≡ Some s)
               (ap (λ m. option_map (λ (f : Branch). sorts_of.type_sort sorts_here f.of) (slice_get (union_branches (union_at (site_at n d) params ud.body)) m)) number
               ∙ ap (option_map (λ (f : Branch). sorts_of.type_sort sorts_here f.of)) there_made)),
@@ -376,7 +237,7 @@ module _ (tree : Ast) (none : violations tree ≡ []) where
         let p = λ (label : List ℕ). same_text label name in
         let less = ltb-true (position_or_len p texts) (length texts) (first-there p texts ∙ swapped-any texts name found) in
         let many : length texts ≡ length ed.labels = length-map ed.labels (λ (l : WrittenLabel). l.name.text) in
-        let within : length ed.labels ≤ 4096 = subst (λ inner. part_count inner ≤ 4096) is (few-parts n d there) in
+        let within : length ed.labels ≤ 4096 = subst (λ inner. part_count inner ≤ 4096) is (of_types.few-parts tree none n d there) in
         let number = place-number p texts less (subst (λ m. m ≤ 4096) (sym many) within) in
         let body : body_at made_here n ≡ Some (made_body (site_at n d) params (written_body.Enum ed)) = body-is ∙ ap (λ inner. Some (made_body (site_at n d) params inner)) is in
         ap (option_and_then (λ inner. sorting.if_there made_here sorts_here (number_of (position p texts)) (length (sorting.labels_in inner)))) body
@@ -390,7 +251,7 @@ module _ (tree : Ast) (none : violations tree ≡ []) where
         let params = made_params (site_at n d) in
         let pieces = subst (λ inner. Each Free_here (body_pieces types n (map (param_named types) (params_of d.body)) inner)) is (body-pieces tree none n d there) in
         let body : body_at made_here n ≡ Some (made_body (site_at n d) params (written_body.Array ad)) = body-is ∙ ap (λ inner. Some (made_body (site_at n d) params inner)) is in
-        used-proper n d params _ ad.of there reads pieces.0 (λ s. of_elements made_here sorts_here (form.Array n) ≡ Some s) (ap (option_and_then (element_of made_here sorts_here)) body)
+        of_types.used-proper tree none n d params _ ad.of there reads pieces.0 (λ s. of_elements made_here sorts_here (form.Array n) ≡ Some s) (ap (option_and_then (element_of made_here sorts_here)) body)
 
     content-is : (c : Content) → content_of env_here n ≡ c → content_in types d.body ≡ c
     content-is c is = sym (content-here tree none n d there) ∙ is
@@ -446,15 +307,15 @@ module _ (tree : Ast) (none : violations tree ≡ []) where
   pub described : Describes tree.decls env_here made_here sorts_here
   described = record {
     field = λ k fields name sort is reads found.
-        let d = read-decl k reads in fields-by k d.0 d.1 d.2 (d.0).body fields name sort refl (content-is k d.0 d.1 d.2 (content.Fields fields) is) found;
+        let d = of_types.read-decl tree none k reads in fields-by k d.0 d.1 d.2 (d.0).body fields name sort refl (content-is k d.0 d.1 d.2 (content.Fields fields) is) found;
     branch = λ k branches name sort is reads found.
-        let d = read-decl k reads in (branches-by k d.0 d.1 d.2 (d.0).body branches name sort refl (content-is k d.0 d.1 d.2 (content.Branches branches) is) found).0;
+        let d = of_types.read-decl tree none k reads in (branches-by k d.0 d.1 d.2 (d.0).body branches name sort refl (content-is k d.0 d.1 d.2 (content.Branches branches) is) found).0;
     chosen = λ k branches name sort is reads found.
-        let d = read-decl k reads in (branches-by k d.0 d.1 d.2 (d.0).body branches name sort refl (content-is k d.0 d.1 d.2 (content.Branches branches) is) found).1;
+        let d = of_types.read-decl tree none k reads in (branches-by k d.0 d.1 d.2 (d.0).body branches name sort refl (content-is k d.0 d.1 d.2 (content.Branches branches) is) found).1;
     label = λ k labels name is reads found.
-        let d = read-decl k reads in labels-by k d.0 d.1 d.2 (d.0).body labels name refl (content-is k d.0 d.1 d.2 (content.Labels labels) is) found;
+        let d = of_types.read-decl tree none k reads in labels-by k d.0 d.1 d.2 (d.0).body labels name refl (content-is k d.0 d.1 d.2 (content.Labels labels) is) found;
     element = λ k elem is reads.
-        let d = read-decl k reads in element-by k d.0 d.1 d.2 (d.0).body elem refl (content-is k d.0 d.1 d.2 (content.Element elem) is);
+        let d = of_types.read-decl tree none k reads in element-by k d.0 d.1 d.2 (d.0).body elem refl (content-is k d.0 d.1 d.2 (content.Element elem) is);
   }
 
 pub tree-described : (tree : Ast) → violations tree ≡ [] → Describes tree.decls (declared tree.decls) (resolved tree).decls (known_sorts tree)

@@ -3,6 +3,7 @@ pub mod Bodies
 pub mod Count
 pub mod Decls
 pub mod Described
+pub mod DescribedTypes
 pub mod Environment
 pub mod Faultless
 pub mod Forms
@@ -16,6 +17,8 @@ pub mod Source
 pub mod Structs
 pub mod Trees
 pub mod Typed
+pub mod TypedMembers
+pub mod TypedOperators
 pub mod Types
 pub mod Uses
 pub mod Whole

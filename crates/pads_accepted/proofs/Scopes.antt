@@ -36,7 +36,8 @@ use Rattle.pads_accepted.proofs.Described.{described}
 use Rattle.pads_accepted.proofs.Environment.{site_of}
 use Rattle.pads_accepted.proofs.Faultless.{none-left, none-right, not-when}
 use Rattle.pads_accepted.proofs.Free.{FreePiece}
-use Rattle.pads_accepted.proofs.Typed.{same-is, own-text, same-swapped, other-meaning}
+use Rattle.pads_accepted.proofs.Typed.{other-meaning}
+use Rattle.pads_accepted.proofs.TypedOperators.{same-is, own-text, same-swapped}
 use Rattle.pads_accepted.proofs.Types.{or-false, env, made, sorts}
 use Rattle.pads_accepted.proofs.Uses.{param-sort}
 

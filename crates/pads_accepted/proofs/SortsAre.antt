@@ -23,7 +23,7 @@ use Rattle.pads_rules.specs.declared.declared.Declared.{Declared}
 use Rattle.pads_well_sorted.specs.Sorts as sorts_of
 use Rattle.pads_well_sorted.specs.WellSorted.{Each, AreSorts}
 use Rattle.pads_accepted.specs.Known.{known_sorts}
-use Rattle.pads_accepted.proofs.Described.{used-sort}
+use Rattle.pads_accepted.proofs.DescribedTypes.{used-sort}
 use Rattle.pads_accepted.proofs.Environment.{site_of, site-back}
 use Rattle.pads_accepted.proofs.Faultless.{not-when}
 use Rattle.pads_accepted.proofs.Free.{FreePiece}

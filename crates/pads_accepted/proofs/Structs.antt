@@ -36,7 +36,7 @@ use Rattle.pads_well_sorted.specs.WellSorted.{Each, IsStruct}
 use Rattle.pads_well_sorted.proofs.Lists.{each-left, each-right}
 use Rattle.pads_accepted.specs.Described.{as_named, IsSpelled, AreSpelled, IsKnown, Sees}
 use Rattle.pads_accepted.proofs.Bodies.{condition-typed, parts-typed}
-use Rattle.pads_accepted.proofs.Described.{used-proper, computed-sort, computed-proper, few-parts}
+use Rattle.pads_accepted.proofs.DescribedTypes.{used-proper, computed-sort, computed-proper, few-parts}
 use Rattle.pads_accepted.proofs.Environment.{site_of}
 use Rattle.pads_accepted.proofs.Free.{FreePiece}
 use Rattle.pads_accepted.proofs.Lists.{get-below}

@@ -42,12 +42,14 @@ use Rattle.pads_well_sorted.specs.Sorts as sorts_of
 use Rattle.pads_well_sorted.specs.WellSorted.{Takes, HaveSorts, IsCall, IsNamed, IsType, param_sorts}
 use Rattle.pads_well_sorted.proofs.Lists.{each-left, each-right, each-there, there-mapped, mapped-there}
 use Rattle.pads_accepted.specs.Described.{judging_scope, AreSpelled, IsSpelled, Typed, Sees}
-use Rattle.pads_accepted.proofs.Described.{described, unless_popt, plain-is}
+use Rattle.pads_accepted.proofs.Described.{described}
+use Rattle.pads_accepted.proofs.DescribedTypes.{unless_popt, plain-is}
 use Rattle.pads_accepted.proofs.Environment.{site_of}
 use Rattle.pads_accepted.proofs.Faultless.{none-left, none-right, not-when, is-not-false, both-left, both-right, is-taken, is-truth}
 use Rattle.pads_accepted.proofs.Forms.{num-form, truth-form}
 use Rattle.pads_accepted.proofs.Free.{FreePiece}
-use Rattle.pads_accepted.proofs.Typed.{lawful, known-operand}
+use Rattle.pads_accepted.proofs.Typed.{lawful}
+use Rattle.pads_accepted.proofs.TypedOperators.{known-operand}
 use Rattle.pads_accepted.proofs.Types.{IsReadAt, shape-off, Named, base-named, earlier-named, named-at, meaning-base, meaning-earlier, used-known, param-known, no-list, read-if, env, made, sorts, free, few, made-there, earlier-read, short-is}
 
 -- sorts that are the same

@@ -31,7 +31,7 @@ use Rattle.pads_accepted.specs.Described.{IsSpelled, AreSpelled}
 use Rattle.pads_accepted.specs.Known.{known_sorts, IsSpelledTree}
 use Rattle.pads_accepted.proofs.Again.{spellings-differ, counted-names}
 use Rattle.pads_accepted.proofs.Decls.{typedef-typed, array-typed, union-typed, used}
-use Rattle.pads_accepted.proofs.Described.{few-parts}
+use Rattle.pads_accepted.proofs.DescribedTypes.{few-parts}
 use Rattle.pads_accepted.proofs.Environment.{site_of, site-back}
 use Rattle.pads_accepted.proofs.Faultless.{none-left, not-when}
 use Rattle.pads_accepted.proofs.Free.{FreePiece}

@@ -6,8 +6,10 @@ pub mod Meant
 pub mod MeantOperators
 pub mod MeantParts
 pub mod Names
+pub mod Options
 pub mod PlainTerms
 pub mod Scoped
 pub mod ScopedTerms
+pub mod SortedParts
 pub mod SortedTerms
 pub mod Trees

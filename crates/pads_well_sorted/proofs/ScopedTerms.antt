@@ -1,6 +1,6 @@
 -- The term of each form of a well-sorted description speaks of names, declarations and variables that are there.
 use Rattle.std.proofs.Common.{◌≡◌, ◌∙◌, sym, ap, refl, subst, ⊎_elim, ℕ, suc, Bool, true, false, if◌then◌else◌, ◌&&◌, ◌||◌, nat_eq, nat_lt, List, [], ◌∷◌, ◌++◌, map, length, Option, Some, None, option_map, slice_get, eq-eqb, append_assoc}
-use Rattle.std.specs.List.{flat_map, list_all, list_any}
+use Rattle.std.specs.List.{flat_map, list_all}
 use Rattle.std.proofs.lemmas.List.{length-map}
 use Rattle.pads_calc.specs.Scopes.{is_bound, bind_name, name_there, in_scope, expr_in_scope, exprs_in_scope, option_in_scope, option_term_in, has_arity, arm_in, case_in, binding_of, parts_in, arities_of, decl_in_scope}
 use Rattle.pads_calc.specs.declared.decl.Decl.{Decl}
@@ -49,6 +49,7 @@ use Rattle.pads_well_sorted.specs.Sorts.{plain, num, computed_sort, type_sort}
 use Rattle.pads_well_sorted.specs.WellSorted.{Each, IfThere, Takes, HaveSorts, IsTruth, IsNumber, IsConstraint, IsNamed, IsType, IsBranch, IsPart, behind, AreParts, IsStruct, Chooses, IsUnion, IsOption, IsArray, IsBody, IsDecl, params_scope, param_sorts}
 use Rattle.pads_well_sorted.proofs.Lists.{each-left, each-right, each-weaker, both-true, either-true, there-mapped}
 use Rattle.pads_well_sorted.proofs.Names.{Known, number-below}
+use Rattle.pads_well_sorted.proofs.Options.{first-holds}
 use Rattle.pads_well_sorted.proofs.Scoped.{Covers, covers-also, covers-more, scoped}
 
 -- the arguments of a base type have some sorts
@@ -62,16 +63,6 @@ takes-some (base_type.Fixed prefix) Given h = (_, h)
 takes-some (base_type.Class prefix) Given h = (_, h)
 takes-some (base_type.Char prefix) Given h = (_, h)
 takes-some (base_type.Ip prefix) Given h = (_, h)
-
--- what holds of all options that give something holds of the first
-pub first-holds : {A : Type 0} (P : A → Type 0) (gives : ArrayOption → Option A) (options : List ArrayOption) → Each (λ o. IfThere P (gives o)) options → IfThere P (first gives options)
-unfolding first
-first-holds P gives [] all = tt
-first-holds P gives (o ∷ options) all = by (gives o) all.0 (first-holds P gives options all.1)
-  where
-    by : (given : Option _) → IfThere P given → IfThere P (first gives options) → IfThere P (Rattle.std.specs.Option.option_or given (first gives options))
-    by None here later = later
-    by (Some x) here later = here
 
 module _ (names : List Name) (ambient : Coding) (decls : List DeclTree) (sorts : List Sort) where
   abbrev arities : List ℕ
