@@ -10,10 +10,12 @@ ghost use Rattle.pads_calc.specs.Structs.{in_turn, struct_of};
 ghost use Rattle.pads_calc.specs.Wrappers.{scan};
 ghost use Rattle.pads_walk.specs.Reads.{calls, reads, reads_part, reads_arm, reads_case, reads_seq};
 
-use crate::search::{find, sought};
+use crate::fields::Fields;
+use crate::leaf;
+use crate::search::{find_from, sought};
 use pads_calc::{
-    Arm, Case, Decl, Ending, Part, Reading, Record, Run, Seq, Term, Turn, arguments, bind_part,
-    bound, chosen, guarded, is_full, short_of, size_at,
+    Arm, Case, Decl, Ending, Part, Reading, Record, Run, Seq, Term, Turn, arguments, bound, chosen,
+    guarded, is_full, short_of, size_at,
 };
 use pads_expr::{Env, Expr};
 use pads_value::{Cause, Memory};
@@ -52,13 +54,15 @@ impl Reader<'_> {
         ensures env { OnOk result (env.new.pairs ≡ env.old.pairs) }
     {
         match term {
-            Term::Unit => Ok(self.record.unit(self.alloc, place)),
-            Term::Base(base, args) => {
-                self.record
-                    .base(self.alloc, base, args.as_slice(), env, place)
-            }
-            Term::Lit(literal) => Ok(self.record.literal(self.alloc, literal.as_slice(), place)),
-            Term::Eor => Ok(self.record.end(self.alloc, place)),
+            Term::Unit => leaf::unit(self.alloc, &self.record, place),
+            Term::Base(base, args) => leaf::base(self.alloc, &self.record, base, args, env, place),
+            Term::Lit(literal) => leaf::literal(
+                self.alloc,
+                &self.record,
+                literal.as_slice(),
+                place,
+            ),
+            Term::Eor => leaf::end(self.alloc, &self.record, place),
             Term::Struct(parts) => self.read_struct(parts.as_slice(), env, place, depth),
             Term::Alt(arms) => self.read_alt(arms.as_slice(), env, place, depth),
             Term::Switch(e, cases) => self.read_switch(e, cases.as_slice(), env, place, depth),
@@ -68,9 +72,32 @@ impl Reader<'_> {
             }
             Term::Seq(seq) => self.read_seq(seq.get(), env, place, depth),
             Term::Call(number, args) => self.read_call(*number, args.as_slice(), env, place, depth),
-            Term::Compute(e, form) => self.record.computed(self.alloc, e, form, env, place),
+            Term::Compute(e, form) => leaf::computed(self.alloc, &self.record, e, form, env, place),
             Term::Absorb(inner) => Ok(self.read(inner.get(), env, place, depth)?.absorbed()),
             Term::Scan(inner) => self.read_scan(inner.get(), env, place, depth),
+        }
+    }
+
+    /// A term as `read` reads it, with a shorter way to the forms that most parts of a struct have.
+    #[cycle(reader)]
+    fn read_part(
+        &self,
+        term: &Term,
+        env: &mut Env,
+        place: u64,
+        depth: u8,
+    ) -> Result<Reading, Memory>
+        requires within { place ≤ length self.now.record.bytes.now }
+        requires counted { counts_fit term.now ≡ true }
+        ensures value { IfOk result (λ r. r ≡ reads self.now.record self.now.decls.now depth term.now env.old.pairs place) }
+        ensures within { IfOk result (λ r. EndsWithin self.now.record.bytes.now place r) }
+        ensures env { OnOk result (env.new.pairs ≡ env.old.pairs) }
+    {
+        match term {
+            Term::Base(base, args) => leaf::base(self.alloc, &self.record, base, args, env, place),
+            Term::Call(number, args) => self.read_call(*number, args.as_slice(), env, place, depth),
+            Term::Scan(inner) => self.read_scan(inner.get(), env, place, depth),
+            _ => self.read(term, env, place, depth),
         }
     }
 
@@ -90,15 +117,12 @@ impl Reader<'_> {
         ensures within { IfOk result (λ r. EndsWithin self.now.record.bytes.now place r) }
         ensures env { OnOk result (env.new.pairs ≡ env.old.pairs) }
     {
-        let outer = env.len();
-        let mut run = Run::new(self.alloc, place);
+        let mut fields = Fields::new(self.alloc, parts.len(), place)?;
         for part in parts {
-            let reading = self.read(&part.term, env, run.place, depth)?;
-            bind_part(self.alloc, part.name, &reading.value, env)?;
-            run.push(reading)?;
+            let reading = self.read_part(&part.term, env, fields.place, depth)?;
+            fields.push(part.name, reading, env)?;
         }
-        env.cut(outer);
-        Ok(run.into_struct(self.record.origin, place))
+        Ok(fields.into_struct(parts, env, self.record.origin, place))
     }
 
     /// The first branch that reads without a fault; each is tried at the same place.
@@ -335,9 +359,22 @@ impl Reader<'_> {
         ensures within { IfOk result (λ r. EndsWithin self.now.record.bytes.now place r) }
         ensures env { OnOk result (env.new.pairs ≡ env.old.pairs) }
     {
-        if let Some(literal) = sought(inner) {
-            return Ok(find(self.alloc, &self.record, literal, place));
+        match sought(inner) {
+            Some(literal) => Ok(find_from(self.alloc, &self.record, literal, place)),
+            None => self.search(inner, env, place, depth),
         }
+    }
+
+    /// The same, at each place in turn.
+    #[cycle(reader)]
+    #[inline(never)]
+    fn search(&self, inner: &Term, env: &mut Env, place: u64, depth: u8) -> Result<Reading, Memory>
+        requires within { place ≤ length self.now.record.bytes.now }
+        requires counted { counts_fit inner.now ≡ true }
+        ensures value { IfOk result (λ r. r ≡ scan self.now.record.origin self.now.record.bytes.now (reads self.now.record self.now.decls.now depth inner.now) env.old.pairs place) }
+        ensures within { IfOk result (λ r. EndsWithin self.now.record.bytes.now place r) }
+        ensures env { OnOk result (env.new.pairs ≡ env.old.pairs) }
+    {
         let first = self.read(inner, env, place, depth)?;
         if first.is_ok() {
             return Ok(first);

@@ -38,8 +38,24 @@ fn rest<'a>(from: &Record<'a>, place: u64) -> &'a [u8]
     &from.bytes[place as usize..]
 }
 
-/// A literal at the first place from here to the record's end where its bytes stand.
-pub(crate) fn find(alloc: Global, from: &Record, literal: &[u8], place: u64) -> Reading
+/// A literal at the first place from here to the record's end where its bytes stand. Mostly that is here,
+/// which is looked at before a search is set up.
+pub(crate) fn find_from(alloc: Global, from: &Record, literal: &[u8], place: u64) -> Reading
+    requires within { place ≤ length from.now.bytes.now }
+    ensures found { IsFound from.now literal.now place result }
+    ensures within { EndsWithin from.now.bytes.now place result }
+{
+    let here = from.literal(alloc, literal, place);
+    if here.is_ok() {
+        here
+    } else {
+        find(alloc, from, literal, place)
+    }
+}
+
+/// The same, by a search.
+#[inline(never)]
+fn find(alloc: Global, from: &Record, literal: &[u8], place: u64) -> Reading
     requires within { place ≤ length from.now.bytes.now }
     ensures found { IsFound from.now literal.now place result }
     ensures within { EndsWithin from.now.bytes.now place result }

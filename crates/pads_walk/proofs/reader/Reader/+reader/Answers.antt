@@ -1,4 +1,6 @@
-use Rattle.std.proofs.Common.{◌≡◌, ◌∙◌, sym, ap, ◌+◌, ◌-◌, ◌*◌, ◌<◌, true, false, [], ◌∷◌, length, refl, length-append, map, Some, None, slice_get, arith}
+use Rattle.std.proofs.Common.{◌≡◌, ◌∙◌, sym, ap, ◌+◌, ◌-◌, ◌*◌, ◌<◌, true, false, [], ◌∷◌, ◌++◌, length, get_or, refl, length-append, map, Some, None, slice_get, arith}
+use Rattle.std.proofs.lemmas.List.{take_more, take_all}
+use Rattle.pads_calc.specs.declared.term.Part.{Part}
 use Rattle.pads_calc.specs.declared.term.Term.TheVariants as term
 use denote.Param.Weighed.{most}
 use Rattle.pads_calc.specs.declared.term.Arm.{size-Arm}
@@ -15,16 +17,19 @@ use Rattle.pads_calc.specs.declared.turn.Ending.TheVariants as ending
 use Rattle.pads_calc.specs.declared.turn.Turn.TheVariants as turn
 use Rattle.pads_calc.specs.Counts.{counts_fit}
 use Rattle.pads_calc.specs.Readings.{Reader, is_ok}
+use Rattle.pads_calc.specs.Structs.{bind, in_turn}
 use Rattle.pads_calc.specs.Wrappers.{scan}
 use Rattle.pads_calc.proofs.Rolls.{read-Unit, read-Base, read-Lit, read-Eor, read-Struct, read-Alt, read-Switch, read-Guard, read-Seq, read-Call, read-Compute, read-Absorb, read-Scan}
 use Rattle.pads_calc.proofs.CountRolls.{counts-Base, counts-Guard, counts-Absorb, counts-Scan, fit-parts, few-arms, fit-arms, few-cases, fit-cases, fit-elem, fit-sep, fit-stop, fit-body, all-there}
 use Rattle.pads_calc.proofs.Calls.{call-deep, call-unargued, call-undeclared, call-found}
 use Rattle.pads_calc.proofs.Scans.{scan-here, scan-on, scan-found, scan-next, scan-over}
-use Rattle.pads_calc.proofs.Runs.{follows-push, parts-next, extends-bind}
+use Rattle.pads_calc.proofs.Lists.{drop-past'}
+use Rattle.pads_calc.proofs.Runs.{follows-start, follows-push, follows-struct, parts-next}
 use Rattle.pads_calc.proofs.Choices.{switch-found}
 use Rattle.pads_calc.proofs.Elements.{gathers-start, gathers-ended, gathers-undone, gathers-kept, seq-sized}
 use Rattle.pads_calc.proofs.Turns.{turn-without, turn-with, turns-room, ending-full, ending-last, ending-stop, ending-over, ending-on}
-use Rattle.pads_walk.specs.Reads.{calls, reads, reads_seq}
+use Rattle.pads_walk.specs.Fields.{kept, parts_of, values_of, AreDone}
+use Rattle.pads_walk.specs.Reads.{calls, reads, reads_part, reads_seq}
 use Rattle.pads_walk.proofs.Searches.{literal-reads}
 use Rattle.pads_walk.proofs.Weights.{weight, weight-call}
 use Rattle.pads_walk.proofs.reader.Reader.+reader.Goals as goal
@@ -38,7 +43,7 @@ pub read-read_struct-requires : goal.read-read_struct-requires
 read-read_struct-requires t c =
     let is : c.args.depth * weight c.args.self.now.decls.now + 4 * size-Term c.args.term.now ≡ t = c.decreases in
     let smaller : most size-Part c.as_slice-in-Struct.result.now < size-Term c.args.term.now = rw (c.in-Struct.is, c.as_slice-in-Struct.ensures.items) (size-Struct c.in-Struct.parts) in
-    let less : c.args.depth * weight c.args.self.now.decls.now + (4 * most size-Part c.as_slice-in-Struct.result.now + 1) < t = omega arith in
+    let less : c.args.depth * weight c.args.self.now.decls.now + (4 * most size-Part c.as_slice-in-Struct.result.now + 2) < t = omega arith in
     let fits : counts_fit (term.Struct c.in-Struct.parts) ≡ true = rw c.in-Struct.is at c.requires.counted in
     (less, (c.requires.within, rw c.as_slice-in-Struct.ensures.items (fit-parts c.in-Struct.parts fits)))
 
@@ -86,7 +91,7 @@ pub read-read_scan-requires : goal.read-read_scan-requires
 read-read_scan-requires t c =
     let is : c.args.depth * weight c.args.self.now.decls.now + 4 * size-Term c.args.term.now ≡ t = c.decreases in
     let smaller : size-Term c.get-in-Scan.result.now < size-Term c.args.term.now = rw (c.in-Scan.is, c.get-in-Scan.ensures.value) (size-Scan c.in-Scan.inner) in
-    let less : c.args.depth * weight c.args.self.now.decls.now + (4 * size-Term c.get-in-Scan.result.now + 1) < t = omega arith in
+    let less : c.args.depth * weight c.args.self.now.decls.now + (4 * size-Term c.get-in-Scan.result.now + 2) < t = omega arith in
     let fits : counts_fit (term.Scan c.in-Scan.inner) ≡ true = rw c.in-Scan.is at c.requires.counted in
     (less, (c.requires.within, ap counts_fit c.get-in-Scan.ensures.value ∙ sym (counts-Scan c.in-Scan.inner) ∙ fits))
 
@@ -94,10 +99,10 @@ pub read-returns-in-Unit-clause-value : goal.read-returns-in-Unit-clause-value
 read-returns-in-Unit-clause-value t c = rw (c.in-Unit.is, read-Unit) c.unit.ensures.unit
 
 pub read-returns-in-Base-clause-value : goal.read-returns-in-Base-clause-value
-read-returns-in-Base-clause-value t c = rw (c.in-Base.is, read-Base, ← c.as_slice.ensures.items) c.base.ensures.base
+read-returns-in-Base-clause-value t c = rw (c.in-Base.is, read-Base) c.base.ensures.base
 
 pub read-returns-in-Lit-clause-value : goal.read-returns-in-Lit-clause-value
-read-returns-in-Lit-clause-value t c = rw (c.in-Lit.is, read-Lit, ← c.as_slice-in-Lit.ensures.items) c.literal.ensures.literal
+read-returns-in-Lit-clause-value t c = rw (c.in-Lit.is, read-Lit, ← c.as_slice.ensures.items) c.literal.ensures.literal
 
 pub read-returns-in-Eor-clause-value : goal.read-returns-in-Eor-clause-value
 read-returns-in-Eor-clause-value t c = rw (c.in-Eor.is, read-Eor) c.end.ensures.end
@@ -139,8 +144,8 @@ read_call-returns-in_default-clause-value t c =
     let none : arguments c.args.args.now c.args.env.now.pairs ≡ None = sym c.in_ok-args.ensures.arguments ∙ c.in_default.is in
     c.fails-in_default.ensures.fails ∙ sym (call-unargued c.args.self.now.record.origin c.args.self.now.record.bytes.now c.args.self.now.decls.now c.args.number c.args.args.now c.args.env.now.pairs c.args.place c.args.depth c.if-depth-eq0.false none)
 
-pub read_scan-returns-then-is_ok-clause-value : goal.read_scan-returns-then-is_ok-clause-value
-read_scan-returns-then-is_ok-clause-value t c =
+pub search-returns-then-is_ok-clause-value : goal.search-returns-then-is_ok-clause-value
+search-returns-then-is_ok-clause-value t c =
     let f = reads c.args.self.now.record c.args.self.now.decls.now c.args.depth c.args.inner.now in
     let ok : is_ok (f c.args.env.now.pairs c.args.place) ≡ true = ap is_ok (sym c.in_ok-first.ensures.value) ∙ sym c.is_ok.ensures.ok ∙ c.if-is_ok.true in
     c.in_ok-first.ensures.value ∙ sym (scan-here c.args.self.now.record.origin f c.args.env.now.pairs c.args.place c.args.self.now.record.bytes.now ok)
@@ -148,12 +153,12 @@ read_scan-returns-then-is_ok-clause-value t c =
 pub read_scan-returns-in-Some-clause-value : goal.read_scan-returns-in-Some-clause-value
 read_scan-returns-in-Some-clause-value t c =
     let from = c.args.self.now.record in
-    c.find.ensures.found c.args.env.now.pairs
+    c.find_from.ensures.found c.args.env.now.pairs
     ∙ ap (λ (f : Reader). scan from.origin from.bytes.now f c.args.env.now.pairs c.args.place)
     (sym (literal-reads from c.args.self.now.decls.now c.args.depth c.args.inner.now c.in-Some.literal.now c.in-Some.ensures.literal))
 
-pub read_scan-loop-at-init : goal.read_scan-loop-at-init
-read_scan-loop-at-init t c =
+pub search-loop-at-init : goal.search-loop-at-init
+search-loop-at-init t c =
     let f = reads c.args.self.now.record c.args.self.now.decls.now c.args.depth c.args.inner.now in
     let bad : is_ok (f c.args.env.now.pairs c.args.place) ≡ false = ap is_ok (sym c.in_ok-first.ensures.value) ∙ sym c.is_ok.ensures.ok ∙ c.if-is_ok.false in
     record {
@@ -161,8 +166,8 @@ read_scan-loop-at-init t c =
       rest = scan-on c.args.self.now.record.origin f c.args.env.now.pairs c.args.place c.args.self.now.record.bytes.now c.requires.within bad;
     }
 
-pub read_scan-returns-then-is_ok-2-clause-value : goal.read_scan-returns-then-is_ok-2-clause-value
-read_scan-returns-then-is_ok-2-clause-value t c =
+pub search-returns-then-is_ok-2-clause-value : goal.search-returns-then-is_ok-2-clause-value
+search-returns-then-is_ok-2-clause-value t c =
     let f = reads c.args.self.now.record c.args.self.now.decls.now c.args.depth c.args.inner.now in
     let here : c.in_ok-reading.reading ≡ f c.args.env.now.pairs c.loop-at.at = rw (← c.loop-at.invariant.env) c.in_ok-reading.ensures.value in
     let ok : is_ok (f c.args.env.now.pairs c.loop-at.at) ≡ true = ap is_ok (sym here) ∙ sym c.is_ok-in-loop-at.ensures.ok ∙ c.if-is_ok-2.true in
@@ -170,8 +175,8 @@ read_scan-returns-then-is_ok-2-clause-value t c =
     ∙ sym (scan-found c.args.self.now.record.origin f c.args.env.now.pairs c.args.place (length c.args.self.now.record.bytes.now + 1) c.loop-at.at c.loop-at-test.true ok)
     ∙ sym c.loop-at.invariant.rest
 
-pub read_scan-loop-at-preserved : goal.read_scan-loop-at-preserved
-read_scan-loop-at-preserved t c =
+pub search-loop-at-preserved : goal.search-loop-at-preserved
+search-loop-at-preserved t c =
     let f = reads c.args.self.now.record c.args.self.now.decls.now c.args.depth c.args.inner.now in
     let here : c.in_ok-reading.reading ≡ f c.args.env.now.pairs c.loop-at.at = rw (← c.loop-at.invariant.env) c.in_ok-reading.ensures.value in
     let bad : is_ok (f c.args.env.now.pairs c.loop-at.at) ≡ false = ap is_ok (sym here) ∙ sym c.is_ok-in-loop-at.ensures.ok ∙ c.if-is_ok-2.false in
@@ -181,26 +186,104 @@ read_scan-loop-at-preserved t c =
           ∙ scan-next c.args.self.now.record.origin f c.args.env.now.pairs c.args.place (length c.args.self.now.record.bytes.now + 1) c.loop-at.at c.loop-at-test.true bad;
     }
 
-pub read_scan-returns-clause-value : goal.read_scan-returns-clause-value
-read_scan-returns-clause-value t c =
+pub search-returns-clause-value : goal.search-returns-clause-value
+search-returns-clause-value t c =
     let f = reads c.args.self.now.record c.args.self.now.decls.now c.args.depth c.args.inner.now in
     rw (c.blame-blame.ensures.blame, c.in_ok-first.ensures.value) at c.fails.ensures.fails
     ∙ sym (scan-over c.args.self.now.record.origin f c.args.env.now.pairs c.args.place (length c.args.self.now.record.bytes.now + 1) c.loop-at.at c.loop-at-test.false)
     ∙ sym c.loop-at.invariant.rest
 
+pub read_part-base-requires : goal.read_part-base-requires
+read_part-base-requires t c =
+    let fits : counts_fit (term.Base c.in-Base.base c.in-Base.args) ≡ true = rw c.in-Base.is at c.requires.counted in
+    record { labels = sym (counts-Base c.in-Base.base c.in-Base.args) ∙ fits; place = c.requires.within }
+
+pub read_part-read_scan-requires : goal.read_part-read_scan-requires
+read_part-read_scan-requires t c =
+    let is : c.args.depth * weight c.args.self.now.decls.now + (4 * size-Term c.args.term.now + 1) ≡ t = c.decreases in
+    let smaller : size-Term c.get.result.now < size-Term c.args.term.now = rw (c.in-Scan.is, c.get.ensures.value) (size-Scan c.in-Scan.inner) in
+    let less : c.args.depth * weight c.args.self.now.decls.now + (4 * size-Term c.get.result.now + 2) < t = omega arith in
+    let fits : counts_fit (term.Scan c.in-Scan.inner) ≡ true = rw c.in-Scan.is at c.requires.counted in
+    (less, (c.requires.within, ap counts_fit c.get.ensures.value ∙ sym (counts-Scan c.in-Scan.inner) ∙ fits))
+
+pub read_part-returns-in-Base-clause-value : goal.read_part-returns-in-Base-clause-value
+read_part-returns-in-Base-clause-value t c = rw (c.in-Base.is, read-Base) c.base.ensures.base
+
+pub read_part-returns-in-Call-clause-value : goal.read_part-returns-in-Call-clause-value
+read_part-returns-in-Call-clause-value t c = rw (c.in-Call.is, read-Call, ← c.as_slice.ensures.items) c.read_call.ensures.value
+
+pub read_part-returns-in-Scan-clause-value : goal.read_part-returns-in-Scan-clause-value
+read_part-returns-in-Scan-clause-value t c = rw (c.in-Scan.is, read-Scan, ← c.get.ensures.value) c.read_scan.ensures.value
+
+pub read_struct-loop-part-init : goal.read_struct-loop-part-init
+read_struct-loop-part-init t c =
+    let f = reads_part c.args.self.now.record c.args.self.now.decls.now c.args.depth in
+    let made = c.in_ok-fields.ensures in
+    record {
+      done = [];
+      parts = refl;
+      values = made.values;
+      env = refl;
+      follows = rw (made.pds, made.place) (follows-start (in_turn (map f c.args.parts.now) c.args.env.now.pairs c.args.place) c.args.place);
+      from = rw made.place (omega arith);
+      to = rw made.place c.requires.within;
+      values_count = made.values_count;
+      pds_count = made.pds_count;
+      values_room = made.values_room;
+      pds_room = made.pds_room;
+      within = omega arith;
+    }
+
 pub read_struct-loop-part-preserved : goal.read_struct-loop-part-preserved
 read_struct-loop-part-preserved t c =
     let f = calls c.args.self.now.record c.args.self.now.decls.now c.args.depth in
-    let next = parts-next c.args.self.now.record.origin c.args.self.now.record.bytes.now f c.args.parts.now c.loop-part.part-index c.part-item.result c.loop-part.env.pairs c.loop-part.run.place c.loop-part-test.true c.part-item.is in
+    let held = c.loop-part.invariant in
+    let part = c.part-item.result in
+    let value = c.in_ok-reading.reading.value in
+    let next = parts-next c.args.self.now.record.origin c.args.self.now.record.bytes.now f c.args.parts.now c.loop-part.part-index part c.loop-part.env.pairs c.loop-part.fields.place c.loop-part-test.true c.part-item.is in
     let next' = rw (← c.in_ok-reading.ensures.value) at next in
-    let follows = rw next' at c.loop-part.invariant.follows in
+    let follows = rw next' at held.follows in
     let within = c.in_ok-reading.ensures.within in
-    rw (c.in_ok-push.ensures.pushed, c.in_ok-bind_part.ensures.bound, c.in_ok-reading.ensures.env) (record {
-      env = extends-bind c.args.env.now.pairs c.loop-part.env.pairs c.part-item.result.name c.in_ok-reading.reading.value c.loop-part.invariant.env;
-      follows = follows-push _ _ _ _ _ c.in_ok-reading.reading _ follows;
-      from = omega (arith, within, c.loop-part.invariant.from);
-      to = within.1;
-    })
+    let bound = c.in_ok-push.ensures.env ∙ ap (λ env. bind part.name value env) c.in_ok-reading.ensures.env in
+    record {
+      done = record { part = part; value = value } ∷ held.done;
+      parts = take_more c.args.parts.now c.loop-part.part-index part c.loop-part-test.true
+          ∙ ap (λ taken. taken ++ get_or c.args.parts.now c.loop-part.part-index part ∷ []) held.parts
+          ∙ ap (λ (last : Part). parts_of held.done ++ last ∷ []) (sym c.part-item.is);
+      values = c.in_ok-push.ensures.values ∙ ap (λ items. items ++ kept part.name value ∷ []) held.values;
+      env = bound ∙ ap (λ env. bind part.name value env) held.env;
+      follows = rw (c.in_ok-push.ensures.pds, c.in_ok-push.ensures.place, bound) (follows-push _ _ _ _ _ c.in_ok-reading.reading _ follows);
+      from = rw c.in_ok-push.ensures.place (omega (arith, within, held.from));
+      to = rw c.in_ok-push.ensures.place within.1;
+      values_count = c.in_ok-push.ensures.values_count ∙ ap (λ n. n + 1) held.values_count;
+      pds_count = c.in_ok-push.ensures.pds_count ∙ ap (λ n. n + 1) held.pds_count;
+      values_room = c.in_ok-push.ensures.values_room ∙ held.values_room;
+      pds_room = c.in_ok-push.ensures.pds_room ∙ held.pds_room;
+      within = omega (arith, c.loop-part-test.true);
+    }
+
+pub read_struct-returns-clause-value : goal.read_struct-returns-clause-value
+read_struct-returns-clause-value t c =
+    let f = reads_part c.args.self.now.record c.args.self.now.decls.now c.args.depth in
+    let held = c.loop-part.invariant in
+    let rest = drop-past' c.args.parts.now c.loop-part.part-index c.loop-part-test.false in
+    let are : AreDone held.done c.args.env.now.pairs c.args.parts.now c.loop-part.fields.values.items c.loop-part.env.pairs = record {
+      parts_are = sym (take_all c.loop-part.part-index c.args.parts.now c.loop-part-test.false) ∙ held.parts;
+      values_are = held.values;
+      env_is = held.env;
+    } in
+    (c.into_struct.ensures.node held.done c.args.env.now.pairs are).0
+    ∙ sym (follows-struct c.args.self.now.record.origin (in_turn (map f c.args.parts.now) c.args.env.now.pairs c.args.place) c.args.place (values_of held.done) c.loop-part.fields.pds.items c.loop-part.fields.place
+    (rw rest at held.follows))
+
+pub read_struct-returns-clause-env : goal.read_struct-returns-clause-env
+read_struct-returns-clause-env t c =
+    let held = c.loop-part.invariant in
+    (c.into_struct.ensures.node held.done c.args.env.now.pairs (record {
+      parts_are = sym (take_all c.loop-part.part-index c.args.parts.now c.loop-part-test.false) ∙ held.parts;
+      values_are = held.values;
+      env_is = held.env;
+    })).1
 
 pub read_switch-returns-clause-value : goal.read_switch-returns-clause-value
 read_switch-returns-clause-value t c =
