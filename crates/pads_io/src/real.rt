@@ -21,6 +21,7 @@ pub struct RealSource<R> {
 
 impl<R: Read + Drop> RealSource<R> {
     pub fn new(reader: R) -> RealSource<R>
+        ensures left { ⟦<RealSource<R> as Source>⟧.left result ≡ R.remaining reader }
         ensures faults { ⟦<RealSource<R> as Source>⟧.faults result ≡ 0 }
     {
         RealSource { reader, faults: 0 }
@@ -51,6 +52,7 @@ pub struct RealSink<W> {
 
 impl<W: Write + Drop> RealSink<W> {
     pub fn new(writer: W) -> RealSink<W>
+        ensures written { ⟦<RealSink<W> as Sink>⟧.written result ≡ W.contents writer }
         ensures faults { ⟦<RealSink<W> as Sink>⟧.faults result ≡ 0 }
     {
         RealSink { writer, faults: 0 }
