@@ -2,7 +2,11 @@
 #![tactic(auto)]
 
 #[cfg(test)]
+mod decl_text;
+#[cfg(test)]
 mod declarations;
+#[cfg(test)]
+mod expr_text;
 #[cfg(test)]
 mod faults;
 #[cfg(test)]
@@ -11,6 +15,8 @@ mod filters;
 mod levels;
 #[cfg(test)]
 mod options;
+#[cfg(test)]
+mod part_text;
 #[cfg(test)]
 mod places;
 #[cfg(test)]
