@@ -43,20 +43,3 @@ pub shown_out : (decls : List Decl) (names : List (List ℕ)) (v : Val) (depth :
     → shown decls names v depth t ≡ in_form decls names (form_at decls false depth t) (layer decls names v)
 unfolding shown
 shown_out decls names v depth t = ap (λ (f : Shown). f depth t) (fold_out-Val Shown (value_step decls names) v)
-
--- one more part is put in
-pub parts_next : (decls : List Decl) (names : List (List ℕ)) (depth : ℕ) (parts : List Part) (values : List Val) (i next : ℕ) (part other : Part) (value : Val) (members : Members)
-    → next ≡ suc i → i < length parts → i < length values → value ≡ get_or values i value
-    → parts_put decls names depth (drop next parts) (drop next (map (shown decls names) values))
-    (put_named names (get_or parts i part).name (shown decls names value depth (get_or parts i other).term) members)
-    ≡ parts_put decls names depth (drop i parts) (drop i (map (shown decls names) values)) members
-parts_next decls names depth parts values i next part other value members is_next p v is = rw is_next (at parts values i p v is)
-  where
-    at : (parts : List Part) (values : List Val) (i : ℕ) → i < length parts → i < length values → value ≡ get_or values i value
-        → parts_put decls names depth (drop (suc i) parts) (drop (suc i) (map (shown decls names) values))
-        (put_named names (get_or parts i part).name (shown decls names value depth (get_or parts i other).term) members)
-        ≡ parts_put decls names depth (drop i parts) (drop i (map (shown decls names) values)) members
-    at [] values i p v is = absurd (omega (arith, p))
-    at (x ∷ parts) [] i p v is = absurd (omega (arith, v))
-    at (x ∷ parts) (y ∷ values) zero p v is = rw is refl
-    at (x ∷ parts) (y ∷ values) (suc i) p v is = at parts values i (omega (arith, p)) (omega (arith, v)) is

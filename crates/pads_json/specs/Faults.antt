@@ -1,7 +1,9 @@
 -- The faults of a record: all nodes with a cause of their own, a node before its kids and kids in order,
 -- each with its place, its cause and its extent. A kid that its node's term doesn't give has no entry.
-use Rattle.std.specs.Prelude.{ℕ, ◌+◌, List, [], ◌∷◌, ◌++◌, map, Bool, true, false, codes, Option, Some, None}
+use Rattle.std.specs.Prelude.{ℕ, ◌+◌, List, [], ◌∷◌, ◌++◌, map, Bool, true, false, codes, flat_map, Option, Some, None}
 use Rattle.serde_json.specs.Data.{Data, number, unsigned, string, array, object, item, no_items, member, no_members}
+use Rattle.json.specs.Print.{escape}
+use Rattle.serde_json.specs.Written.{compact_text}
 use Rattle.pads_value.specs.declared.cause.Cause.{Cause}
 use Rattle.pads_value.specs.declared.descriptor.Pd.{Pd, Pd-F, fold-Pd, map-Pd, out-Pd}
 use Rattle.pads_value.specs.declared.descriptor.Span.{Span}
@@ -59,6 +61,18 @@ module _ (decls : List Decl) (names : List (List ℕ)) where
 
   abbrev pub kid_told : List Step → ℕ → Option Slot → Pd → List Data
   kid_told steps depth given kid = kid_faults steps depth given (faults kid)
+
+-- faults as they are written one after another, each with a comma behind it, for private clauses
+abbrev pub listed : List Data → List ℕ
+listed = flat_map (λ told. compact_text told ++ 44 ∷ [])
+
+-- what stands before a fault's place, and behind it
+abbrev pub fault_head : List ℕ
+fault_head = codes "{" ++ 34 ∷ (codes "at" ++ 34 ∷ (codes ":" ++ 34 ∷ []))
+
+abbrev pub fault_tail : Cause → Span → List ℕ
+fault_tail cause span =
+    34 ∷ (codes "," ++ 34 ∷ (codes "cause" ++ 34 ∷ (codes ":" ++ 34 ∷ (escape (name_of cause) ++ 34 ∷ (codes "," ++ 34 ∷ (codes "span" ++ 34 ∷ (codes ":" ++ (compact_text (span_shown span) ++ codes "},"))))))))
 
 -- A node without a cause of its own and without kids.
 abbrev pub has_nothing : Option Cause → List Pd → Bool

@@ -1,10 +1,11 @@
 pub mod Faults
 pub mod Forms
 pub mod Lines
+pub mod Members
 pub mod Numbers
-pub mod Seen
 pub mod Shapes
 pub mod Slots
 pub mod Steps
 pub mod Terms
+pub mod Texts
 pub mod Values

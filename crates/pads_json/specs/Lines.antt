@@ -1,5 +1,5 @@
 -- The line of a record: one object in compact text, its keys in the order of their bytes, and a newline.
-use Rattle.std.specs.Prelude.{ℕ, List, [], ◌∷◌, ◌++◌, codes, Option, Some, None, nat_eq, if◌then◌else◌}
+use Rattle.std.specs.Prelude.{ℕ, List, [], ◌∷◌, ◌++◌, codes, decimal, Option, Some, None, nat_eq, if◌then◌else◌}
 use Rattle.serde_json.specs.Data.{Data, number, unsigned, string, array, object, member, no_members}
 use Rattle.serde_json.specs.View.{items_of}
 use Rattle.serde_json.specs.Written.{compact_text}
@@ -70,6 +70,27 @@ module _ (decls : List Decl) (names : List (List ℕ)) where
   abbrev pub line_told : Shape → Row → List ℕ
   line_told shape row = compact_text (row_data (body_of shape row.number) row) ++ 10 ∷ []
 
--- the line of a row of a module
+-- ---- the same text piece by piece, for private clauses
+
+-- a key in quotes, with its colon, behind a comma
+abbrev pub later_key : List ℕ → List ℕ
+later_key key = 44 ∷ 34 ∷ (key ++ 34 ∷ 58 ∷ [])
+
+abbrev pub head_text : Class → List Data → List ℕ
+head_text class faults =
+    123 ∷ 34 ∷ (codes "class" ++ 34 ∷ 58 ∷ 34 ∷ (class_name class ++ 34 ∷ (later_key (codes "faults") ++ compact_text (array (items_of faults)))))
+
+abbrev pub counts_text : Row → List ℕ
+counts_text row =
+    later_key (codes "nerr") ++ (decimal (out-Pd row.pd).nerr ++ (later_key (codes "next") ++ (decimal row.next
+    ++ (later_key (codes "record") ++ (decimal row.number ++ (later_key (codes "span") ++ compact_text (span_shown (out-Pd row.pd).span)))))))
+
+abbrev pub row_text : List Decl → List (List ℕ) → Term → Row → List ℕ
+row_text decls names body row =
+    head_text (out-Pd row.pd).class (row_faults decls names body row.value row.pd)
+    ++ (counts_text row ++ (later_key (codes "value") ++ (compact_text (shown decls names row.value deepest body) ++ 125 ∷ [])))
+
+-- ---- the line of a row of a module
+
 abbrev pub row_line : Module → Row → List ℕ
 row_line description row = line_told description.decls description.names description.shape row

@@ -3,8 +3,9 @@
 
 mod faults;
 mod form;
-mod json;
 mod line;
+mod number;
+mod order;
 mod place;
 mod slot;
 mod terms;

@@ -1,20 +1,25 @@
-ghost use Rattle.std.specs.Prelude.{◌≡◌, ◌++◌, ◌∷◌, [], IfOk};
+ghost use Rattle.std.specs.Prelude.{◌≡◌, ◌++◌, ◌∷◌, ℕ, List, [], length, false, decimal, IfOk, OnOk};
 ghost use Rattle.pads_value.specs.declared.descriptor.Pd.{out-Pd};
+ghost use Rattle.serde_json.specs.Data.{Data, array};
 ghost use Rattle.serde_json.specs.View.{items_of};
-ghost use Rattle.pads_json.specs.Lines.{class_name as class_name_of, type_of, body_of, extra_fault, body_faults, row_faults as row_faults_of, line_data, row_data, line_told, row_line};
-ghost use Rattle.pads_json.specs.Seen.{seen, things};
+ghost use Rattle.serde_json.specs.Written.{compact_text, items_text};
+ghost use Rattle.pads_json.specs.Faults.{listed};
+ghost use Rattle.pads_json.specs.Lines.{class_name as class_name_of, type_of, body_of, extra_fault, body_faults, row_faults, head_text, counts_text, row_data, line_told, row_line};
 
-use crate::faults::{span_json, with_faults, with_own_at};
-use crate::json::{Json, Members, Things};
+use crate::faults::{write_faults, write_own_at_point};
+use crate::number::{write_count, write_span};
 use crate::place::Place;
 use crate::terms::Terms;
-use crate::value::value as value_json;
+use crate::value::write_value;
 use pads_calc::{Module, Shape, Term};
 use pads_value::{Bytes, Class, Items, Memory, Pd, Row, Val};
 use std::alloc::Global;
 
 /// How deep calls may be nested in a record.
 const DEEPEST: u64 = 128;
+
+/// Room for most lines, in bytes.
+const ROOM: usize = 512;
 
 fn class_name(class: Class) -> &'static str
     ensures name { result.now ≡ class_name_of class }
@@ -43,103 +48,163 @@ fn body(alloc: Global, shape: Shape, record_number: u64) -> Term
     Term::Call(declaration(shape, record_number), Items::new(alloc))
 }
 
-/// Faults with that of the node of bytes left over behind them.
-fn with_extra(alloc: Global, faults: Things, kids: &[Pd]) -> Result<Things, Memory>
-    ensures extra { IfOk result (λ more. things more ≡ things faults ++ extra_fault kids.now) }
+/// Writes the fault of the node of bytes left over.
+fn write_extra(out: &mut Bytes, kids: &[Pd]) -> Result<(), Memory>
+    ensures extra { OnOk result (out.new ≡ out.old ++ listed (extra_fault kids.now)) }
 {
     match kids.first() {
-        None => Ok(faults),
-        Some(extra) => with_own_at(alloc, faults, ".", extra),
+        None => Ok(()),
+        Some(extra) => write_own_at_point(out, extra),
     }
 }
 
-/// Faults with those of a record's body and of the bytes left over behind them.
-fn with_body<'m>(
+/// Writes the faults of a record's body and of the bytes left over behind them.
+#[tactic(auto, using(crate::proofs::Written::listed_append))]
+fn write_body_faults<'m>(
     terms: &Terms<'m>,
-    alloc: Global,
-    faults: Things,
+    out: &mut Bytes,
     kids: &[Pd],
     value: &'m Val,
     body: &'m Term,
-) -> Result<Things, Memory>
-    ensures body { IfOk result (λ more. things more ≡ things faults ++ body_faults terms.now.decls.now terms.now.names.now body.now value.now kids.now) }
+) -> Result<(), Memory>
+    ensures body { OnOk result (out.new ≡ out.old ++ listed (body_faults terms.now.decls.now terms.now.names.now body.now value.now kids.now)) }
 {
     match kids {
-        [] => Ok(faults),
+        [] => Ok(()),
         [kid, more @ ..] => {
-            let faults = with_faults(
-                terms,
-                alloc,
-                faults,
-                kid,
-                &Place::Body,
-                Some(value),
-                DEEPEST,
-                body,
-            )?;
-            let faults = with_extra(alloc, faults, more)?;
-            Ok(faults)
+            write_faults(terms, out, kid, &Place::Body, Some(value), DEEPEST, body)?;
+            write_extra(out, more)
         }
     }
 }
 
-/// All faults of a row.
-fn row_faults<'m>(
+/// Writes all faults of a row, each with a comma behind it.
+#[tactic(auto, using(crate::proofs::Written::listed_append))]
+fn write_row_faults<'m>(
     terms: &Terms<'m>,
-    alloc: Global,
+    out: &mut Bytes,
     row: &'m Row,
     body: &'m Term,
-) -> Result<Things, Memory>
-    ensures faults { IfOk result (λ all. things all ≡ row_faults_of terms.now.decls.now terms.now.names.now body.now row.now.value row.now.pd) }
+) -> Result<(), Memory>
+    ensures faults { OnOk result (out.new ≡ out.old ++ listed (row_faults terms.now.decls.now terms.now.names.now body.now row.now.value row.now.pd)) }
 {
-    let faults = with_own_at(alloc, Things::new(alloc), ".", &row.pd)?;
-    with_body(
-        terms,
-        alloc,
-        faults,
-        row.pd.kids.as_slice(),
-        &row.value,
-        body,
-    )
+    write_own_at_point(out, &row.pd)?;
+    write_body_faults(terms, out, row.pd.kids.as_slice(), &row.value, body)
 }
 
-/// The members of a record line.
-fn row_members(
+/// Writes the array of all faults of a row.
+fn write_fault_array<'m>(
+    terms: &Terms<'m>,
+    out: &mut Bytes,
+    row: &'m Row,
+    body: &'m Term,
+) -> Result<(), Memory>
+    ensures faults { OnOk result (out.new ≡ out.old ++ compact_text (array (items_of (row_faults terms.now.decls.now terms.now.names.now body.now row.now.value row.now.pd)))) }
+{
+    out.push(b'[')?;
+    let begin = out.len();
+    write_row_faults(terms, out, row, body)?;
+    close_faults(out, begin)
+}
+
+/// Closes an array of faults, which has a comma behind each of them.
+fn close_faults(out: &mut Bytes, begin: u64) -> Result<(), Memory>
+    ensures closed { OnOk result ((front : List ℕ) (told : List Data) → out.old ≡ front ++ listed told → length front ≡ begin → out.new ≡ front ++ items_text false (items_of told)) }
+{
+    if out.len() > begin {
+        drop(out.pop());
+    }
+    out.push(b']')
+}
+
+/// Writes the class and the faults of a row.
+fn write_head<'m>(
+    terms: &Terms<'m>,
+    out: &mut Bytes,
+    row: &'m Row,
+    body: &'m Term,
+) -> Result<(), Memory>
+    ensures head { OnOk result (out.new ≡ out.old ++ head_text (out-Pd row.now.pd).class (row_faults terms.now.decls.now terms.now.names.now body.now row.now.value row.now.pd)) }
+{
+    out.extend_from_slice(br#"{"class":""#)?;
+    out.extend_from_slice(class_name(row.pd.class).as_bytes())?;
+    out.extend_from_slice(br#"","faults":"#)?;
+    write_fault_array(terms, out, row, body)
+}
+
+/// Writes a number of a row under its key.
+fn write_member(out: &mut Bytes, key: &[u8], count: u64) -> Result<(), Memory>
+    ensures member { OnOk result (out.new ≡ out.old ++ (key.now ++ decimal count)) }
+{
+    out.extend_from_slice(key)?;
+    write_count(out, count)
+}
+
+/// Writes the number of faults of a row, where it ends, which it is and its extent.
+fn write_counts(out: &mut Bytes, row: &Row) -> Result<(), Memory>
+    ensures counts { OnOk result (out.new ≡ out.old ++ counts_text row.now) }
+{
+    write_member(out, br#","nerr":"#, row.pd.nerr)?;
+    write_member(out, br#","next":"#, row.next)?;
+    write_member(out, br#","record":"#, row.number)?;
+    out.extend_from_slice(br#","span":"#)?;
+    write_span(out, row.pd.span)
+}
+
+/// Writes the object of a row whose body is known.
+fn write_object<'m>(
+    terms: &Terms<'m>,
     alloc: Global,
+    out: &mut Bytes,
+    row: &'m Row,
+    body: &'m Term,
+) -> Result<(), Memory>
+    ensures row { OnOk result (out.new ≡ out.old ++ compact_text (row_data terms.now.decls.now terms.now.names.now body.now row.now)) }
+{
+    write_head(terms, out, row, body)?;
+    write_counts(out, row)?;
+    out.extend_from_slice(br#","value":"#)?;
+    write_value(terms, alloc, out, &row.value, DEEPEST, body)?;
+    out.push(b'}')
+}
+
+/// Writes the line of a row whose body is known.
+fn write_row<'m>(
+    terms: &Terms<'m>,
+    alloc: Global,
+    out: &mut Bytes,
+    row: &'m Row,
+    body: &'m Term,
+) -> Result<(), Memory>
+    ensures row { OnOk result (out.new ≡ out.old ++ (compact_text (row_data terms.now.decls.now terms.now.names.now body.now row.now) ++ 10 ∷ [])) }
+{
+    write_object(terms, alloc, out, row, body)?;
+    out.push(b'\n')
+}
+
+/// Writes the line of a row, by the declarations, the names and the shape of its module.
+fn write_line(
+    alloc: Global,
+    terms: &Terms<'_>,
+    out: &mut Bytes,
+    shape: Shape,
     row: &Row,
-    class: Json,
-    faults: Json,
-    span: Json,
-    value: Json,
-) -> Result<Json, Memory>
-    ensures json { IfOk result (λ json. seen json ≡ line_data row.now (seen class) (seen faults) (seen span) (seen value)) }
+) -> Result<(), Memory>
+    ensures line { OnOk result (out.new ≡ out.old ++ line_told terms.now.decls.now terms.now.names.now shape row.now) }
 {
-    let members = Members::new(alloc)
-        .with(alloc, "class", class)?
-        .with(alloc, "faults", faults)?
-        .with(alloc, "nerr", Json::count(row.pd.nerr))?;
-    let members = members
-        .with(alloc, "next", Json::count(row.next))?
-        .with(alloc, "record", Json::count(row.number))?
-        .with(alloc, "span", span)?
-        .with(alloc, "value", value)?;
-    Ok(members.into_json())
+    let body = body(alloc, shape, row.number);
+    let terms = Terms {
+        decls: &*terms.decls,
+        names: &*terms.names,
+    };
+    write_row(&terms, alloc, out, &*row, &body)
 }
 
-/// The object of a record line.
-fn row_json<'m>(
-    terms: &Terms<'m>,
-    alloc: Global,
-    row: &'m Row,
-    body: &'m Term,
-) -> Result<Json, Memory>
-    ensures json { IfOk result (λ json. seen json ≡ row_data terms.now.decls.now terms.now.names.now body.now row.now) }
+/// Bytes without any, with room for most lines.
+fn room(alloc: Global) -> Result<Bytes, Memory>
+    ensures empty { IfOk result (λ room. room ≡ []) }
 {
-    let class = Json::word(alloc, class_name(row.pd.class))?;
-    let faults = row_faults(terms, alloc, row, body)?.into_json();
-    let span = span_json(alloc, row.pd.span)?;
-    let value = value_json(terms, alloc, &row.value, DEEPEST, body)?;
-    row_members(alloc, row, class, faults, span, value)
+    Ok(Items::from_vec(Vec::with_capacity(alloc, ROOM)?))
 }
 
 /// The line of a row, by the declarations, the names and the shape of its module.
@@ -151,12 +216,9 @@ pub(crate) fn line(
 ) -> Result<Bytes, Memory>
     ensures line { IfOk result (λ line. line ≡ line_told terms.now.decls.now terms.now.names.now shape row.now) }
 {
-    let body = body(alloc, shape, row.number);
-    let terms = Terms {
-        decls: &*terms.decls,
-        names: &*terms.names,
-    };
-    row_json(&terms, alloc, &*row, &body)?.line(alloc)
+    let mut line = room(alloc)?;
+    write_line(alloc, terms, &mut line, shape, row)?;
+    Ok(line)
 }
 
 /// The line that tells of a record: an object of its class, its faults, their number, the offset at which

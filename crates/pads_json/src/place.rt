@@ -1,10 +1,10 @@
-ghost use Rattle.std.specs.Prelude.{◌≡◌, ◌++◌, string_bytes, decimal, IfOk};
+ghost use Rattle.std.specs.Prelude.{◌≡◌, ◌++◌, decimal, OnOk};
+ghost use Rattle.json.specs.Print.{escape};
 ghost use Rattle.pads_json.specs.Steps.{first as first_of, later as later_of, word as word_of, step_seen, steps, place_text};
 
-use crate::text::with_points;
-use pads_value::Memory;
-use std::alloc::Global;
-use std::string::{String, ToString};
+use crate::text::{write_points, write_text};
+use itoa::Buffer;
+use pads_value::{Bytes, Memory};
 
 /// The way from a node to one of its kids.
 #[derive(Clone, Copy)]
@@ -24,71 +24,69 @@ pub(crate) enum Place<'p, 'm> {
     Below(&'p Place<'p, 'm>, Step<'m>),
 }
 
-/// A text with a number behind it.
-fn with_number(alloc: Global, text: String, number: u64) -> Result<String, Memory>
-    ensures number { IfOk result (λ t. string_bytes t ≡ string_bytes text ++ decimal number) }
+/// Writes a number in a text.
+fn write_number(out: &mut Bytes, number: u64) -> Result<(), Memory>
+    ensures written { OnOk result (out.new ≡ out.old ++ escape (decimal number)) }
 {
-    let mut text = text;
-    let number = number.to_string(alloc)?;
-    text.push_str(number.as_str())?;
-    Ok(text)
+    let mut buffer = Buffer::new();
+    write_text(out, buffer.format(number).as_bytes())
 }
 
 impl Step<'_> {
-    fn first(self) -> &'static str
+    fn first(self) -> &'static [u8]
         ensures first { result.now ≡ first_of (step_seen self.entry) }
     {
         match self {
-            Step::Named(_) | Step::Unnamed(_) => "",
-            Step::Element(_) => "$",
+            Step::Named(_) | Step::Unnamed(_) => b"",
+            Step::Element(_) => b"$",
         }
     }
 
-    fn later(self) -> &'static str
+    fn later(self) -> &'static [u8]
         ensures later { result.now ≡ later_of (step_seen self.entry) }
     {
         match self {
-            Step::Named(_) | Step::Unnamed(_) => ".",
-            Step::Element(_) => "",
+            Step::Named(_) | Step::Unnamed(_) => b".",
+            Step::Element(_) => b"",
         }
     }
 
-    /// A text with the step's word behind it.
-    fn behind(self, alloc: Global, text: String) -> Result<String, Memory>
-        ensures word { IfOk result (λ t. string_bytes t ≡ string_bytes text ++ word_of (step_seen self.entry)) }
+    /// Writes the step's word.
+    #[tactic(auto, using(crate::proofs::Texts::escaped_append))]
+    fn write(self, out: &mut Bytes) -> Result<(), Memory>
+        ensures written { OnOk result (out.new ≡ out.old ++ escape (word_of (step_seen self.entry))) }
     {
-        let mut text = text;
         match self {
-            Step::Named(name) => with_points(text, name),
+            Step::Named(name) => write_points(out, name),
             Step::Unnamed(number) => {
-                text.push_str("#")?;
-                with_number(alloc, text, number)
+                write_text(out, b"#")?;
+                write_number(out, number)
             }
             Step::Element(number) => {
-                text.push_str("[")?;
-                let mut text = with_number(alloc, text, number)?;
-                text.push_str("]")?;
-                Ok(text)
+                write_text(out, b"[")?;
+                write_number(out, number)?;
+                write_text(out, b"]")
             }
         }
     }
 }
 
 impl Place<'_, '_> {
-    /// The place as lines tell it.
-    pub(crate) fn text(&self, alloc: Global) -> Result<String, Memory>
-        ensures text { IfOk result (λ t. string_bytes t ≡ place_text (steps self.now)) }
+    /// Writes the place as lines tell it.
+    #[tactic(auto, using(crate::proofs::Texts::escaped_append))]
+    pub(crate) fn write(&self, out: &mut Bytes) -> Result<(), Memory>
+        ensures written { OnOk result (out.new ≡ out.old ++ escape (place_text (steps self.now))) }
     {
         match self {
-            Place::Body => Ok(String::from_str(alloc, "$")?),
+            Place::Body => write_text(out, b"$"),
             Place::Below(Place::Body, step) => {
-                let text = String::from_str(alloc, step.first())?;
-                step.behind(alloc, text)
+                write_text(out, step.first())?;
+                step.write(out)
             }
             Place::Below(above, step) => {
-                let mut text = above.text(alloc)?;
-                text.push_str(step.later())?;
-                step.behind(alloc, text)
+                above.write(out)?;
+                write_text(out, step.later())?;
+                step.write(out)
             }
         }
     }

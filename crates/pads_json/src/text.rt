@@ -1,49 +1,124 @@
-ghost use Rattle.std.specs.Prelude.{◌≡◌, ◌++◌, nat_lt, string_bytes, encode_utf8_all, IfOk, IfSome};
+ghost use Rattle.std.specs.Prelude.{◌≡◌, ◌<◌, ◌++◌, encode_utf8, encode_utf8_all, OnOk};
+ghost use Rattle.std.specs.Char.{digit_char};
 ghost use Rattle.std.specs.List.{list_all};
+ghost use Rattle.json.specs.Print.{escape_letter, escape_byte, escape, quoted};
+ghost use Rattle.pads_json.specs.Texts.{stands as stands_of, escaped_points};
 
-use pads_value::Memory;
-use std::alloc::Global;
-use std::str;
-use std::string::String;
+use pads_value::{Bytes, Memory};
 
-/// Whether all code points are below 80.
-fn is_ascii(points: &[u8]) -> bool
-    ensures ascii { result ≡ list_all (λ point. nat_lt point 128) points.now }
+/// Whether a code point stands between quotes as itself, in one byte.
+#[inline]
+fn stands(point: u8) -> bool
+    ensures stands { result ≡ stands_of point }
 {
-    points.iter().all(|point| *point < 0x80)
+    0x1F < point && point < 0x80 && point != b'"' && point != b'\\'
 }
 
-/// Code points that are all below 80, as the text that they are; `None` where one of them isn't.
-#[tactic(auto, using(crate::proofs::Texts::encoded_ascii))]
-pub(crate) fn as_ascii(points: &[u8]) -> Option<&str>
-    ensures points { IfSome result (λ text. text.now ≡ encode_utf8_all points.now) }
+fn all_stand(points: &[u8]) -> bool
+    ensures all { result ≡ list_all stands_of points.now }
 {
-    if !is_ascii(points) {
-        return None;
-    }
-    match str::from_utf8(points) {
-        Ok(text) => Some(text),
-        Err(_) => None,
+    points.iter().all(|point| stands(*point))
+}
+
+/// The letter of a byte's short escape; 0 where it has none.
+fn letter(byte: u8) -> u8
+    ensures letter { result ≡ escape_letter byte }
+{
+    match byte {
+        b'"' | b'\\' => byte,
+        8 => b'b',
+        12 => b'f',
+        b'\n' => b'n',
+        b'\r' => b'r',
+        b'\t' => b't',
+        _ => 0,
     }
 }
 
-/// A text with the code points 00 to FF of another behind it.
-pub(crate) fn with_points(text: String, points: &[u8]) -> Result<String, Memory>
-    ensures points { IfOk result (λ t. string_bytes t ≡ string_bytes text ++ encode_utf8_all points.now) }
+fn hex_digit(digit: u8) -> u8
+    requires digit { digit < 16 }
+    ensures digit { result ≡ digit_char digit }
 {
-    let mut text = text;
-    for point in points {
-        text.push(char::from(*point))?;
+    if digit < 10 {
+        b'0' + digit
+    } else {
+        b'a' - 10 + digit
     }
-    Ok(text)
 }
 
-/// The text of code points 00 to FF.
-pub(crate) fn of_points(alloc: Global, points: &[u8]) -> Result<String, Memory>
-    ensures points { IfOk result (λ t. string_bytes t ≡ encode_utf8_all points.now) }
+/// Writes a byte of a text, by its escape where it has one.
+#[tactic(auto, unfolding(json::specs::Print::escape_byte))]
+fn write_byte(out: &mut Bytes, byte: u8) -> Result<(), Memory>
+    ensures written { OnOk result (out.new ≡ out.old ++ escape_byte byte) }
 {
-    match as_ascii(points) {
-        Some(text) => Ok(String::from_str(alloc, text)?),
-        None => with_points(String::new(alloc), points),
+    let letter = letter(byte);
+    if letter > 0 {
+        return out.extend_from_slice(&[b'\\', letter]);
     }
+    if byte < 0x20 {
+        let digits = [hex_digit(byte / 16), hex_digit(byte % 16)];
+        return out.extend_from_slice(&[b'\\', b'u', b'0', b'0', digits[0], digits[1]]);
+    }
+    out.push(byte)
+}
+
+/// Writes a code point of a text.
+fn write_point(out: &mut Bytes, point: u8) -> Result<(), Memory>
+    ensures written { OnOk result (out.new ≡ out.old ++ escape (encode_utf8 point)) }
+{
+    if point < 0x80 {
+        return write_byte(out, point);
+    }
+    out.extend_from_slice(&[192 + point / 64, 128 + point % 64])
+}
+
+/// Writes a text, of which some bytes need an escape.
+fn write_each_byte(out: &mut Bytes, text: &[u8]) -> Result<(), Memory>
+    ensures written { OnOk result (out.new ≡ out.old ++ escape text.now) }
+{
+    'bytes: for byte in text {
+        write_byte(out, *byte)?;
+    }
+    Ok(())
+}
+
+/// Writes a text of code points 00 to FF, of which some don't stand as they are.
+fn write_each_point(out: &mut Bytes, points: &[u8]) -> Result<(), Memory>
+    ensures written { OnOk result (out.new ≡ out.old ++ escaped_points points.now) }
+{
+    'points: for point in points {
+        write_point(out, *point)?;
+    }
+    Ok(())
+}
+
+/// Writes the bytes of a text as they stand between quotes.
+#[tactic(auto, using(crate::proofs::Texts::bytes_stand))]
+pub(crate) fn write_text(out: &mut Bytes, text: &[u8]) -> Result<(), Memory>
+    ensures written { OnOk result (out.new ≡ out.old ++ escape text.now) }
+{
+    if all_stand(text) {
+        return out.extend_from_slice(text);
+    }
+    write_each_byte(out, text)
+}
+
+/// Writes a text of code points 00 to FF as it stands between quotes.
+#[tactic(auto, using(crate::proofs::Texts::points_stand))]
+pub(crate) fn write_points(out: &mut Bytes, points: &[u8]) -> Result<(), Memory>
+    ensures written { OnOk result (out.new ≡ out.old ++ escaped_points points.now) }
+{
+    if all_stand(points) {
+        return out.extend_from_slice(points);
+    }
+    write_each_point(out, points)
+}
+
+/// Writes a text of code points 00 to FF in quotes.
+pub(crate) fn write_quoted(out: &mut Bytes, points: &[u8]) -> Result<(), Memory>
+    ensures written { OnOk result (out.new ≡ out.old ++ quoted (encode_utf8_all points.now)) }
+{
+    out.push(b'"')?;
+    write_points(out, points)?;
+    out.push(b'"')
 }

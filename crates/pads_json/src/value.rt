@@ -1,250 +1,277 @@
-ghost use Rattle.std.specs.Prelude.{◌≡◌, length, IfOk};
+ghost use Rattle.std.specs.Prelude.{◌≡◌, ◌++◌, length, encode_utf8_all, OnOk};
 ghost use Rattle.pads_calc.specs.declared.term.Term.{out-Term};
-ghost use Rattle.pads_json.specs.Seen.{seen, members as members_of};
-ghost use Rattle.pads_json.specs.Values.{shown, number_told, text_told, base_told, address_told, label_told, computed_told, term_told, struct_told, parts_told, branch_told, named_shown, array_told, elements_told, put_named};
+ghost use Rattle.serde_json.specs.Written.{compact_text, comma_if};
+ghost use Rattle.pads_json.specs.Members.{part_told, key_text};
+ghost use Rattle.pads_json.specs.Values.{shown, number_told, text_told, base_told, address_told, label_told, computed_told, term_told, struct_told, parts_told, branch_told, array_told, elements_told};
 
 use crate::form::form_at;
-use crate::json::{Json, Members, Things};
+use crate::number::{write_integer, write_null};
+use crate::order::order_of;
 use crate::slot::{arm_at, name_at};
 use crate::terms::Terms;
-use crate::text::{as_ascii, of_points};
+use crate::text::write_quoted;
 use pads_bases::{Labels, spell_ip};
 use pads_calc::{Base, Part, Result2, Term};
 use pads_code::Coding;
-use pads_value::{Memory, Val};
+use pads_value::{Bytes, Memory, Val};
 use std::alloc::Global;
 
-/// The value of a base type as JSON.
-fn base_value(alloc: Global, base: &Base, val: &Val) -> Result<Json, Memory>
-    ensures value { IfOk result (λ json. seen json ≡ base_told base.now val.now) }
+/// Writes the value of a base type.
+fn write_base(out: &mut Bytes, base: &Base, val: &Val) -> Result<(), Memory>
+    ensures written { OnOk result (out.new ≡ out.old ++ compact_text (base_told base.now val.now)) }
 {
     match base {
-        Base::Int(_, _) | Base::IntFw(_, _) | Base::Bin(_, _) => Ok(number_value(val)),
+        Base::Int(_, _) | Base::IntFw(_, _) | Base::Bin(_, _) => write_number(out, val),
         Base::Until(_) | Base::UntilEor(_) | Base::Fixed(_) | Base::Class(_) | Base::Char(_) => {
-            text_value(alloc, val)
+            write_string(out, val)
         }
-        Base::Ip(_) => address_value(alloc, val),
-        Base::Enum(_, labels) => label_value(alloc, labels, val),
+        Base::Ip(_) => write_address(out, val),
+        Base::Enum(_, labels) => write_label(out, labels, val),
     }
 }
 
-/// An address as its four decimals.
-fn address_value(alloc: Global, val: &Val) -> Result<Json, Memory>
-    ensures value { IfOk result (λ json. seen json ≡ address_told val.now) }
+/// Writes an address as its four decimals.
+fn write_address(out: &mut Bytes, val: &Val) -> Result<(), Memory>
+    ensures written { OnOk result (out.new ≡ out.old ++ compact_text (address_told val.now)) }
 {
     match val {
         Val::Num(number) => match spell_ip(Coding::Ascii, *number) {
-            Some(text) => Json::points(alloc, text.as_slice()),
-            None => Ok(Json::null()),
+            Some(text) => write_quoted(out, text.as_slice()),
+            None => write_null(out),
         },
-        _ => Ok(Json::null()),
+        _ => write_null(out),
     }
 }
 
-/// A label as its name.
-fn label_value(alloc: Global, labels: &Labels, val: &Val) -> Result<Json, Memory>
-    ensures value { IfOk result (λ json. seen json ≡ label_told labels.now val.now) }
+/// Writes a label as its name.
+fn write_label(out: &mut Bytes, labels: &Labels, val: &Val) -> Result<(), Memory>
+    ensures written { OnOk result (out.new ≡ out.old ++ compact_text (label_told labels.now val.now)) }
 {
     match val {
         Val::Enum(number) => match labels.get(u64::from(*number)) {
-            Some(label) => Json::points(alloc, label.name.as_slice()),
-            None => Ok(Json::null()),
+            Some(label) => write_quoted(out, label.name.as_slice()),
+            None => write_null(out),
         },
-        _ => Ok(Json::null()),
+        _ => write_null(out),
     }
 }
 
-fn number_value(val: &Val) -> Json
-    ensures value { seen result ≡ number_told val.now }
+fn write_number(out: &mut Bytes, val: &Val) -> Result<(), Memory>
+    ensures written { OnOk result (out.new ≡ out.old ++ compact_text (number_told val.now)) }
 {
     match val {
-        Val::Num(number) => Json::integer(*number),
-        _ => Json::null(),
+        Val::Num(number) => write_integer(out, *number),
+        _ => write_null(out),
     }
 }
 
-fn text_value(alloc: Global, val: &Val) -> Result<Json, Memory>
-    ensures value { IfOk result (λ json. seen json ≡ text_told val.now) }
+fn write_string(out: &mut Bytes, val: &Val) -> Result<(), Memory>
+    ensures written { OnOk result (out.new ≡ out.old ++ compact_text (text_told val.now)) }
 {
     match val {
-        Val::Text(text) => Json::points(alloc, text.as_slice()),
-        _ => Ok(Json::null()),
+        Val::Text(text) => write_quoted(out, text.as_slice()),
+        _ => write_null(out),
     }
 }
 
-/// The value of a computed field as JSON.
-fn computed_value(alloc: Global, form: Result2, val: &Val) -> Result<Json, Memory>
-    ensures value { IfOk result (λ json. seen json ≡ computed_told form val.now) }
+/// Writes the value of a computed field.
+fn write_computed(out: &mut Bytes, form: Result2, val: &Val) -> Result<(), Memory>
+    ensures written { OnOk result (out.new ≡ out.old ++ compact_text (computed_told form val.now)) }
 {
     match form {
-        Result2::Range(_, _) => Ok(number_value(val)),
-        Result2::Text => text_value(alloc, val),
+        Result2::Range(_, _) => write_number(out, val),
+        Result2::Text => write_string(out, val),
     }
 }
 
-/// Members with that of a named part put in.
-fn with_named(
-    terms: &Terms<'_>,
-    alloc: Global,
-    members: Members,
-    name: Option<u16>,
-    json: Json,
-) -> Result<Members, Memory>
-    ensures put { IfOk result (λ put. members_of put ≡ put_named terms.now.names.now name (seen json) (members_of members)) }
+/// Writes a comma, where something stands before.
+#[inline]
+fn write_comma(out: &mut Bytes, later: bool) -> Result<(), Memory>
+    ensures written { OnOk result (out.new ≡ out.old ++ comma_if later) }
 {
-    match name {
-        None => Ok(members),
-        Some(name) => {
-            let points = name_at(terms, name);
-            match as_ascii(points) {
-                Some(key) => members.with(alloc, key, json),
-                None => members.with(alloc, of_points(alloc, points)?.as_str(), json),
-            }
-        }
-    }
+    if later { out.push(b',') } else { Ok(()) }
 }
 
-/// A value of a term as JSON, where calls may be nested so deep.
+/// Writes the key of a member with its colon, behind a comma where members stand before.
+fn write_key(out: &mut Bytes, later: bool, name: &[u8]) -> Result<(), Memory>
+    ensures written { OnOk result (out.new ≡ out.old ++ key_text later (encode_utf8_all name.now)) }
+{
+    write_comma(out, later)?;
+    write_quoted(out, name)?;
+    out.push(b':')
+}
+
+/// Writes a value of a term, where calls may be nested so deep.
 #[tactic(auto, using(crate::proofs::Layers::shown_out))]
 #[cycle(value)]
-pub(crate) fn value<'m>(
+pub(crate) fn write_value<'m>(
     terms: &Terms<'m>,
     alloc: Global,
+    out: &mut Bytes,
     val: &Val,
     depth: u64,
     term: &'m Term,
-) -> Result<Json, Memory>
-    ensures value { IfOk result (λ json. seen json ≡ shown terms.now.decls.now terms.now.names.now val.now depth term.now) }
+) -> Result<(), Memory>
+    ensures written { OnOk result (out.new ≡ out.old ++ compact_text (shown terms.now.decls.now terms.now.names.now val.now depth term.now)) }
 {
     match form_at(terms, false, depth, term) {
-        None => Ok(Json::null()),
-        Some(form) => form_value(terms, alloc, val, form.depth, form.term),
+        None => write_null(out),
+        Some(form) => write_form(terms, alloc, out, val, form.depth, form.term),
     }
 }
 
-/// A value of a term that isn't passed through.
+/// Writes a value of a term that isn't passed through.
 #[tactic(auto, using(crate::proofs::Layers::num_mapped, crate::proofs::Layers::text_mapped, crate::proofs::Layers::label_mapped))]
 #[cycle(value)]
-fn form_value<'m>(
+fn write_form<'m>(
     terms: &Terms<'m>,
     alloc: Global,
+    out: &mut Bytes,
     val: &Val,
     depth: u64,
     term: &'m Term,
-) -> Result<Json, Memory>
-    ensures value { IfOk result (λ json. seen json ≡ term_told terms.now.decls.now terms.now.names.now depth (out-Term term.now) val.now) }
+) -> Result<(), Memory>
+    ensures written { OnOk result (out.new ≡ out.old ++ compact_text (term_told terms.now.decls.now terms.now.names.now depth (out-Term term.now) val.now)) }
 {
     match term {
-        Term::Base(base, _) => base_value(alloc, base, val),
-        Term::Compute(_, form) => computed_value(alloc, *form, val),
-        Term::Struct(parts) => struct_value(terms, alloc, val, depth, parts.as_slice()),
-        Term::Alt(_) | Term::Switch(_, _) => branch_value(terms, alloc, val, depth, term),
-        Term::Seq(seq) => array_value(terms, alloc, val, depth, &seq.get().elem),
-        _ => Ok(Json::null()),
+        Term::Base(base, _) => write_base(out, base, val),
+        Term::Compute(_, form) => write_computed(out, *form, val),
+        Term::Struct(parts) => write_struct(terms, alloc, out, val, depth, parts.as_slice()),
+        Term::Alt(_) | Term::Switch(_, _) => write_branch(terms, alloc, out, val, depth, term),
+        Term::Seq(seq) => write_array(terms, alloc, out, val, depth, &seq.get().elem),
+        _ => write_null(out),
     }
 }
 
 #[cycle(value)]
-fn struct_value<'m>(
+fn write_struct<'m>(
     terms: &Terms<'m>,
     alloc: Global,
+    out: &mut Bytes,
     val: &Val,
     depth: u64,
     parts: &'m [Part],
-) -> Result<Json, Memory>
-    ensures value { IfOk result (λ json. seen json ≡ struct_told terms.now.decls.now terms.now.names.now depth parts.now val.now) }
+) -> Result<(), Memory>
+    ensures written { OnOk result (out.new ≡ out.old ++ compact_text (struct_told terms.now.decls.now terms.now.names.now depth parts.now val.now)) }
 {
     match val {
         Val::Tuple(values) => {
             if values.as_slice().len() == parts.len() {
-                parts_value(terms, alloc, values.as_slice(), depth, parts)
+                write_parts(terms, alloc, out, values.as_slice(), depth, parts)
             } else {
-                Ok(Json::null())
+                write_null(out)
             }
         }
-        _ => Ok(Json::null()),
+        _ => write_null(out),
     }
 }
 
-/// The object of the named parts.
+/// Writes the object of the named parts, in the order of their keys.
 #[cycle(value)]
-fn parts_value<'m>(
+fn write_parts<'m>(
     terms: &Terms<'m>,
     alloc: Global,
+    out: &mut Bytes,
     values: &[Val],
     depth: u64,
     parts: &'m [Part],
-) -> Result<Json, Memory>
+) -> Result<(), Memory>
     requires counts { length values.now ≡ length parts.now }
-    ensures value { IfOk result (λ json. seen json ≡ parts_told terms.now.decls.now terms.now.names.now depth parts.now values.now) }
+    ensures written { OnOk result (out.new ≡ out.old ++ compact_text (parts_told terms.now.decls.now terms.now.names.now depth parts.now values.now)) }
 {
-    let mut members = Members::new(alloc);
-    for i in 0..values.len() {
-        let json = value(terms, alloc, &values[i], depth, &parts[i].term)?;
-        members = with_named(terms, alloc, members, parts[i].name, json)?;
+    let order = order_of(terms, alloc, parts)?;
+    out.push(b'{')?;
+    let mut later = false;
+    'members: for (key, number) in order.iter() {
+        write_key(out, later, key.name)?;
+        write_part(terms, alloc, out, values, depth, parts, *number)?;
+        later = true;
     }
-    Ok(members.into_json())
+    out.push(b'}')
 }
 
+/// Writes the value of the part of a number.
 #[cycle(value)]
-fn branch_value<'m>(
+fn write_part<'m>(
     terms: &Terms<'m>,
     alloc: Global,
+    out: &mut Bytes,
+    values: &[Val],
+    depth: u64,
+    parts: &'m [Part],
+    number: usize,
+) -> Result<(), Memory>
+    ensures written { OnOk result (out.new ≡ out.old ++ compact_text (part_told terms.now.decls.now terms.now.names.now depth parts.now values.now number)) }
+{
+    match parts.get(number) {
+        None => write_null(out),
+        Some(part) => match values.get(number) {
+            None => write_null(out),
+            Some(val) => write_value(terms, alloc, out, val, depth, &part.term),
+        },
+    }
+}
+
+/// Writes the object of a branch, under the branch's name.
+#[cycle(value)]
+fn write_branch<'m>(
+    terms: &Terms<'m>,
+    alloc: Global,
+    out: &mut Bytes,
     val: &Val,
     depth: u64,
     term: &'m Term,
-) -> Result<Json, Memory>
-    ensures value { IfOk result (λ json. seen json ≡ branch_told terms.now.decls.now terms.now.names.now depth (out-Term term.now) val.now) }
+) -> Result<(), Memory>
+    ensures written { OnOk result (out.new ≡ out.old ++ compact_text (branch_told terms.now.decls.now terms.now.names.now depth (out-Term term.now) val.now)) }
 {
     match val {
         Val::Branch(number, inner) => match arm_at(term, *number) {
             Some(arm) => {
-                let json = value(terms, alloc, inner.get(), depth, &arm.term)?;
-                named_value(terms, alloc, arm.name, json)
+                out.push(b'{')?;
+                write_key(out, false, name_at(terms, arm.name))?;
+                write_value(terms, alloc, out, inner.get(), depth, &arm.term)?;
+                out.push(b'}')
             }
-            None => Ok(Json::null()),
+            None => write_null(out),
         },
-        _ => Ok(Json::null()),
+        _ => write_null(out),
     }
 }
 
-/// The object of one key.
-fn named_value(terms: &Terms<'_>, alloc: Global, name: u16, json: Json) -> Result<Json, Memory>
-    ensures value { IfOk result (λ named. seen named ≡ named_shown terms.now.names.now name (seen json)) }
-{
-    let members = with_named(terms, alloc, Members::new(alloc), Some(name), json)?;
-    Ok(members.into_json())
-}
-
 #[cycle(value)]
-fn array_value<'m>(
+fn write_array<'m>(
     terms: &Terms<'m>,
     alloc: Global,
+    out: &mut Bytes,
     val: &Val,
     depth: u64,
     elem: &'m Term,
-) -> Result<Json, Memory>
-    ensures value { IfOk result (λ json. seen json ≡ array_told terms.now.decls.now terms.now.names.now depth elem.now val.now) }
+) -> Result<(), Memory>
+    ensures written { OnOk result (out.new ≡ out.old ++ compact_text (array_told terms.now.decls.now terms.now.names.now depth elem.now val.now)) }
 {
     match val {
-        Val::Array(elements) => elements_value(terms, alloc, elements.as_slice(), depth, elem),
-        _ => Ok(Json::null()),
+        Val::Array(elements) => write_elements(terms, alloc, out, elements.as_slice(), depth, elem),
+        _ => write_null(out),
     }
 }
 
 #[cycle(value)]
-fn elements_value<'m>(
+fn write_elements<'m>(
     terms: &Terms<'m>,
     alloc: Global,
+    out: &mut Bytes,
     values: &[Val],
     depth: u64,
     elem: &'m Term,
-) -> Result<Json, Memory>
-    ensures value { IfOk result (λ json. seen json ≡ elements_told terms.now.decls.now terms.now.names.now depth elem.now values.now) }
+) -> Result<(), Memory>
+    ensures written { OnOk result (out.new ≡ out.old ++ compact_text (elements_told terms.now.decls.now terms.now.names.now depth elem.now values.now)) }
 {
-    let mut things = Things::new(alloc);
-    for element in values {
-        things = things.with(value(terms, alloc, element, depth, elem)?)?;
+    out.push(b'[')?;
+    let mut later = false;
+    'elements: for element in values {
+        write_comma(out, later)?;
+        write_value(terms, alloc, out, element, depth, elem)?;
+        later = true;
     }
-    Ok(things.into_json())
+    out.push(b']')
 }

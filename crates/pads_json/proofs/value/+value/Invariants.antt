@@ -1,16 +1,20 @@
-use Rattle.std.proofs.Common.{◌≡◌, map, take, drop}
-use Rattle.serde_json.specs.Data.{no_members}
-use Rattle.pads_json.specs.Seen.{things, members}
-use Rattle.pads_json.specs.Values.{Shown, shown, parts_put}
+use Rattle.std.proofs.Common.{◌≡◌, ◌++◌, ◌∷◌, [], false, map, drop, List, ℕ}
+use Rattle.serde_json.specs.View.{items_of}
+use Rattle.serde_json.specs.Written.{items_text, members_text}
+use Rattle.pads_json.specs.declared.order.Key.{Key}
+use Rattle.pads_json.specs.Members.{members_at, numbers_of, part_told}
+use Rattle.pads_json.specs.Values.{Shown, shown}
 use Rattle.pads_json.proofs.value.+value.Given as goal
 
-abbrev pub invariant-elements_value-loop-element : goal.invariant-elements_value-loop-element
-invariant-elements_value-loop-element l =
-    things l.things ≡ map (λ (value : Shown). value l.depth l.elem) (map (shown l.terms.decls.now l.terms.names.now) (take l.element-index l.values))
-
--- what is put in already, then the rest, is the whole
-abbrev pub invariant-parts_value-loop-i : goal.invariant-parts_value-loop-i
-invariant-parts_value-loop-i l =
-    let named = parts_put l.terms.decls.now l.terms.names.now l.depth in
+-- what is written already, then the rest, is the whole
+abbrev pub invariant-write_elements-elements : goal.invariant-write_elements-elements
+invariant-write_elements-elements l =
+    let told = map (λ (value : Shown). value l.depth l.elem) in
     let values = map (shown l.terms.decls.now l.terms.names.now) l.values in
-    named (drop l.i l.parts) (drop l.i values) (members l.members) ≡ named l.parts values no_members
+    l.out ++ items_text l.later (items_of (told (drop l.element-index values))) ≡ (l.fn.out ++ 91 ∷ []) ++ items_text false (items_of (told values))
+
+-- what is written already, then the rest, is the whole
+abbrev pub invariant-write_parts-members : goal.invariant-write_parts-members
+invariant-write_parts-members l =
+    let members = λ (entries : List (Key × ℕ)). members_at (part_told l.terms.decls.now l.terms.names.now l.depth l.parts l.values) (numbers_of entries) in
+    l.out ++ members_text l.later (members l.key-iterator) ≡ (l.fn.out ++ 123 ∷ []) ++ members_text false (members l.initial.key-iterator)
