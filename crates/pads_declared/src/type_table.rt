@@ -75,12 +75,6 @@ impl TypeTable {
         self.types.len() as usize
     }
 
-    pub fn as_slice(&self) -> &[Declared]
-        ensures items { result.now ≡ self.now }
-    {
-        self.types.as_slice()
-    }
-
     /// A type by its number; `None` exactly past the end.
     pub fn get(&self, number: u64) -> Option<&Declared>
         ensures item { option_copied result ≡ slice_get self.now number }

@@ -68,7 +68,10 @@ fn operands_of_two_sorts(rt: HostRuntime) -> Result<(), Fail> {
     let right = name(rt.alloc(), b"s", 5)?;
     let e = after_one(rt.alloc(), BinaryOperator::EqualTo, right)?;
     let names = named(rt.alloc(), b"s", ExprSort::plain(Form::Text))?;
-    assert_eq!(rt; judged(rt.alloc(), &e, names.as_slice())?.fault, fault(5, 9));
+    assert_eq!(rt;
+        judged(rt.alloc(), &e, names.as_slice())?.fault,
+        fault(5, 9)
+    );
     Ok(())
 }
 
