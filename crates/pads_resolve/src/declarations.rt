@@ -43,10 +43,10 @@ fn decl_at(alloc: Global, site: &Site<'_>) -> Result<Decl, Memory>
 }
 
 /// The declarations of a description, in order.
-pub(crate) fn decls_of(
+pub(crate) fn decls_of<'a>(
     alloc: Global,
-    table: &PartTable<'_>,
-    env: &TypeTable,
+    table: &'a PartTable<'a>,
+    env: &'a TypeTable,
 ) -> Result<Items<Decl>, Memory>
     ensures made { IfOk result (λ made. made ≡ map resolution.decl_at (sites_among table.now env.now)) }
 {

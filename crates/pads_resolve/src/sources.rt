@@ -117,7 +117,7 @@ fn source_after(source: Source, site: &Site<'_>) -> Source
 
 /// The source of a description.
 #[tactic(auto, unfolding(pads_resolution::specs::Resolution::source_of))]
-pub(crate) fn source_of(table: &PartTable<'_>, env: &TypeTable) -> Source
+pub(crate) fn source_of<'a>(table: &'a PartTable<'a>, env: &'a TypeTable) -> Source
     ensures source { result ≡ resolution.source_of (sites_among table.now env.now) }
 {
     let decls = table.as_slice();
