@@ -13,9 +13,13 @@
     spellings      an enum whose labels have a spelling beside their name
     options        an array with so many options
     cases          a union that chooses among so many cases
+    choices        an enum of so many labels, and as many `Pis`, from its last label to its first
+    members        a struct of so many fields, and as many `.name`, from its last field to its first
+    few_choices    an enum of 4,000 labels, and so many `Pis` of them
+    few_members    a struct of 4,000 fields, and so many `.name` of them
 
-From 4,097 on a description breaks the rule on counts. It is read to its end all the same, since an earlier place may
-break another rule.
+From 4,097 on a description breaks the rule on counts, but for the last two kinds, which keep every rule and are resolved
+too. It is read to its end all the same, since an earlier place may break another rule.
 """
 import sys
 
@@ -94,7 +98,47 @@ def cases(count):
     yield '}\n};\n'
 
 
-KINDS = (declarations, later, unknown, one_name, fields, fields_again, labels, spellings, options, cases)
+FEW = 4_000
+AT_ONCE = 200
+
+
+def asked(uses):
+    """A record with conditions on its first field, so many to a condition that none is too high."""
+    yield 'Precord Pstruct r {\ne k;\n'
+    for start in range(0, len(uses), AT_ONCE):
+        yield 'Pip %s : %s;\n' % (name(start), '&&'.join(uses[start:start + AT_ONCE]))
+    yield '};\n'
+
+
+def an_enum(count):
+    yield 'Penum e {\n' + ',\n'.join(name(n) for n in range(count)) + '\n};\n'
+
+
+def a_struct(count):
+    yield 'Pstruct e {\n' + ''.join('Pip %s;\n' % name(n) for n in range(count)) + '};\n'
+
+
+def choices(count):
+    yield from an_enum(count)
+    yield from asked(['Pis(k,%s)' % name(count - 1 - n) for n in range(count)])
+
+
+def members(count):
+    yield from a_struct(count)
+    yield from asked(['k.%s<1' % name(count - 1 - n) for n in range(count)])
+
+
+def few_choices(count):
+    yield from an_enum(FEW)
+    yield from asked(['Pis(k,%s)' % name(FEW - 1 - n % FEW) for n in range(count)])
+
+
+def few_members(count):
+    yield from a_struct(FEW)
+    yield from asked(['k.%s<1' % name(FEW - 1 - n % FEW) for n in range(count)])
+
+
+KINDS = (declarations, later, unknown, one_name, fields, fields_again, labels, spellings, options, cases, choices, members, few_choices, few_members)
 
 
 def main():

@@ -1,3 +1,5 @@
 pub mod Lists
+pub mod MemberLemmas
 pub mod NameLemmas
+pub mod NumberLemmas
 pub mod TypeLemmas

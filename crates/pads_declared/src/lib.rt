@@ -6,6 +6,9 @@
 
 mod copies;
 mod environment;
+mod first_numbers;
+mod member_numbers;
+mod members;
 mod name_set;
 mod records;
 #[cfg(test)]
@@ -16,6 +19,8 @@ mod types;
 
 pub use copies::{add_branch, add_part, add_parts, branch_names, param_names};
 pub use environment::{declare, declared};
+pub use first_numbers::FirstNumbers;
+pub use members::{choice_position, element, has_choice, may_choose, member};
 pub use name_set::NameSet;
 pub use records::{is_precord, is_precord_type, is_psource, is_record_list, is_record_list_type};
 pub use trees::{branches_of, name_of, params_of};

@@ -1,5 +1,5 @@
 use super::*;
-use pads_ast::{Decl, DeclBody, DeclMark, Name, Struct};
+use pads_ast::{Decl, DeclBody, DeclMark, Enum, Label, Name, Struct};
 use pads_rules::ExprSort;
 use pads_sorts::Form;
 use pads_value::{Items, Memory};
@@ -48,6 +48,44 @@ fn later_types_mean_nothing(rt: HostRuntime) -> Result<(), Fail> {
     assert!(rt; matches!(meaning_of(&earlier, b"a"), Meaning::Earlier(_)));
     assert!(rt; matches!(meaning_of(&earlier, b"b"), Meaning::Undeclared));
     assert_eq!(rt; types.all().number_of(b"b"), Some(1));
+    Ok(())
+}
+
+fn label(alloc: Global, name: &[u8]) -> Result<Label, Memory> {
+    let text = Items::from_slice(alloc, name)?;
+    Ok(Label {
+        name: Name { text, at: 0 },
+        spelling: None,
+    })
+}
+
+/// The declared types of `Penum e { x, y, x };`
+fn labelled(alloc: Global) -> Result<TypeTable, Memory> {
+    let mut labels = Items::new(alloc);
+    labels.push(label(alloc, b"x")?)?;
+    labels.push(label(alloc, b"y")?)?;
+    labels.push(label(alloc, b"x")?)?;
+    let text = Items::from_slice(alloc, b"e")?;
+    let name = Name { text, at: 6 };
+    let mut decls = Items::new(alloc);
+    decls.push(Decl {
+        mark: None,
+        body: DeclBody::Enum(Enum { name, labels }),
+    })?;
+    declared(alloc, decls.as_slice())
+}
+
+#[test]
+fn the_first_label_of_a_name_counts(rt: HostRuntime) -> Result<(), Fail> {
+    let types = labelled(rt.alloc())?;
+    let of_enum = ExprSort::plain(Form::Enum(0));
+    assert_eq!(rt; choice_position(&types, 0, b"x"), Some(0));
+    assert_eq!(rt; choice_position(&types, 0, b"y"), Some(1));
+    assert_eq!(rt; choice_position(&types, 1, b"x"), None);
+    assert!(rt; has_choice(&types, of_enum, b"y"));
+    assert!(rt; !has_choice(&types, of_enum, b"z"));
+    assert_eq!(rt; member(&types, of_enum, b"x"), None);
+    assert_eq!(rt; element(&types, of_enum), ExprSort::Unknown);
     Ok(())
 }
 

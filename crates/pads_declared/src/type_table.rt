@@ -1,51 +1,40 @@
 //! The declared types of a description, found by their names.
 
-ghost use Rattle.std.specs.Prelude.{◌≡◌, ◌++◌, ◌∷◌, [], length, take, position, option_map, IfOk, OnOk};
+ghost use Rattle.std.specs.Prelude.{◌≡◌, ◌++◌, ◌∷◌, [], length, take, position, slice_get, option_map, IfOk};
+ghost use Rattle.std.specs.Option.{option_copied};
+ghost use Rattle.pads_rules.specs.Members.{content_of};
 ghost use Rattle.pads_rules.specs.Resolving as resolving;
 ghost use Rattle.pads_rules.specs.Texts.{same_text};
-ghost use Rattle.pads_declared.specs.Numbered.{NumbersFirst};
+ghost use Rattle.pads_declared.specs.Numbered.{member_position};
 
-use indexmap::IndexMap;
+use crate::FirstNumbers;
+use crate::member_numbers::number_members;
 use pads_rules::{Declared, Environment};
 use pads_value::{Items, Memory};
 use std::alloc::Global;
 use std::marker::Model;
 
-/// The declared types of a description in order. The first type of a name is found without a walk over the others.
-/// Contracts see it as the list of the types.
+/// The declared types of a description in order. The first type of a name is found without a walk over the others,
+/// and so is the first field, branch or label of a name in a type. Contracts see it as the list of the types.
 #[derive(Drop)]
 pub struct TypeTable {
     types: Environment,
     /// The number of the first type of each name.
-    numbers: IndexMap<Vec<u8>, usize>,
+    numbers: FirstNumbers,
+    /// For each type the numbers of its fields, branches or labels.
+    members: Items<FirstNumbers>,
 }
 
 impl Model for TypeTable {
     ghost use Rattle.std.specs.Prelude.{List};
     ghost use Rattle.pads_rules.specs.declared.declared.Declared.{Declared};
-    ghost use Rattle.pads_declared.specs.Numbered.{IsNumbered};
+    ghost use Rattle.pads_declared.specs.Numbered.{IsTable};
 
     ghost Value = { List Declared };
 
     ghost view = { λ table. table.types };
 
-    ghost invariant = { λ table. IsNumbered table.types table.numbers };
-}
-
-/// Gives a name its number, where it has none yet.
-fn number_first(
-    alloc: Global,
-    numbers: &mut IndexMap<Vec<u8>, usize>,
-    name: &[u8],
-    number: usize,
-) -> Result<(), Memory>
-    ensures numbered { OnOk result (NumbersFirst numbers.old name.now number numbers.new) }
-{
-    if numbers.contains_key(name) {
-        return Ok(());
-    }
-    numbers.insert(Vec::from_slice(alloc, name)?, number)?;
-    Ok(())
+    ghost invariant = { λ table. IsTable table.types table.numbers table.members };
 }
 
 impl TypeTable {
@@ -55,7 +44,8 @@ impl TypeTable {
     {
         TypeTable {
             types: Items::new(alloc),
-            numbers: IndexMap::new(alloc),
+            numbers: FirstNumbers::new(alloc),
+            members: Items::new(alloc),
         }
     }
 
@@ -66,11 +56,17 @@ impl TypeTable {
         let TypeTable {
             mut types,
             mut numbers,
+            mut members,
         } = self;
         let number = types.len() as usize;
-        number_first(alloc, &mut numbers, declared.name.as_slice(), number)?;
+        numbers.add(alloc, declared.name.as_slice(), number)?;
+        members.push(number_members(alloc, &declared.content)?)?;
         types.push(declared)?;
-        Ok(TypeTable { types, numbers })
+        Ok(TypeTable {
+            types,
+            numbers,
+            members,
+        })
     }
 
     pub fn len(&self) -> usize
@@ -79,10 +75,18 @@ impl TypeTable {
         self.types.len() as usize
     }
 
-    pub fn as_slice(&self) -> &[Declared]
-        ensures items { result.now ≡ self.now }
+    /// A type by its number; `None` exactly past the end.
+    pub fn get(&self, number: u64) -> Option<&Declared>
+        ensures item { option_copied result ≡ slice_get self.now number }
     {
-        self.types.as_slice()
+        self.types.get(number)
+    }
+
+    /// The number of the first field, branch or label of a name in a type of a number; `None` exactly where none has it.
+    pub fn member_position(&self, number: u64, name: &[u8]) -> Option<usize>
+        ensures first { result ≡ member_position (content_of self.now number) name.now }
+    {
+        self.members.get(number)?.number_of(name)
     }
 
     /// All types.
@@ -132,7 +136,7 @@ impl<'a> EarlierTypes<'a> {
         ensures first { result ≡ position (λ declared. same_text declared.name name.now) self.now }
     {
         let table = self.table;
-        let number = *table.numbers.get(name)?;
+        let number = table.numbers.number_of(name)?;
         if number < self.count {
             Some(number)
         } else {

@@ -9,11 +9,11 @@ ghost use Rattle.pads_judge.specs.Judgements as judgements;
 ghost use Rattle.pads_judge.specs.Scopes.{names_in_scope};
 
 use crate::judgement::{above, leaf, settled};
-use crate::members::{element, has_choice, may_choose, member};
 use crate::scope::{is_later, sort_in};
 use crate::{Judgement, Scope};
 use pads_ast::{BinaryOperator, Name, UnaryOperator, Word};
-use pads_rules::{CheckFault, Declared, ExprSort, fault_if, lesser};
+use pads_declared::{TypeTable, element, has_choice, may_choose, member};
+use pads_rules::{CheckFault, ExprSort, fault_if, lesser};
 use pads_sorts::Form;
 
 /// Whether a sort may be a number or a text.
@@ -157,7 +157,7 @@ pub(crate) fn unary(operator: UnaryOperator, at: u64, operand: Judgement) -> Jud
 }
 
 #[tactic(auto, unfolding(crate::specs::Judgements::member_of))]
-pub(crate) fn member_of(env: &[Declared], whole: Judgement, name: &Name) -> Judgement
+pub(crate) fn member_of(env: &TypeTable, whole: Judgement, name: &Name) -> Judgement
     ensures form { result ≡ judgements.member_of env.now whole name.now }
 {
     let height = above(whole.height);
@@ -179,7 +179,7 @@ pub(crate) fn member_of(env: &[Declared], whole: Judgement, name: &Name) -> Judg
 }
 
 #[tactic(auto, unfolding(crate::specs::Judgements::indexed))]
-pub(crate) fn indexed(env: &[Declared], whole: Judgement, index: Judgement) -> Judgement
+pub(crate) fn indexed(env: &TypeTable, whole: Judgement, index: Judgement) -> Judgement
     ensures form { result ≡ judgements.indexed env.now whole index }
 {
     let wrong_whole = fault_if(!is_array(whole.sort), 9, whole.first);
@@ -200,7 +200,7 @@ pub(crate) fn parenthesized(at: u64, inner: Judgement) -> Judgement
 }
 
 /// What is wrong with a value of which `Pis` asks for a name.
-fn no_choice(env: &[Declared], value: Judgement, name: &Name) -> Option<CheckFault>
+fn no_choice(env: &TypeTable, value: Judgement, name: &Name) -> Option<CheckFault>
     ensures wrong { result ≡ judgements.no_choice env.now value name.now }
 {
     let may = may_choose(value.sort);
@@ -212,7 +212,7 @@ fn no_choice(env: &[Declared], value: Judgement, name: &Name) -> Option<CheckFau
 }
 
 #[tactic(auto, unfolding(crate::specs::Judgements::pis))]
-pub(crate) fn pis(env: &[Declared], at: u64, value: Judgement, name: &Name) -> Judgement
+pub(crate) fn pis(env: &TypeTable, at: u64, value: Judgement, name: &Name) -> Judgement
     ensures form { result ≡ judgements.pis env.now at value name.now }
 {
     let fault = lesser(value.fault, no_choice(env, value, name));

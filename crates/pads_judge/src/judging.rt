@@ -9,13 +9,14 @@ use crate::forms::{
 use crate::judgement::leaf;
 use crate::{Judgement, Scope};
 use pads_ast::{Expr, Link, Step};
-use pads_rules::{Declared, ExprSort};
+use pads_declared::TypeTable;
+use pads_rules::ExprSort;
 use pads_sorts::Form;
 
 /// What is known of an expression with the declared types of its description, in a scope. It takes no memory.
 #[cycle(judge)]
 #[tactic(auto, using(std::proofs::lemmas::Grind::common_steps, crate::proofs::FormLemmas::forms))]
-pub fn judge(env: &[Declared], e: &Expr, scope: &Scope<'_, '_>) -> Judgement
+pub fn judge(env: &TypeTable, e: &Expr, scope: &Scope<'_, '_>) -> Judgement
     ensures judged { result ≡ told (judged env.now e.now (names_in_scope scope.now)) }
 {
     match e {
@@ -62,7 +63,7 @@ pub fn judge(env: &[Declared], e: &Expr, scope: &Scope<'_, '_>) -> Judgement
 /// Operators with their operands behind a first operand, nested to the left.
 #[cycle(judge)]
 fn chain(
-    env: &[Declared],
+    env: &TypeTable,
     first: Judgement,
     links: &[Link<Expr>],
     scope: &Scope<'_, '_>,
@@ -78,7 +79,7 @@ fn chain(
 
 /// Names and indexes behind an atom, nested to the left.
 #[cycle(judge)]
-fn post(env: &[Declared], base: Judgement, steps: &[Step<Expr>], scope: &Scope<'_, '_>) -> Judgement
+fn post(env: &TypeTable, base: Judgement, steps: &[Step<Expr>], scope: &Scope<'_, '_>) -> Judgement
     ensures steps { result ≡ fold (stepped env.now (names_in_scope scope.now)) base steps.now }
 {
     let mut whole = base;

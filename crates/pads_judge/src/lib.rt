@@ -6,7 +6,6 @@
 mod forms;
 mod judgement;
 mod judging;
-mod members;
 mod scope;
 #[cfg(test)]
 mod tests;

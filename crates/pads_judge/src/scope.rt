@@ -7,6 +7,7 @@ ghost use Rattle.pads_judge.specs.Scopes as scopes;
 ghost use Rattle.pads_judge.specs.Scopes.{names_in_scope};
 
 use pads_ast::Part;
+use pads_declared::same_text;
 use pads_rules::{ExprSort, Named};
 
 /// The names that an expression may use. A name that hides others lives on the stack.
@@ -19,15 +20,8 @@ pub enum Scope<'s, 'a> {
     Hiding(&'a [u8], ExprSort, &'s Scope<'s, 'a>),
 }
 
-#[tactic(auto, unfolding(pads_rules::specs::Texts::same_text))]
-pub(crate) fn same_text(first: &[u8], second: &[u8]) -> bool
-    ensures same { result ≡ texts.same_text first.now second.now }
-{
-    first == second
-}
-
 /// The sort of a name: the first of that text gives it.
-pub(crate) fn sort_of(names: &[Named], text: &[u8]) -> Option<ExprSort>
+fn sort_of(names: &[Named], text: &[u8]) -> Option<ExprSort>
     ensures first { result ≡ texts.sort_of names.now text.now }
 {
     let named = names

@@ -1,14 +1,16 @@
 use super::*;
 use pads_ast::{BinaryOperator, Expr, Link, Links, Name, Number, Word};
+use pads_declared::declared;
 use pads_rules::{CheckFault, ExprSort, Named};
 use pads_sorts::Form;
 use pads_value::{Bytes, Items, Memory};
 use std::alloc::Global;
 use std::test::Fail;
 
-/// An expression that uses no names but those given.
-fn judged(e: &Expr, names: &[Named]) -> Judgement {
-    judge(&[], e, &Scope::Names(names, &[]))
+/// An expression that uses no names but those given, in a description without declarations.
+fn judged(alloc: Global, e: &Expr, names: &[Named]) -> Result<Judgement, Memory> {
+    let env = declared(alloc, &[])?;
+    Ok(judge(&env, e, &Scope::Names(names, &[])))
 }
 
 fn fault(at: u64, rule: u8) -> Option<CheckFault> {
@@ -42,7 +44,7 @@ fn after_one(alloc: Global, operator: BinaryOperator, operand: Expr) -> Result<E
 #[test]
 fn a_name_that_is_not_in_scope(rt: HostRuntime) -> Result<(), Fail> {
     let e = name(rt.alloc(), b"n", 7)?;
-    let j = judged(&e, &[]);
+    let j = judged(rt.alloc(), &e, &[])?;
     assert_eq!(rt; j.fault, fault(7, 5));
     assert_eq!(rt; j.sort, ExprSort::Unknown);
     assert_eq!(rt; j.height, 1);
@@ -54,7 +56,7 @@ fn a_name_that_is_not_in_scope(rt: HostRuntime) -> Result<(), Fail> {
 fn an_operand_of_a_wrong_sort(rt: HostRuntime) -> Result<(), Fail> {
     let right = Expr::Truth { value: true, at: 4 };
     let e = after_one(rt.alloc(), BinaryOperator::Plus, right)?;
-    let j = judged(&e, &[]);
+    let j = judged(rt.alloc(), &e, &[])?;
     assert_eq!(rt; j.fault, fault(4, 9));
     assert_eq!(rt; j.height, 2);
     Ok(())
@@ -66,7 +68,10 @@ fn operands_of_two_sorts(rt: HostRuntime) -> Result<(), Fail> {
     let right = name(rt.alloc(), b"s", 5)?;
     let e = after_one(rt.alloc(), BinaryOperator::EqualTo, right)?;
     let names = named(rt.alloc(), b"s", ExprSort::plain(Form::Text))?;
-    assert_eq!(rt; judged(&e, names.as_slice()).fault, fault(5, 9));
+    assert_eq!(rt;
+        judged(rt.alloc(), &e, names.as_slice())?.fault,
+        fault(5, 9)
+    );
     Ok(())
 }
 
@@ -75,7 +80,7 @@ fn operands_of_two_sorts(rt: HostRuntime) -> Result<(), Fail> {
 fn brackets_are_the_first_token_and_no_node(rt: HostRuntime) -> Result<(), Fail> {
     let inner = after_one(rt.alloc(), BinaryOperator::LessThan, number(5))?;
     let e = Expr::paren(rt.alloc(), 0, inner)?;
-    let j = judged(&e, &[]);
+    let j = judged(rt.alloc(), &e, &[])?;
     assert_eq!(rt; j.sort, ExprSort::plain(Form::Truth));
     assert_eq!(rt; j.height, 2);
     assert_eq!(rt; j.fault, None);
@@ -91,7 +96,7 @@ fn a_body_that_is_no_truth(rt: HostRuntime) -> Result<(), Fail> {
     };
     let body = name(rt.alloc(), b"i", 23)?;
     let e = Expr::pforall(rt.alloc(), 0, variable, number(15), number(18), body)?;
-    assert_eq!(rt; judged(&e, &[]).fault, fault(23, 10));
+    assert_eq!(rt; judged(rt.alloc(), &e, &[])?.fault, fault(23, 10));
     Ok(())
 }
 
@@ -100,7 +105,7 @@ fn a_body_that_is_no_truth(rt: HostRuntime) -> Result<(), Fail> {
 fn a_length(rt: HostRuntime) -> Result<(), Fail> {
     let word = Expr::Word(Word::Char { point: 97, at: 5 });
     let e = Expr::plen(rt.alloc(), 0, word)?;
-    let j = judged(&e, &[]);
+    let j = judged(rt.alloc(), &e, &[])?;
     assert_eq!(rt; j.sort, ExprSort::plain(Form::Num));
     assert_eq!(rt; j.fault, None);
     Ok(())

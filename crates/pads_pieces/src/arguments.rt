@@ -23,7 +23,7 @@ fn expression(
 ) -> Option<CheckFault>
     ensures told { result ≡ expression_told (stands site.now).env (names_in_scope scope.now) (meant meaning.entry) number e.now }
 {
-    let judgement = judge(site.env.as_slice(), e, scope);
+    let judgement = judge(site.env, e, scope);
     let agrees = agrees_with(param_sort(meaning, number), judgement.sort);
     lesser(judgement.fault, fault_if(!agrees, 8, judgement.first))
 }

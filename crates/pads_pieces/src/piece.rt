@@ -54,7 +54,7 @@ pub fn computed(
 ) -> Option<CheckFault>
     ensures told { result ≡ piece_told (stands site.now) (pieces.Computed (names_in_scope scope.now) of.now value.now) }
 {
-    let judgement = judge(site.env.as_slice(), value, scope);
+    let judgement = judge(site.env, value, scope);
     let computable = is_computable(site, of);
     let agrees = type_sort(&earlier(site), of).agrees(judgement.sort);
     let wrong = fault_if(!computable || !agrees, 18, of.name.at);
@@ -67,7 +67,7 @@ pub fn computed(
 pub fn condition(site: &Site<'_>, scope: &Scope<'_, '_>, e: &Expr) -> Option<CheckFault>
     ensures told { result ≡ piece_told (stands site.now) (pieces.Condition (names_in_scope scope.now) e.now) }
 {
-    let judgement = judge(site.env.as_slice(), e, scope);
+    let judgement = judge(site.env, e, scope);
     lesser(
         judgement.fault,
         fault_if(!judgement.sort.is_truth(), 10, judgement.first),
@@ -79,7 +79,7 @@ pub fn condition(site: &Site<'_>, scope: &Scope<'_, '_>, e: &Expr) -> Option<Che
 pub fn size(site: &Site<'_>, scope: &Scope<'_, '_>, e: &Expr) -> Option<CheckFault>
     ensures told { result ≡ piece_told (stands site.now) (pieces.Size (names_in_scope scope.now) e.now) }
 {
-    let judgement = judge(site.env.as_slice(), e, scope);
+    let judgement = judge(site.env, e, scope);
     lesser(
         judgement.fault,
         fault_if(!judgement.sort.is_num(), 9, judgement.first),
@@ -108,7 +108,7 @@ pub fn choice(
 ) -> Result<Option<CheckFault>, Memory>
     ensures told { IfOk result (λ fault. fault ≡ piece_told (stands site.now) (pieces.Choice (names_in_scope scope.now) e.now (keys_of cases.now))) }
 {
-    let judgement = judge(site.env.as_slice(), e, scope);
+    let judgement = judge(site.env, e, scope);
     let wrong = fault_if(!is_num_or_text(judgement.sort), 12, judgement.first);
     let sorts = lesser(wrong, keys(judgement.sort, cases));
     let again = keys_again(alloc, cases)?;

@@ -1,9 +1,8 @@
 -- Steps of loops over what a declaration holds.
 use Rattle.std.proofs.Common.{◌≡◌, ◌∙◌, sym, ap, refl, ℕ, suc, ◌+◌, ◌<◌, ◌≤◌, List, [], ◌∷◌, ◌++◌, length, map, fold, drop, get_or, append_assoc, add-one}
-use Rattle.std.proofs.lemmas.List.{append-nil, drop_all}
+use Rattle.std.proofs.lemmas.List.{append-nil, drop_all, drop_more}
 use Rattle.pads_ast.specs.declared.decl.Decl.{Decl as WrittenDecl}
 use Rattle.pads_ast.specs.declared.decl.Part.{Part as WrittenPart}
-use Rattle.pads_pieces.proofs.Steps.{left}
 use Rattle.pads_resolved.specs.declared.decl.Decl.{Decl}
 use Rattle.pads_resolved.specs.declared.decl.Part.{Part}
 use Rattle.pads_resolved.specs.declared.decl.Source.{Source}
@@ -14,6 +13,10 @@ use Rattle.pads_resolution.specs.Bodies.{part_at, parts_at}
 use Rattle.pads_resolution.specs.Resolution.{decl_at, source_after}
 use Rattle.pads_resolution.specs.Scopes.{Scope, field, names_after, fields_after}
 use Rattle.pads_resolve.specs.Places.{place_of, sites_from}
+
+-- one element more
+left : {X : Type 0} (xs : List X) (i : ℕ) (x : X) → i < length xs → x ≡ get_or xs i x → drop i xs ≡ x ∷ drop (i + 1) xs
+left xs i x there is = drop_more xs i x there ∙ ap (λ y. y ∷ drop (i + 1) xs) (sym is)
 
 abbrev front : {X : Type 0} → List X → List X
 front [] = []

@@ -1,15 +1,15 @@
 //! Arrays.
 
 ghost use Rattle.std.specs.Prelude.{◌≡◌, map, IfOk};
-ghost use Rattle.pads_pieces.specs.Told.{stands};
+ghost use Rattle.pads_resolve.specs.Places.{stands};
 ghost use Rattle.pads_resolution.specs.Bodies as bodies;
 ghost use Rattle.pads_resolve_expr.specs.Scopes.{names_in_scope};
 
 use crate::expressions::{expr_at, option_at};
 use crate::literals::literal_of;
+use crate::site::Site;
 use crate::types::type_at;
 use pads_ast::{Array as WrittenArray, ArrayOption as WrittenOption};
-use pads_pieces::Site;
 use pads_resolution::{Stands, Visible};
 use pads_resolve_expr::{Scope, points};
 use pads_resolved::{Array, ArrayOption};

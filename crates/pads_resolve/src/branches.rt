@@ -1,7 +1,7 @@
 //! Fields of structs and branches of unions.
 
 ghost use Rattle.std.specs.Prelude.{◌≡◌, ◌++◌, ◌∷◌, [], IfOk, OnOk};
-ghost use Rattle.pads_pieces.specs.Told.{stands};
+ghost use Rattle.pads_resolve.specs.Places.{stands};
 ghost use Rattle.pads_resolution.specs.Bodies as bodies;
 ghost use Rattle.pads_resolution.specs.Scopes.{variable};
 ghost use Rattle.pads_rules.specs.Pieces as pieces;
@@ -9,9 +9,9 @@ ghost use Rattle.pads_rules.specs.Resolving.{branch_named};
 
 use crate::expressions::option_at;
 use crate::scopes::add_variable;
+use crate::site::{Site, earlier};
 use crate::types::type_at;
 use pads_ast::Branch as WrittenBranch;
-use pads_pieces::{Site, earlier};
 use pads_resolution::Visible;
 use pads_resolve_expr::{Scope, text};
 use pads_resolved::Branch;

@@ -1,19 +1,18 @@
 //! Declarations.
 
 ghost use Rattle.std.specs.Prelude.{◌≡◌, map, IfOk};
-ghost use Rattle.pads_pieces.specs.Told.{stands};
+ghost use Rattle.pads_resolve.specs.Places.{stands};
 ghost use Rattle.pads_resolution.specs.Resolution as resolution;
 ghost use Rattle.pads_resolve.specs.Places.{sites_among};
 
 use crate::bodies::body_at;
 use crate::scopes::variables;
+use crate::site::{Site, earlier};
 use crate::sources::role_of;
 use crate::types::params_of;
-use pads_ast::Decl as WrittenDecl;
 use pads_declared::{TypeTable, name_of, params_of as params_in};
-use pads_pieces::{Site, earlier};
 use pads_resolution::Visible;
-use pads_resolve_expr::text;
+use pads_resolve_expr::{PartTable, text};
 use pads_resolved::Decl;
 use pads_value::{Items, Memory};
 use std::alloc::Global;
@@ -44,17 +43,18 @@ fn decl_at(alloc: Global, site: &Site<'_>) -> Result<Decl, Memory>
 }
 
 /// The declarations of a description, in order.
-pub(crate) fn decls_of(
+pub(crate) fn decls_of<'a>(
     alloc: Global,
-    decls: &[WrittenDecl],
-    env: &TypeTable,
+    table: &'a PartTable<'a>,
+    env: &'a TypeTable,
 ) -> Result<Items<Decl>, Memory>
-    ensures made { IfOk result (λ made. made ≡ map resolution.decl_at (sites_among decls.now env.now)) }
+    ensures made { IfOk result (λ made. made ≡ map resolution.decl_at (sites_among table.now env.now)) }
 {
+    let decls = table.as_slice();
     let mut made = Items::new(alloc);
     for number in 0..decls.len() {
         let site = Site {
-            decls,
+            decls: table,
             env,
             number,
             decl: &decls[number],

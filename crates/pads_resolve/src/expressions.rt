@@ -1,12 +1,12 @@
 //! Expressions in declarations.
 
 ghost use Rattle.std.specs.Prelude.{◌≡◌, IfOk};
-ghost use Rattle.pads_pieces.specs.Told.{stands};
+ghost use Rattle.pads_resolve.specs.Places.{stands};
 ghost use Rattle.pads_resolution.specs.Bodies as bodies;
 ghost use Rattle.pads_resolve_expr.specs.Scopes.{names_in_scope};
 
+use crate::site::Site;
 use pads_ast::Expr as Tree;
-use pads_pieces::Site;
 use pads_resolution::ResolvedExpr;
 use pads_resolve_expr::{Scope, Types, resolve_expr};
 use pads_resolved::Expr;
@@ -25,7 +25,7 @@ pub(crate) fn expr_at(
 {
     let types = Types {
         decls: site.decls,
-        env: site.env.as_slice(),
+        env: site.env,
     };
     let ResolvedExpr { expr, sort: _ } = resolve_expr(alloc, &types, e, scope)?;
     Ok(expr)

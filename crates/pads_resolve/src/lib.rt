@@ -14,6 +14,7 @@ mod labels;
 mod literals;
 mod resolving;
 mod scopes;
+mod site;
 mod sources;
 mod structs;
 #[cfg(test)]

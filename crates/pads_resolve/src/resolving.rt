@@ -7,6 +7,7 @@ use crate::declarations::decls_of;
 use crate::sources::source_of;
 use pads_ast::Ast;
 use pads_declared::declared;
+use pads_resolve_expr::PartTable;
 use pads_resolved::Description;
 use pads_value::Memory;
 use std::alloc::Global;
@@ -19,7 +20,8 @@ pub fn resolve(alloc: Global, tree: &Ast) -> Result<Description, Memory>
 {
     let decls = tree.decls.as_slice();
     let types = declared(alloc, decls)?;
-    let source = source_of(decls, &types);
-    let decls = decls_of(alloc, decls, &types)?;
+    let table = PartTable::new(alloc, decls)?;
+    let source = source_of(&table, &types);
+    let decls = decls_of(alloc, &table, &types)?;
     Ok(Description { decls, source })
 }

@@ -2,14 +2,14 @@
 
 ghost use Rattle.std.specs.Prelude.{◌≡◌, slice_get};
 ghost use Rattle.std.specs.Option.{option_copied};
-ghost use Rattle.pads_pieces.specs.Told.{stands};
+ghost use Rattle.pads_resolve.specs.Places.{stands};
 ghost use Rattle.pads_resolution.specs.Resolution as resolution;
 ghost use Rattle.pads_resolve.specs.Places.{sites_among};
 
+use crate::site::{Site, earlier};
 use pads_ast::{Decl as WrittenDecl, DeclBody, DeclMark, Part, Type};
 use pads_declared::{EarlierTypes, TypeTable, is_precord, is_psource, is_record_list};
-use pads_pieces::{Site, earlier};
-use pads_resolve_expr::{number_of, short};
+use pads_resolve_expr::{PartTable, number_of, short};
 use pads_resolved::{Role, Source};
 
 /// What a declaration is for.
@@ -56,7 +56,7 @@ fn decl(decls: &[WrittenDecl], number: u16) -> Option<&WrittenDecl>
 fn list_record(site: &Site<'_>, list: u16) -> u16
     ensures number { result ≡ resolution.list_record (stands site.now) list }
 {
-    match decl(site.decls, list) {
+    match decl(site.decls.as_slice(), list) {
         Some(d) => listed_record(&site.env.before(list as usize), &d.body),
         None => 0,
     }
@@ -117,13 +117,14 @@ fn source_after(source: Source, site: &Site<'_>) -> Source
 
 /// The source of a description.
 #[tactic(auto, unfolding(pads_resolution::specs::Resolution::source_of))]
-pub(crate) fn source_of(decls: &[WrittenDecl], env: &TypeTable) -> Source
-    ensures source { result ≡ resolution.source_of (sites_among decls.now env.now) }
+pub(crate) fn source_of<'a>(table: &'a PartTable<'a>, env: &'a TypeTable) -> Source
+    ensures source { result ≡ resolution.source_of (sites_among table.now env.now) }
 {
+    let decls = table.as_slice();
     let mut source = plain_source(0);
     for number in 0..decls.len() {
         let site = Site {
-            decls,
+            decls: table,
             env,
             number,
             decl: &decls[number],

@@ -1,7 +1,7 @@
 //! Structs.
 
 ghost use Rattle.std.specs.Prelude.{◌≡◌, IfOk, OnOk};
-ghost use Rattle.pads_pieces.specs.Told.{stands};
+ghost use Rattle.pads_resolve.specs.Places.{stands};
 ghost use Rattle.pads_resolution.specs.Bodies as bodies;
 ghost use Rattle.pads_resolution.specs.Scopes as scopes;
 ghost use Rattle.pads_resolved.specs.declared.decl.Part.TheVariants as part_form;
@@ -12,11 +12,11 @@ use crate::branches::branch_in;
 use crate::expressions::expr_at;
 use crate::literals::literal_of;
 use crate::scopes::{add_variable, with_fields};
+use crate::site::{Site, earlier};
 use crate::types::computed_of;
 use pads_ast::{
     Expr as Tree, Name, Part as WrittenPart, Struct as WrittenStruct, Type as WrittenType,
 };
-use pads_pieces::{Site, earlier};
 use pads_resolution::Visible;
 use pads_resolve_expr::{Scope, text};
 use pads_resolved::{Expr, Part, Struct};

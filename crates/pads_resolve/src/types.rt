@@ -1,17 +1,17 @@
 //! Types with their arguments, and the parameters of declarations.
 
 ghost use Rattle.std.specs.Prelude.{◌≡◌, ◌++◌, map, IfOk, OnOk};
-ghost use Rattle.pads_pieces.specs.Told.{stands};
+ghost use Rattle.pads_resolve.specs.Places.{stands};
 ghost use Rattle.pads_resolution.specs.Types as types;
 ghost use Rattle.pads_resolve_expr.specs.Scopes.{names_in_scope};
 ghost use Rattle.pads_rules.specs.Trees as trees;
 
 use crate::expressions::expr_at;
+use crate::site::{Site, earlier};
 use pads_ast::{Arg, Param as WrittenParam, Type as WrittenType};
 use pads_base_names::{BaseName, ByteOrder, NamedCoding, base_name};
 use pads_bases::Order;
 use pads_declared::{EarlierTypes, type_sort};
-use pads_pieces::{Site, earlier};
 use pads_resolve_expr::{Scope, short, sort_known, text};
 use pads_resolved::{BaseType, Computed, Expr, Param, Params, Prefix, Type, TypeName};
 use pads_value::{Items, Memory};

@@ -1,14 +1,14 @@
 //! Unions.
 
 ghost use Rattle.std.specs.Prelude.{◌≡◌, map, option_map, IfOk, OnOk};
-ghost use Rattle.pads_pieces.specs.Told.{stands};
+ghost use Rattle.pads_resolve.specs.Places.{stands};
 ghost use Rattle.pads_resolution.specs.Bodies as bodies;
 
 use crate::branches::branch_in;
 use crate::expressions::expr_at;
 use crate::literals::const_of;
+use crate::site::Site;
 use pads_ast::{Branch as WrittenBranch, Case as WrittenCase, Switch as WrittenSwitch, UnionBody};
-use pads_pieces::Site;
 use pads_resolution::Visible;
 use pads_resolve_expr::Scope;
 use pads_resolved::{Branch, Case, Switch, Union};

@@ -8,6 +8,7 @@ mod names;
 mod nodes;
 mod numbers;
 mod operators;
+mod part_table;
 mod resolving;
 mod scope;
 #[cfg(test)]
@@ -16,6 +17,7 @@ mod texts;
 
 pub use names::sort_known;
 pub use numbers::{number_of, short};
+pub use part_table::PartTable;
 pub use resolving::resolve_expr;
 pub use scope::{Scope, Types};
 pub use texts::{points, text};

@@ -7,16 +7,17 @@ ghost use Rattle.pads_rules.specs.Trees.{points_of};
 ghost use Rattle.pads_resolution.specs.Expressions as expressions;
 ghost use Rattle.pads_resolution.specs.Expressions.{as_sort};
 
-use crate::members::{element, is_struct, member_sort};
+use crate::members::{is_struct, member_sort};
 use crate::names::sort_known;
 use crate::numbers::{choice_number, member_number};
 use crate::operators::{operator, result_of, unary_gives};
 use crate::scope::Types;
 use crate::texts::{points, text};
 use pads_ast::{BinaryOperator, Number, UnaryOperator, Word};
+use pads_declared::{TypeTable, element};
 use pads_resolution::ResolvedExpr;
 use pads_resolved::Expr;
-use pads_rules::{Declared, ExprSort};
+use pads_rules::ExprSort;
 use pads_sorts::Form;
 use pads_value::{Boxed, Memory};
 use std::alloc::Global;
@@ -173,7 +174,7 @@ fn element_as(
 #[tactic(auto, unfolding(pads_resolution::specs::Expressions::indexed))]
 pub(crate) fn indexed(
     alloc: Global,
-    env: &[Declared],
+    env: &TypeTable,
     whole: ResolvedExpr,
     index: ResolvedExpr,
 ) -> Result<ResolvedExpr, Memory>
@@ -186,7 +187,7 @@ pub(crate) fn indexed(
 #[tactic(auto, unfolding(pads_resolution::specs::Expressions::pis))]
 pub(crate) fn pis(
     alloc: Global,
-    env: &[Declared],
+    env: &TypeTable,
     value: ResolvedExpr,
     name: &[u8],
 ) -> Result<ResolvedExpr, Memory>

@@ -1,16 +1,13 @@
 //! The numbers of declarations, fields, branches and labels.
 
-ghost use Rattle.std.specs.Prelude.{◌≡◌, position, slice_get};
-ghost use Rattle.std.specs.Option.{option_copied};
+ghost use Rattle.std.specs.Prelude.{◌≡◌};
 ghost use Rattle.pads_rules.specs.Members.{content_of};
-ghost use Rattle.pads_rules.specs.Texts as text_words;
 ghost use Rattle.pads_resolution.specs.Numbers as numbers;
 
-use crate::scope::{Types, same_text};
-use pads_ast::{Decl, DeclBody, Part};
-use pads_rules::{Content, Declared, ExprSort, Named};
+use crate::{PartTable, Types};
+use pads_declared::{TypeTable, choice_position, same_text};
+use pads_rules::ExprSort;
 use pads_sorts::Form;
-use pads_value::Bytes;
 
 /// A number in 16 bits. No accepted description comes to a greater one than 65,535.
 pub fn short(number: usize) -> u16
@@ -29,112 +26,18 @@ pub fn number_of(found: Option<usize>) -> u16
     }
 }
 
-fn has_name(part: &Part, text: &[u8]) -> bool
-    ensures named { result ≡ numbers.has_name text.now part.now }
-{
-    match part {
-        Part::Literal(_) => false,
-        Part::Pcompute { name, .. } => same_text(name.text.as_slice(), text),
-        Part::Field(branch) => same_text(branch.name.text.as_slice(), text),
-    }
-}
-
-fn part_position(parts: &[Part], name: &[u8]) -> Option<usize>
-    ensures first { result ≡ position (numbers.has_name name.now) parts.now }
-{
-    parts.iter().position(|part| has_name(part, name))
-}
-
-#[tactic(auto, unfolding(pads_resolution::specs::Numbers::part_number))]
-fn part_number(parts: &[Part], name: &[u8]) -> u16
-    ensures number { result ≡ numbers.part_number parts.now name.now }
-{
-    number_of(part_position(parts, name))
-}
-
-fn field_in(body: &DeclBody, name: &[u8]) -> u16
-    ensures number { result ≡ numbers.field_in body.now name.now }
-{
-    match body {
-        DeclBody::Struct(d) => part_number(d.parts.as_slice(), name),
-        _ => 0,
-    }
-}
-
-/// A declaration by its number.
-fn decl(decls: &[Decl], number: u64) -> Option<&Decl>
-    ensures found { option_copied result ≡ slice_get decls.now number }
-{
-    decls.get(number as usize)
-}
-
 /// A field of a declared struct.
-#[tactic(auto, unfolding(pads_resolution::specs::Numbers::field_number))]
-fn field_number(decls: &[Decl], number: u64, name: &[u8]) -> u16
+fn field_number(decls: &PartTable<'_>, number: u64, name: &[u8]) -> u16
     ensures number { result ≡ numbers.field_number decls.now number name.now }
 {
-    match decl(decls, number) {
-        Some(d) => field_in(&d.body, name),
-        None => 0,
-    }
-}
-
-fn branch_position(branches: &[Named], name: &[u8]) -> Option<usize>
-    ensures first { result ≡ position (λ branch. text_words.same_text branch.text name.now) branches.now }
-{
-    branches
-        .iter()
-        .position(|branch| same_text(branch.text.as_slice(), name))
-}
-
-#[tactic(auto, unfolding(pads_resolution::specs::Numbers::branch_number))]
-fn branch_number(branches: &[Named], name: &[u8]) -> u16
-    ensures number { result ≡ numbers.branch_number branches.now name.now }
-{
-    number_of(branch_position(branches, name))
-}
-
-fn label_position(labels: &[Bytes], name: &[u8]) -> Option<usize>
-    ensures first { result ≡ position (λ label. text_words.same_text label name.now) labels.now }
-{
-    labels
-        .iter()
-        .position(|label| same_text(label.as_slice(), name))
-}
-
-#[tactic(auto, unfolding(pads_resolution::specs::Numbers::label_number))]
-fn label_number(labels: &[Bytes], name: &[u8]) -> u16
-    ensures number { result ≡ numbers.label_number labels.now name.now }
-{
-    number_of(label_position(labels, name))
-}
-
-/// A branch of a union or a label of an enum.
-fn choice_in(content: &Content, name: &[u8]) -> u16
-    ensures number { result ≡ numbers.choice_in content.now name.now }
-{
-    match content {
-        Content::Branches(branches) => branch_number(branches.as_slice(), name),
-        Content::Labels(labels) => label_number(labels.as_slice(), name),
-        _ => 0,
-    }
-}
-
-/// A declared type by its number.
-fn declared(env: &[Declared], number: u64) -> Option<&Declared>
-    ensures found { option_copied result ≡ slice_get env.now number }
-{
-    env.get(number as usize)
+    number_of(decls.part_position(number, name))
 }
 
 /// A branch or label of a declared type.
-fn choice_of(env: &[Declared], number: u64, name: &[u8]) -> u16
+fn choice_of(env: &TypeTable, number: u64, name: &[u8]) -> u16
     ensures number { result ≡ numbers.choice_in (content_of env.now number) name.now }
 {
-    match declared(env, number) {
-        Some(declared) => choice_in(&declared.content, name),
-        None => 0,
-    }
+    number_of(choice_position(env, number, name))
 }
 
 fn optional_number(name: &[u8]) -> u16
@@ -143,7 +46,7 @@ fn optional_number(name: &[u8]) -> u16
     if same_text(name, b"none") { 1 } else { 0 }
 }
 
-fn plain_choice_number(env: &[Declared], form: Form, name: &[u8]) -> u16
+fn plain_choice_number(env: &TypeTable, form: Form, name: &[u8]) -> u16
     ensures number { result ≡ numbers.plain_choice_number env.now form name.now }
 {
     match form {
@@ -154,7 +57,7 @@ fn plain_choice_number(env: &[Declared], form: Form, name: &[u8]) -> u16
 
 /// What `Pis` asks for: a branch of a union, a label of an enum or a branch of an optional.
 #[tactic(auto, unfolding(pads_resolution::specs::Numbers::choice_number))]
-pub(crate) fn choice_number(env: &[Declared], sort: ExprSort, name: &[u8]) -> u16
+pub(crate) fn choice_number(env: &TypeTable, sort: ExprSort, name: &[u8]) -> u16
     ensures number { result ≡ numbers.choice_number env.now sort name.now }
 {
     match sort {

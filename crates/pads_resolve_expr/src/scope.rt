@@ -1,17 +1,17 @@
 ghost use Rattle.std.specs.Prelude.{◌≡◌, option_map, find};
-ghost use Rattle.pads_rules.specs.Texts as text_words;
 ghost use Rattle.pads_resolution.specs.Scopes.{known_in};
 ghost use Rattle.pads_resolve_expr.specs.Scopes.{names_in_scope};
 
-use pads_ast::Decl;
+use crate::PartTable;
+use pads_declared::{TypeTable, same_text};
 use pads_resolution::{Known, Stands, Visible};
-use pads_rules::{Declared, ExprSort};
+use pads_rules::ExprSort;
 
 /// The declarations of a description, and its declared types.
 #[derive(Clone, Copy)]
 pub struct Types<'a> {
-    pub decls: &'a [Decl],
-    pub env: &'a [Declared],
+    pub decls: &'a PartTable<'a>,
+    pub env: &'a TypeTable,
 }
 
 /// The names that an expression may use. A name that hides others lives on the stack.
@@ -21,13 +21,6 @@ pub enum Scope<'s, 'a> {
     Names(&'a [Visible]),
     /// A name that hides others.
     Hiding(&'a [u8], Stands, ExprSort, &'s Scope<'s, 'a>),
-}
-
-#[tactic(auto, unfolding(pads_rules::specs::Texts::same_text))]
-pub(crate) fn same_text(first: &[u8], second: &[u8]) -> bool
-    ensures same { result ≡ text_words.same_text first.now second.now }
-{
-    first == second
 }
 
 /// What is known of a name among some: the first of that text gives it.

@@ -1,5 +1,6 @@
 use super::*;
 use pads_ast::{Expr, Word};
+use pads_declared::declared;
 use pads_resolved::Expr as Resolved;
 use pads_rules::ExprSort;
 use pads_sorts::Form;
@@ -10,9 +11,11 @@ use std::test::Fail;
 fn the_length_of_a_text(rt: HostRuntime) -> Result<(), Fail> {
     let word = Expr::Word(Word::Char { point: 97, at: 5 });
     let e = Expr::plen(rt.alloc(), 0, word)?;
+    let decls = PartTable::new(rt.alloc(), &[])?;
+    let env = declared(rt.alloc(), &[])?;
     let types = Types {
-        decls: &[],
-        env: &[],
+        decls: &decls,
+        env: &env,
     };
     let made = resolve_expr(rt.alloc(), &types, &e, &Scope::Names(&[]))?;
     assert_eq!(rt; made.sort, ExprSort::plain(Form::Num));

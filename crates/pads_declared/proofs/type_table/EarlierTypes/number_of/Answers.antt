@@ -1,5 +1,4 @@
-use Rattle.std.proofs.Common.{◌∙◌, sym, ap}
-use Rattle.std.specs.Option.{option_copied}
+use Rattle.std.proofs.Common.{◌∙◌, sym}
 use Rattle.pads_declared.proofs.TypeLemmas.{none-among, there-among, past-among}
 use Rattle.pads_declared.proofs.type_table.EarlierTypes.number_of.Goals as goal
 
@@ -7,19 +6,19 @@ pub returns-in_err-number : goal.returns-in_err-number
 returns-in_err-number c = record {
   first =
       rw (← c.self.view_is, ← c.table.view_is)
-      (c.from_residual.ensures ∙ none-among c.table.inside.types c.table.inside.numbers c.self.inside.count c.args.name.now c.table.invariant (sym (ap option_copied c.in_err-number.was) ∙ c.get.ensures.value));
+      (c.from_residual.ensures ∙ none-among c.table.inside.types c.table.inside.numbers c.self.inside.count c.args.name.now c.table.invariant.named (sym c.in_err-number.was ∙ c.number_of.ensures.number));
 }
 
 pub returns-then-number-self : goal.returns-then-number-self
 returns-then-number-self c = record {
   first =
       rw (← c.self.view_is, ← c.table.view_is)
-      (there-among c.table.inside.types c.table.inside.numbers c.self.inside.count c.args.name.now c.in_ok-number.field-0.now c.table.invariant (sym (ap option_copied c.in_ok-number.was) ∙ c.get.ensures.value) c.if-number-self.true);
+      (there-among c.table.inside.types c.table.inside.numbers c.self.inside.count c.args.name.now c.in_ok-number.number c.table.invariant.named (sym c.in_ok-number.was ∙ c.number_of.ensures.number) c.if-number-self.true);
 }
 
 pub returns-else-number-self : goal.returns-else-number-self
 returns-else-number-self c = record {
   first =
       rw (← c.self.view_is, ← c.table.view_is)
-      (past-among c.table.inside.types c.table.inside.numbers c.self.inside.count c.args.name.now c.in_ok-number.field-0.now c.table.invariant (sym (ap option_copied c.in_ok-number.was) ∙ c.get.ensures.value) c.if-number-self.false);
+      (past-among c.table.inside.types c.table.inside.numbers c.self.inside.count c.args.name.now c.in_ok-number.number c.table.invariant.named (sym c.in_ok-number.was ∙ c.number_of.ensures.number) c.if-number-self.false);
 }

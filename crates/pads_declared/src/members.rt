@@ -1,60 +1,56 @@
 //! What a sort's fields, branches, labels and elements are.
 
-ghost use Rattle.std.specs.Prelude.{◌≡◌, slice_get};
-ghost use Rattle.std.specs.Option.{option_copied};
+ghost use Rattle.std.specs.Prelude.{◌≡◌, option_map, slice_get};
 ghost use Rattle.pads_rules.specs.Members as members;
 ghost use Rattle.pads_rules.specs.Members.{content_of, names_in, has_choice_in, element_in};
 ghost use Rattle.pads_rules.specs.Texts as texts;
-ghost use Rattle.pads_rules.specs.Texts.{is_among};
+ghost use Rattle.pads_declared.specs.Numbered.{choice_position};
 
-use crate::scope::{same_text, sort_of};
-use pads_rules::{Content, Declared, ExprSort};
+use crate::TypeTable;
+use crate::types::same_text;
+use pads_rules::{Content, ExprSort};
 use pads_sorts::{Form, Sort};
-use pads_value::Bytes;
 
-/// A declared type by its number.
-fn declared(env: &[Declared], number: u64) -> Option<&Declared>
-    ensures found { option_copied result ≡ slice_get env.now number }
+/// The sort of a field or branch by its number.
+fn sort_at(content: &Content, number: usize) -> Option<ExprSort>
+    ensures sort { result ≡ option_map (λ one. one.sort) (slice_get (names_in content.now) number) }
 {
-    env.get(number as usize)
-}
-
-/// The field or branch of that name in a declared type.
-fn sort_in(env: &[Declared], number: u64, name: &[u8]) -> Option<ExprSort>
-    ensures found { result ≡ texts.sort_of (names_in (content_of env.now number)) name.now }
-{
-    match &declared(env, number)?.content {
-        Content::Fields(fields) => sort_of(fields.as_slice(), name),
-        Content::Branches(branches) => sort_of(branches.as_slice(), name),
+    match content {
+        Content::Fields(named) | Content::Branches(named) => Some(named.get(number as u64)?.sort),
         _ => None,
     }
 }
 
-fn is_label(labels: &[Bytes], name: &[u8]) -> bool
-    ensures among { result ≡ is_among labels.now name.now }
+/// The field or branch of that name in a declared type.
+fn sort_in(env: &TypeTable, number: u64, name: &[u8]) -> Option<ExprSort>
+    ensures found { result ≡ texts.sort_of (names_in (content_of env.now number)) name.now }
 {
-    labels.iter().any(|label| same_text(name, label.as_slice()))
+    let member = env.member_position(number, name)?;
+    sort_at(&env.get(number)?.content, member)
 }
 
-/// Whether a declared type has a branch or label of that name.
-fn has_choice_in(env: &[Declared], number: u64, name: &[u8]) -> bool
-    ensures found { result ≡ members.has_choice_in (content_of env.now number) name.now }
+/// The number of the first branch or label of a name in a type of a number; `None` exactly where none has it.
+pub fn choice_position(env: &TypeTable, number: u64, name: &[u8]) -> Option<usize>
+    ensures first { result ≡ choice_position (content_of env.now number) name.now }
 {
-    let Some(declared) = declared(env, number) else {
-        return false;
-    };
-    match &declared.content {
-        Content::Branches(branches) => sort_of(branches.as_slice(), name).is_some(),
-        Content::Labels(labels) => is_label(labels.as_slice(), name),
-        _ => false,
+    match &env.get(number)?.content {
+        Content::Branches(_) | Content::Labels(_) => env.member_position(number, name),
+        _ => None,
     }
 }
 
+/// Whether a declared type has a branch or label of that name.
+fn has_choice_in(env: &TypeTable, number: u64, name: &[u8]) -> bool
+    ensures found { result ≡ members.has_choice_in (content_of env.now number) name.now }
+{
+    choice_position(env, number, name).is_some()
+}
+
 /// The sort of a declared array's elements.
-fn element_in(env: &[Declared], number: u64) -> ExprSort
+fn element_in(env: &TypeTable, number: u64) -> ExprSort
     ensures found { result ≡ members.element_in (content_of env.now number) }
 {
-    let Some(declared) = declared(env, number) else {
+    let Some(declared) = env.get(number) else {
         return ExprSort::Unknown;
     };
     match &declared.content {
@@ -79,7 +75,7 @@ fn optional_branch(sort: Sort, name: &[u8]) -> Option<ExprSort>
     None
 }
 
-fn plain_member(env: &[Declared], form: Form, name: &[u8]) -> Option<ExprSort>
+fn plain_member(env: &TypeTable, form: Form, name: &[u8]) -> Option<ExprSort>
     ensures found { result ≡ members.plain_member env.now form name.now }
 {
     match form {
@@ -89,7 +85,7 @@ fn plain_member(env: &[Declared], form: Form, name: &[u8]) -> Option<ExprSort>
 }
 
 /// What `.name` gives of a sort, where it has such a field or branch.
-pub(crate) fn member(env: &[Declared], sort: ExprSort, name: &[u8]) -> Option<ExprSort>
+pub fn member(env: &TypeTable, sort: ExprSort, name: &[u8]) -> Option<ExprSort>
     ensures found { result ≡ members.member env.now sort name.now }
 {
     match sort {
@@ -106,7 +102,7 @@ pub(crate) fn member(env: &[Declared], sort: ExprSort, name: &[u8]) -> Option<Ex
 }
 
 /// What an index gives of a sort.
-pub(crate) fn element(env: &[Declared], sort: ExprSort) -> ExprSort
+pub fn element(env: &TypeTable, sort: ExprSort) -> ExprSort
     ensures found { result ≡ members.element env.now sort }
 {
     match sort {
@@ -121,7 +117,7 @@ pub(crate) fn element(env: &[Declared], sort: ExprSort) -> ExprSort
 }
 
 /// Whether `Pis` may ask of a sort.
-pub(crate) fn may_choose(sort: ExprSort) -> bool
+pub fn may_choose(sort: ExprSort) -> bool
     ensures choice { result ≡ members.may_choose sort }
 {
     match sort {
@@ -133,7 +129,7 @@ pub(crate) fn may_choose(sort: ExprSort) -> bool
     }
 }
 
-fn plain_choice(env: &[Declared], form: Form, name: &[u8]) -> bool
+fn plain_choice(env: &TypeTable, form: Form, name: &[u8]) -> bool
     ensures found { result ≡ members.plain_choice env.now form name.now }
 {
     match form {
@@ -143,7 +139,7 @@ fn plain_choice(env: &[Declared], form: Form, name: &[u8]) -> bool
 }
 
 /// Whether a sort has a branch or label of that name.
-pub(crate) fn has_choice(env: &[Declared], sort: ExprSort, name: &[u8]) -> bool
+pub fn has_choice(env: &TypeTable, sort: ExprSort, name: &[u8]) -> bool
     ensures found { result ≡ members.has_choice env.now sort name.now }
 {
     match sort {
