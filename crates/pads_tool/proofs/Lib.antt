@@ -12,3 +12,4 @@ pub mod Halting
 pub mod Texts
 pub mod Lines
 pub mod Statuses
+pub mod Unread

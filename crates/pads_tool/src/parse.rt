@@ -1,7 +1,9 @@
 ghost use Rattle.std.specs.Prelude.{◌≡◌, ◌≤◌, ◌++◌, ◌&&◌, length, OnOk};
 ghost use Rattle.pads_orders.specs.Orders.{IsWithinLimits};
 ghost use Rattle.pads_tool.specs.Describing.{described};
+ghost use Rattle.pads_tool.specs.Endings.{status_of};
 ghost use Rattle.pads_tool.specs.Parsing.{LinesGive, ParseGives, ending_of};
+ghost use Rattle.pads_tool.specs.Running.{IsBeforeInput};
 ghost use Rattle.pads_trans.specs.Modules.{contents};
 ghost use Rattle.pads_value.specs.Header.{is_ok_class};
 ghost use Rattle.pads_value.specs.declared.descriptor.Pd.{out-Pd};
@@ -120,6 +122,7 @@ pub(crate) fn parse<F: Files, S: Source, K: Sink>(
     ensures gives { ParseGives (F.content files.old name.now) coding cutting (S.left source.old) (S.left source.new)
         (K.written out.old) (K.written out.new) (F.faults files.old) (F.faults files.new)
         (S.faults source.old) (S.faults source.new) (K.faults out.old) (K.faults out.new) result }
+    ensures untouched { IsBeforeInput (status_of result) → source.new ≡ source.old }
 {
     match described_in(alloc, files, name, coding) {
         Ok(module) => write_lines(alloc, &Lines { module }, cutting, source, out),

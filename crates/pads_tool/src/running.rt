@@ -30,6 +30,7 @@ fn perform<F: Files, S: Source, K: Sink>(
         (F.faults files.old) (F.faults files.new) (S.faults source.old) (S.faults source.new) (K.faults out.old) (K.faults out.new)
         order.now result }
     ensures unread { IsCheck order.now → source.new ≡ source.old }
+    ensures untouched { IsBeforeInput (status_of result) → source.new ≡ source.old }
 {
     match order {
         Order::Check { description, .. } => check(alloc, description.as_str(), files, out),
@@ -61,6 +62,7 @@ fn obey<F: Files, S: Source, K: Sink>(
         (F.faults files.old) (F.faults files.new) (S.faults source.old) (S.faults source.new) (K.faults out.old) (K.faults out.new)
         result }
     ensures unread { Ordered words.now IsCheck → source.new ≡ source.old }
+    ensures untouched { IsBeforeInput (status_of result) → source.new ≡ source.old }
 {
     match read_order(alloc, words) {
         Ok(order) => perform(alloc, &order, files, source, out),
@@ -110,8 +112,9 @@ pub fn run<F: Files, S: Source, K: Sink, E: Sink>(
     ensures ahead { result ≡ status.WriteFault → Ordered words.now (StaysNear (F.content files.old) (S.left source.old)
         (S.left source.new) (K.written out.old) (K.written out.new)) }
 
-    // `check` reads no source.
+    // `check` reads no source, and no run does that ends at its words or at the description.
     ensures unread { Ordered words.now IsCheck → source.new ≡ source.old }
+    ensures untouched { IsBeforeInput result → source.new ≡ source.old }
 
     // The last words go to the notes, and nothing else does. Those of a refusal tell the verdict on the description.
     ensures last_words { (ending : Ending) × (result ≡ status_of ending) × HasReason words.now (F.content files.old) ending

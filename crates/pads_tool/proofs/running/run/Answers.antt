@@ -1,3 +1,5 @@
+use Rattle.std.proofs.Common.{subst}
+use Rattle.pads_tool.specs.Running.{IsBeforeInput}
 use Rattle.pads_tool.specs.declared.status.Status.TheVariants as status
 use Rattle.pads_tool.proofs.Statuses.{at-status, usage-is, fair, nothing, never-limit, reason}
 use Rattle.pads_tool.proofs.running.run.Goals as goal
@@ -85,6 +87,9 @@ returns-clause-memory g c = λ same. at-status c.args.words.now (g.F.Files.conte
     (g.K.Sink.written c.obey-ending.new.out) (g.F.Files.faults c.args.files.now) (g.F.Files.faults c.obey-ending.new.files) (g.S.Source.faults c.args.source.now)
     (g.S.Source.faults c.obey-ending.new.source) (g.K.Sink.faults c.args.out.now) (g.K.Sink.faults c.obey-ending.new.out)
     c.obey-ending.result c.close.result status.Memory c.close.ensures.status same c.obey-ending.ensures.gives
+
+pub returns-clause-untouched : goal.returns-clause-untouched
+returns-clause-untouched g c = λ before. c.obey-ending.ensures.untouched (subst IsBeforeInput c.close.ensures.status before)
 
 pub returns-clause-last_words : goal.returns-clause-last_words
 returns-clause-last_words g c = (
