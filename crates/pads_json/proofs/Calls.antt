@@ -1,8 +1,8 @@
 -- Where calls lead, one call after another.
-use Rattle.std.proofs.Common.{◌≡◌, ap, refl, ℕ, zero, suc, ◌-◌, ◌<◌, Bool, List, Option, Some, None, option_and_then, slice_get, arith}
+use Rattle.std.proofs.Common.{◌≡◌, refl, ℕ, zero, suc, ◌-◌, ◌<◌, Bool, List, Some, None, slice_get, arith}
 use Rattle.pads_calc.specs.declared.decl.Decl.{Decl}
 use Rattle.pads_calc.specs.declared.term.Term.{Term, out-Term}
-use Rattle.pads_json.specs.Forms.{Form, called, through, form_from}
+use Rattle.pads_json.specs.Forms.{called, through, form_from}
 
 pub form_here : (decls : List Decl) (absorbs : Bool) (depth : ℕ) (t : Term) → called (out-Term t) ≡ None
     → form_from decls absorbs depth t ≡ Some (record { depth = depth; term = t })

@@ -1,7 +1,7 @@
 -- The faults of a node, layer by layer.
 use Rattle.std.proofs.Common.{◌≡◌, ◌∙◌, sym, ap, refl, ℕ, zero, suc, ◌+◌, ◌<◌, true, List, [], ◌∷◌, ◌++◌, map, length, drop, get_or, arith, Option, Some, None}
 use Rattle.std.proofs.lemmas.List.{append-nil, append_assoc}
-use Rattle.pads_value.specs.declared.descriptor.Pd.{Pd, map-Pd, out-Pd, fold_out-Pd}
+use Rattle.pads_value.specs.declared.descriptor.Pd.{Pd, out-Pd, fold_out-Pd}
 use Rattle.pads_value.specs.declared.value.Val.{Val}
 use Rattle.pads_calc.specs.declared.decl.Decl.{Decl}
 use Rattle.pads_calc.specs.declared.term.Term.{Term}

@@ -1,13 +1,11 @@
 -- A value's JSON, layer by layer.
-use Rattle.std.proofs.Common.{◌≡◌, ◌∙◌, sym, ap, refl, ℕ, zero, suc, ◌<◌, false, List, [], ◌∷◌, ◌++◌, map, length, drop, get_or, arith}
-use Rattle.serde_json.specs.Data.{Data, Members}
-use Rattle.pads_value.specs.declared.value.Val.{Val, Val-F, map-Val, out-Val, fold_out-Val}
+use Rattle.std.proofs.Common.{◌≡◌, ap, refl, ℕ, false, List}
+use Rattle.pads_value.specs.declared.value.Val.{Val, Val-F, map-Val, fold_out-Val}
 use Rattle.pads_calc.specs.declared.decl.Decl.{Decl}
-use Rattle.pads_calc.specs.declared.term.Part.{Part}
 use Rattle.pads_calc.specs.declared.term.Term.{Term}
 use Rattle.pads_json.specs.Forms.{form_at}
 use Rattle.pads_json.specs.Shapes.{num_in, text_in, label_in}
-use Rattle.pads_json.specs.Values.{Shown, shown, value_step, in_form, layer, parts_put, put_named}
+use Rattle.pads_json.specs.Values.{Shown, shown, value_step, in_form, layer}
 
 pub num_mapped : {A B : Type 0} (f : A → B) (x : Val-F A) → num_in (map-Val A B f x) ≡ num_in x
 num_mapped f Val-F.Unit = refl

@@ -1,6 +1,6 @@
 -- Texts between quotes, one byte or code point after another.
-use Rattle.std.proofs.Common.{◌≡◌, ◌∙◌, sym, ap, ap₂, refl, ℕ, zero, suc, ◌<◌, ◌≤◌, ◌+◌, ◌/◌, ◌%◌, nat_lt, Bool, true, false, ◌&&◌, ◌==◌, not, ltb-true, List, [], ◌∷◌, ◌++◌, length, take, drop, get_or, encode_utf8, encode_utf8_all, arith}
-use Rattle.std.proofs.lemmas.Bool.{eqb-false, ltb-false, le-ltb, lt-ltb, not-true, and_parts}
+use Rattle.std.proofs.Common.{◌≡◌, ◌∙◌, sym, ap, ap₂, refl, ℕ, zero, suc, ◌<◌, ◌≤◌, ◌+◌, ◌/◌, ◌%◌, true, ltb-true, List, [], ◌∷◌, ◌++◌, length, take, get_or, encode_utf8, encode_utf8_all, arith}
+use Rattle.std.proofs.lemmas.Bool.{eqb-false, le-ltb, lt-ltb, not-true, and_parts}
 use Rattle.std.proofs.lemmas.List.{append-nil, append_assoc}
 use Rattle.std.proofs.lemmas.Str.{encode_ascii}
 use Rattle.std.specs.List.{list_all}

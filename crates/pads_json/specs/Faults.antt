@@ -5,7 +5,7 @@ use Rattle.serde_json.specs.Data.{Data, number, unsigned, string, array, object,
 use Rattle.json.specs.Print.{escape}
 use Rattle.serde_json.specs.Written.{compact_text}
 use Rattle.pads_value.specs.declared.cause.Cause.{Cause}
-use Rattle.pads_value.specs.declared.descriptor.Pd.{Pd, Pd-F, fold-Pd, map-Pd, out-Pd}
+use Rattle.pads_value.specs.declared.descriptor.Pd.{Pd, Pd-F, fold-Pd, out-Pd}
 use Rattle.pads_value.specs.declared.descriptor.Span.{Span}
 use Rattle.pads_value.specs.declared.value.Val.{Val}
 use Rattle.pads_value.specs.Causes.{name_of}

@@ -1,5 +1,5 @@
 -- A number as JSON: from -2^63 to 2^64 - 1, the whole numbers that readers of JSON take for such.
-use Rattle.std.specs.Prelude.{ℕ, ℤ, pos, negsuc, ◌^◌, nat_lt, if◌then◌else◌}
+use Rattle.std.specs.Prelude.{ℤ, pos, negsuc, ◌^◌, nat_lt, if◌then◌else◌}
 use Rattle.serde_json.specs.Data.{Data, null, number, unsigned, negative}
 
 abbrev pub integer : ℤ → Data

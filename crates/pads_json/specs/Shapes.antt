@@ -1,6 +1,6 @@
 -- What a value is, shape by shape; none where it has another shape.
-use Rattle.std.specs.Prelude.{ℕ, ℤ, List, [], Option, Some, None}
-use Rattle.pads_value.specs.declared.value.Val.{Val, Val-F, out-Val}
+use Rattle.std.specs.Prelude.{ℕ, ℤ, List, Option, Some, None}
+use Rattle.pads_value.specs.declared.value.Val.{Val-F}
 
 module _ {A : Type 0} where
   abbrev pub num_in : Val-F A → Option ℤ

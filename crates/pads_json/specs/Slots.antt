@@ -1,8 +1,8 @@
 -- The kids that a term gives to a node: for kid number p the step to it, its value and its term. A struct
 -- has a kid for each part, a union one for the branch chosen, an array one for each element. All other
 -- kids aren't the term's. Where the node's value has another form, a kid's value isn't known.
-use Rattle.std.specs.Prelude.{ℕ, zero, suc, List, [], Option, Some, None, slice_get, unwrap_or, option_and_then}
-use Rattle.pads_value.specs.declared.value.Val.{Val, Val-F, out-Val}
+use Rattle.std.specs.Prelude.{ℕ, zero, suc, List, [], Option, Some, None, slice_get, unwrap_or}
+use Rattle.pads_value.specs.declared.value.Val.{Val, out-Val}
 use Rattle.pads_calc.specs.declared.term.Arm.{Arm}
 use Rattle.pads_calc.specs.declared.term.Case.{Case}
 use Rattle.pads_calc.specs.declared.term.Part.{Part}

@@ -1,5 +1,5 @@
 -- The branches of a term, and names by their numbers.
-use Rattle.std.specs.Prelude.{ℕ, List, [], map, Option, Some, None, option_map, unwrap_or, slice_get}
+use Rattle.std.specs.Prelude.{ℕ, List, [], Option, None, option_map, unwrap_or, slice_get}
 use Rattle.pads_calc.specs.declared.term.Arm.{Arm}
 use Rattle.pads_calc.specs.declared.term.Case.{Case}
 use Rattle.pads_calc.specs.declared.term.Part.{Part}

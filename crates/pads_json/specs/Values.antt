@@ -2,8 +2,8 @@
 -- texts of their code points, a struct is an object of its named parts, of which the last counts where
 -- some share a name, a union is an object of one key, the branch's name, and an array is an array. A
 -- value of another form than its term's is null.
-use Rattle.std.specs.Prelude.{ℕ, ℤ, zero, suc, List, [], ◌∷◌, map, length, Bool, false, nat_eq, Option, Some, None, if◌then◌else◌, encode_utf8_all, slice_get}
-use Rattle.serde_json.specs.Data.{Data, null, string, array, object, Members, no_members, member, put}
+use Rattle.std.specs.Prelude.{ℕ, ℤ, List, [], ◌∷◌, map, length, false, nat_eq, Option, Some, None, if◌then◌else◌, encode_utf8_all, slice_get}
+use Rattle.serde_json.specs.Data.{Data, null, string, array, object, Members, no_members, put}
 use Rattle.serde_json.specs.View.{items_of}
 use Rattle.pads_code.specs.declared.Coding.TheVariants.{Ascii}
 use Rattle.pads_bases.specs.Addresses.{ip_spelling}

@@ -1,4 +1,4 @@
-use Rattle.std.proofs.Common.{rules, ◌≡◌, ◌∙◌, ◌++◌, List, Option, None, sym, ap, option_map, arith}
+use Rattle.std.proofs.Common.{◌∙◌, ◌++◌, List, Option, None, sym, ap, option_map, arith}
 use Rattle.std.proofs.lemmas.List.{append-nil}
 use Rattle.std.proofs.lemmas.Result.{on_ok_weaker}
 use Rattle.std.specs.Option.{option_copied}

@@ -1,4 +1,4 @@
-use Rattle.std.proofs.Common.{rules, ◌≡◌, ◌∙◌, sym, ap, arith, slice_get}
+use Rattle.std.proofs.Common.{◌∙◌, sym, ap, arith, slice_get}
 use Rattle.std.specs.Option.{option_copied}
 use Rattle.pads_calc.specs.declared.term.Term.{out-Term}
 use Rattle.pads_calc.specs.declared.term.Term.TheVariants.{outs-Call}

@@ -1,4 +1,4 @@
-use Rattle.std.proofs.Common.{rules, ◌≡◌, ◌∙◌, sym, ap}
+use Rattle.std.proofs.Common.{◌∙◌, sym, ap}
 use Rattle.pads_calc.specs.declared.term.Term.{out-Term}
 use Rattle.pads_calc.specs.declared.term.Term.TheVariants.{outs-Guard, outs-Scan, outs-Absorb}
 use Rattle.pads_json.proofs.Passing.{next, through_inside, next_absorb}

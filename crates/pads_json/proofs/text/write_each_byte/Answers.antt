@@ -1,4 +1,4 @@
-use Rattle.std.proofs.Common.{rules, ◌≡◌, ◌∙◌, ◌++◌, sym, ap, arith}
+use Rattle.std.proofs.Common.{arith}
 use Rattle.pads_json.proofs.Texts.{byte_next}
 use Rattle.pads_json.proofs.text.write_each_byte.Goals as goal
 

@@ -1,4 +1,4 @@
-use Rattle.std.proofs.Common.{rules, ◌≡◌, ◌∙◌, ◌++◌, sym, ap, arith}
+use Rattle.std.proofs.Common.{arith}
 use Rattle.pads_json.proofs.Texts.{point_next}
 use Rattle.pads_json.proofs.text.write_each_point.Goals as goal
 

@@ -1,4 +1,4 @@
-use Rattle.std.proofs.Common.{rules, ◌≡◌, ◌∙◌, ◌++◌, sym, ap, arith}
+use Rattle.std.proofs.Common.{arith}
 use Rattle.pads_json.proofs.Texts.{low_written, high_written}
 use Rattle.pads_json.proofs.text.write_point.Goals as goal
 

@@ -1,4 +1,4 @@
-use Rattle.std.proofs.Common.{rules, ◌≡◌, ◌∙◌, ◌++◌, ◌∷◌, sym, ap, false, List, ℕ, encode_utf8_all, append_assoc, arith, []}
+use Rattle.std.proofs.Common.{◌∙◌, ◌++◌, ◌∷◌, sym, ap, List, ℕ, encode_utf8_all, append_assoc, arith, []}
 use Rattle.std.proofs.lemmas.Result.{on_ok_weaker}
 use Rattle.serde_json.specs.Data.{Data, object}
 use Rattle.serde_json.specs.Written.{compact_text, members_text}
