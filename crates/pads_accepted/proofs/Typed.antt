@@ -1,5 +1,5 @@
 -- An expression without violations resolves to a well-sorted one of the sort that the rules give it.
-use Rattle.std.proofs.Common.{◌≡◌, ◌∙◌, sym, ap, refl, subst, arith, ⊎_elim, ℕ, pos, zero, suc, max, ◌-◌, Bool, true, false, not, cond, ◌&&◌, ◌==◌, if◌then◌else◌, nat_eq, nat_lt, List, [], ◌∷◌, ◌++◌, map, flat_map, find, codes, Option, Some, None, is_some, option_map, option_and_then, eqb-true, ne_eqb}
+use Rattle.std.proofs.Common.{◌≡◌, ◌∙◌, sym, ap, refl, subst, ℕ, pos, suc, ◌-◌, Bool, true, false, cond, nat_eq, List, [], ◌∷◌, ◌++◌, map, flat_map, find, Option, Some, None, option_map, option_and_then}
 use lib.Pointwise.{pointwise}
 use Rattle.pads_ast.specs.declared.decl.Decl.{Decl as WrittenDecl}
 use Rattle.pads_ast.specs.declared.expr.BinaryOperator.{BinaryOperator}

@@ -1,5 +1,5 @@
 -- Members, elements, choices and lengths: an expression without violations resolves to a well-sorted one of the judged sort.
-use Rattle.std.proofs.Common.{◌≡◌, ◌∙◌, sym, ap, refl, subst, arith, ⊎_elim, ℕ, pos, zero, suc, max, ◌-◌, Bool, true, false, not, cond, ◌&&◌, ◌==◌, if◌then◌else◌, nat_eq, nat_lt, List, [], ◌∷◌, ◌++◌, map, flat_map, find, codes, Option, Some, None, is_some, option_map, option_and_then, eqb-true, ne_eqb}
+use Rattle.std.proofs.Common.{◌≡◌, ◌∙◌, sym, ap, refl, subst, arith, ℕ, zero, suc, ◌-◌, Bool, true, false, not, ◌&&◌, ◌==◌, if◌then◌else◌, nat_lt, List, [], ◌++◌, codes, Option, Some, None, is_some, option_and_then, ne_eqb}
 use Rattle.pads_ast.specs.declared.decl.Decl.{Decl as WrittenDecl}
 use Rattle.pads_ast.specs.declared.name.Name.{Name}
 use Rattle.pads_sorts.specs.declared.sort.Form.{Form}

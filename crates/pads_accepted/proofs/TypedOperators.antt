@@ -1,5 +1,5 @@
 -- Names and operators: an expression without violations resolves to a well-sorted one of the judged sort.
-use Rattle.std.proofs.Common.{◌≡◌, ◌∙◌, sym, ap, refl, subst, arith, ⊎_elim, ℕ, pos, zero, suc, max, ◌-◌, Bool, true, false, not, cond, ◌&&◌, ◌==◌, if◌then◌else◌, nat_eq, nat_lt, List, [], ◌∷◌, ◌++◌, map, flat_map, find, codes, Option, Some, None, is_some, option_map, option_and_then, eqb-true, ne_eqb}
+use Rattle.std.proofs.Common.{◌≡◌, ◌∙◌, sym, ap, refl, subst, ⊎_elim, ℕ, suc, max, ◌-◌, Bool, true, false, not, ◌&&◌, ◌==◌, if◌then◌else◌, nat_eq, List, [], ◌∷◌, ◌++◌, map, find, codes, Option, Some, None, option_map, option_and_then, eqb-true}
 use lib.Pointwise.{pointwise, bytes_decides}
 use Rattle.pads_ast.specs.declared.decl.Decl.{Decl as WrittenDecl}
 use Rattle.pads_ast.specs.declared.expr.BinaryOperator.{BinaryOperator}
@@ -19,7 +19,7 @@ use Rattle.pads_resolution.specs.Expressions.{sort_known, as_sort, operator_of, 
 use Rattle.pads_resolution.specs.Scopes.{Scope as Names, known_in}
 use Rattle.pads_rules.specs.Faults.{breaks, when}
 use Rattle.pads_rules.specs.Judging as judging
-use Rattle.pads_rules.specs.Judging.{Judged, judged, judgement, takes, wrong_sort, no_truth, unary_takes, unary_gives, is_text_or_array}
+use Rattle.pads_rules.specs.Judging.{Judged, judgement, takes, wrong_sort, no_truth, unary_takes, unary_gives, is_text_or_array}
 use Rattle.pads_rules.specs.Members.{element}
 use Rattle.pads_rules.specs.Sorts as rules
 use Rattle.pads_rules.specs.Sorts.{accepts, agree, is_num_form, is_array_form}

@@ -1,5 +1,5 @@
 -- Parts, branches and labels by their numbers.
-use Rattle.std.proofs.Common.{◌≡◌, ◌∙◌, sym, ap, refl, ℕ, List, Option, Some, None, position, slice_get}
+use Rattle.std.proofs.Common.{◌≡◌, ◌∙◌, refl, ℕ, List, Option, Some, None, position, slice_get}
 use Rattle.pads_ast.specs.declared.decl.Decl.{Decl}
 use Rattle.pads_ast.specs.declared.decl.DeclBody.{DeclBody}
 use Rattle.pads_ast.specs.declared.decl.DeclBody.TheVariants as body
@@ -9,7 +9,7 @@ use Rattle.pads_declared.specs.declared.first_numbers.FirstNumbers.{FirstNumbers
 use Rattle.pads_declared.specs.Numbered.{number_in, choice_position, IsNumbered}
 use Rattle.pads_declared.proofs.NumberLemmas.{pairs-none, pairs-at}
 use Rattle.pads_resolution.specs.Numbers.{number_of, has_name, field_in, field_number, part_number, branch_number, label_number, choice_in}
-use Rattle.pads_resolve_expr.specs.Parts.{parts_in, parts_of, part_position, AreNumbered}
+use Rattle.pads_resolve_expr.specs.Parts.{parts_in, part_position, AreNumbered}
 
 abbrev pub Keeps : Decl → FirstNumbers → Type 0
 Keeps decl first = IsNumbered has_name (parts_in decl.body) first

@@ -1,5 +1,5 @@
 -- Endings at which the source wasn't reached.
-use Rattle.std.proofs.Common.{◌≡◌, sym, subst, inl, inr, ℕ, List, Option}
+use Rattle.std.proofs.Common.{sym, subst, inl, inr, ℕ, List, Option}
 use Rattle.pads_tool.specs.Describing.{Description}
 use Rattle.pads_tool.specs.Endings.{status_of}
 use Rattle.pads_tool.specs.Parsing.{LinesGive}

@@ -1,5 +1,5 @@
 -- The term of each part of a well-sorted description is well-sorted: types, constraints, the bodies of structs and unions.
-use Rattle.std.proofs.Common.{◌≡◌, ◌∙◌, sym, ap, refl, subst, ⊎_elim, ℕ, Bool, true, if◌then◌else◌, ◌&&◌, ◌||◌, List, [], ◌∷◌, ◌++◌, map, Option, Some, None, option_map, slice_get, append_assoc}
+use Rattle.std.proofs.Common.{◌≡◌, ◌∙◌, sym, ap, refl, subst, ⊎_elim, ℕ, Bool, true, if◌then◌else◌, ◌&&◌, ◌||◌, List, [], ◌∷◌, ◌++◌, map, Option, Some, None, slice_get, append_assoc}
 use Rattle.std.specs.List.{flat_map, list_all}
 use Rattle.pads_calc.specs.declared.term.Arm.{Arm}
 use Rattle.pads_calc.specs.declared.term.Case.{Case}

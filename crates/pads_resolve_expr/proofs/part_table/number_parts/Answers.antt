@@ -1,5 +1,3 @@
-use Rattle.std.proofs.Common.{◌∙◌, sym, subst}
-use Rattle.pads_ast.specs.declared.decl.Part.{Part}
 use Rattle.pads_declared.proofs.NumberLemmas.{numbered-step}
 use Rattle.pads_resolution.specs.Numbers.{has_name}
 use Rattle.pads_resolve_expr.proofs.part_table.number_parts.Goals as goal
