@@ -1,4 +1,6 @@
 use Rattle.std.proofs.Common.{refl}
+use Rattle.pads_trans.specs.Modules.{contents}
+use Rattle.pads_tool.specs.Describing.{described}
 use Rattle.pads_tool.proofs.Lines.{parse-read, parse-stopped}
 use Rattle.pads_tool.proofs.Unread.{reading-reaches}
 use Rattle.pads_tool.proofs.parse.parse.Goals as goal
@@ -6,7 +8,12 @@ use Rattle.pads_tool.proofs.parse.parse.Goals as goal
 pub returns-in-Ok : goal.returns-in-Ok
 returns-in-Ok g c = record {
   gives = parse-read _ _ _ _ _ _ _ _ _ _ _ _ _ _ c.write_lines.result c.in-Ok.ensures.described c.write_lines.ensures.gives;
-  untouched = λ before. absurd (reading-reaches _ _ _ _ _ _ _ _ _ c.write_lines.result c.write_lines.ensures.gives before);
+  untouched = λ before. absurd (reading-reaches (described (contents c.in-Ok.module) c.args.cutting)
+    (g.S.Source.left c.args.source.now) (g.S.Source.left c.write_lines.new.source)
+    (g.K.Sink.written c.args.out.now) (g.K.Sink.written c.write_lines.new.out)
+    (g.S.Source.faults c.args.source.now) (g.S.Source.faults c.write_lines.new.source)
+    (g.K.Sink.faults c.args.out.now) (g.K.Sink.faults c.write_lines.new.out)
+    c.write_lines.result c.write_lines.ensures.gives before);
 }
 
 pub returns-in-Err : goal.returns-in-Err
