@@ -9,11 +9,11 @@ pub returns-in-Ok : goal.returns-in-Ok
 returns-in-Ok g c = record {
   gives = parse-read _ _ _ _ _ _ _ _ _ _ _ _ _ _ c.write_lines.result c.in-Ok.ensures.described c.write_lines.ensures.gives;
   untouched = λ before. absurd (reading-reaches (described (contents c.in-Ok.module) c.args.cutting)
-    (g.S.Source.left c.args.source.now) (g.S.Source.left c.write_lines.new.source)
-    (g.K.Sink.written c.args.out.now) (g.K.Sink.written c.write_lines.new.out)
-    (g.S.Source.faults c.args.source.now) (g.S.Source.faults c.write_lines.new.source)
-    (g.K.Sink.faults c.args.out.now) (g.K.Sink.faults c.write_lines.new.out)
-    c.write_lines.result c.write_lines.ensures.gives before);
+      (g.S.Source.left c.args.source.now) (g.S.Source.left c.write_lines.new.source)
+      (g.K.Sink.written c.args.out.now) (g.K.Sink.written c.write_lines.new.out)
+      (g.S.Source.faults c.args.source.now) (g.S.Source.faults c.write_lines.new.source)
+      (g.K.Sink.faults c.args.out.now) (g.K.Sink.faults c.write_lines.new.out)
+      c.write_lines.result c.write_lines.ensures.gives before);
 }
 
 pub returns-in-Err : goal.returns-in-Err
