@@ -1,5 +1,5 @@
 -- What the definitions say at some values.
-use Rattle.std.proofs.Common.{◌≡◌, ℕ, ◌+◌, ◌-◌, ◌^◌, ◌<◌, ◌≤◌, ◌⊎◌, List, [], ◌∷◌, Option, None, Some, refl, inl, inr, lit≤, arith}
+use Rattle.std.proofs.Common.{◌≡◌, ℕ, ◌-◌, ◌^◌, ◌<◌, ◌≤◌, ◌⊎◌, refl, arith}
 use Rattle.pads_io.specs.Faults.{raised, Rose}
 use Rattle.pads_io.specs.InMemory.{portion}
 

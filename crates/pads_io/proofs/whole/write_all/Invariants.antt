@@ -1,11 +1,11 @@
-use Rattle.std.proofs.Common.{ℕ, ◌≤◌, List, Option, length}
+use Rattle.std.proofs.Common.{◌≡◌, ℕ, List, Option, length}
 use Rattle.pads_io.proofs.Partly.{Partly}
 use Rattle.pads_io.proofs.whole.write_all.Given as goal
 
--- a prefix was written, the rest is left, and the sink's count hasn't fallen
+-- a prefix was written, the rest is left, and the sink has counted no failure
 pub record Written (old new : Option (List ℕ)) (all rest : List ℕ) (before now : ℕ) : Type 0 where
   pub partly : Partly old new all rest
-  pub later : before ≤ now
+  pub stays : now ≡ before
 
 abbrev pub invariant-loop-rest : goal.invariant-loop-rest
 invariant-loop-rest g l =
