@@ -1,6 +1,6 @@
 -- Steps of loops over what a declaration holds.
 use Rattle.std.proofs.Common.{◌≡◌, ◌∙◌, sym, ap, refl, ℕ, ◌+◌, ◌<◌, ◌≤◌, List, [], ◌∷◌, ◌++◌, length, map, fold, drop, get_or, append_assoc, add-one}
-use Rattle.std.proofs.lemmas.List.{append-nil, drop_all, drop_more}
+use Rattle.std.proofs.lemmas.List.{append-nil, drop_all}
 use Rattle.pads_ast.specs.declared.decl.Decl.{Decl as WrittenDecl}
 use Rattle.pads_ast.specs.declared.decl.Part.{Part as WrittenPart}
 use Rattle.pads_resolved.specs.declared.decl.Decl.{Decl}
@@ -8,15 +8,11 @@ use Rattle.pads_resolved.specs.declared.decl.Part.{Part}
 use Rattle.pads_resolved.specs.declared.decl.Source.{Source}
 use Rattle.pads_rules.specs.declared.declared.Declared.{Declared}
 use Rattle.pads_rules.specs.Pieces.{Site, earlier}
-use Rattle.pads_rules.specs.Trees.{named_part}
 use Rattle.pads_resolution.specs.Bodies.{part_at, parts_at}
 use Rattle.pads_resolution.specs.Resolution.{decl_at, source_after}
-use Rattle.pads_resolution.specs.Scopes.{Scope, field, names_after, fields_after}
+use Rattle.pads_resolution.specs.Scopes.{Scope, names_after}
+use Rattle.pads_resolve_types.proofs.Steps.{left}
 use Rattle.pads_resolve.specs.Places.{place_of, sites_from}
-
--- one element more
-left : {X : Type 0} (xs : List X) (i : ℕ) (x : X) → i < length xs → x ≡ get_or xs i x → drop i xs ≡ x ∷ drop (i + 1) xs
-left xs i x there is = drop_more xs i x there ∙ ap (λ y. y ∷ drop (i + 1) xs) (sym is)
 
 abbrev front : {X : Type 0} → List X → List X
 front [] = []
@@ -34,8 +30,6 @@ same-front xs ys x y e = sym (front-last ys y) ∙ sym (ap front e) ∙ front-la
 
 pub ruleset popped = (same-front)
 
-pub ruleset nothing_more = (append-nil)
-
 pub parts-step : (site : Site) (names : Scope) (made : List Part) (parts : List WrittenPart) (i : ℕ) (p : WrittenPart) → i < length parts → p ≡ get_or parts i p →
     (made ++ part_at site names p ∷ []) ++ parts_at site (names_after (earlier site) names p) (drop (i + 1) parts) ≡ made ++ parts_at site names (drop i parts)
 parts-step site names made parts i p there is =
@@ -44,15 +38,6 @@ parts-step site names made parts i p there is =
 pub parts-end : (site : Site) (names : Scope) (made : List Part) (parts : List WrittenPart) (i : ℕ) (whole : List Part) → length parts ≤ i →
     made ++ parts_at site names (drop i parts) ≡ whole → made ≡ whole
 parts-end site names made parts i whole over e = sym (append-nil made) ∙ sym (ap (λ ps. made ++ parts_at site names ps) (drop_all i parts over)) ∙ e
-
-pub fields-step : (types : List Declared) (names : Scope) (parts : List WrittenPart) (i : ℕ) (p : WrittenPart) → i < length parts → p ≡ get_or parts i p →
-    fields_after types (names ++ map (field types i) (named_part p)) (i + 1) (drop (i + 1) parts) ≡ fields_after types names i (drop i parts)
-fields-step types names parts i p there is =
-    rw (left parts i p there is) (ap (λ (n : ℕ). fields_after types (names ++ map (field types i) (named_part p)) n (drop (i + 1) parts)) (add-one i))
-
-pub fields-end : (types : List Declared) (names : Scope) (parts : List WrittenPart) (i : ℕ) (whole : Scope) → length parts ≤ i →
-    fields_after types names i (drop i parts) ≡ whole → names ≡ whole
-fields-end types names parts i whole over e = sym (ap (fields_after types names i) (drop_all i parts over)) ∙ e
 
 pub source-step : (source : Source) (decls : List WrittenDecl) (env : List Declared) (i : ℕ) (d : WrittenDecl) → i < length decls → d ≡ get_or decls i d →
     fold source_after (source_after source (place_of decls env (i, d))) (sites_from decls env (i + 1) (drop (i + 1) decls)) ≡ fold source_after source (sites_from decls env i (drop i decls))

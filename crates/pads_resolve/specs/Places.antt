@@ -3,12 +3,7 @@ use Rattle.std.specs.Prelude.{ℕ, List, map}
 use Rattle.std.specs.List.{enumerate_from}
 use Rattle.pads_ast.specs.declared.decl.Decl.{Decl}
 use Rattle.pads_rules.specs.declared.declared.Declared.{Declared}
-use Rattle.pads_resolve.specs.declared.site.Site.{Site as Placed}
 use Rattle.pads_rules.specs.Pieces.{Site}
-
--- The place that a borrowed one stands for.
-abbrev pub stands : Placed → Site
-stands site = record { decls = site.decls.now; env = site.env.now; number = site.number; decl = site.decl.now }
 
 -- By the declarations of the whole description and its declared types.
 module _ (decls : List Decl) (env : List Declared) where

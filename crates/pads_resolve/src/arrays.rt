@@ -1,17 +1,14 @@
 //! Arrays.
 
 ghost use Rattle.std.specs.Prelude.{◌≡◌, map, IfOk};
-ghost use Rattle.pads_resolve.specs.Places.{stands};
+ghost use Rattle.pads_resolve_types.specs.Places.{stands};
 ghost use Rattle.pads_resolution.specs.Bodies as bodies;
 ghost use Rattle.pads_resolve_expr.specs.Scopes.{names_in_scope};
 
-use crate::expressions::{expr_at, option_at};
-use crate::literals::literal_of;
-use crate::site::Site;
-use crate::types::type_at;
 use pads_ast::{Array as WrittenArray, ArrayOption as WrittenOption};
 use pads_resolution::{Stands, Visible};
 use pads_resolve_expr::{Scope, points};
+use pads_resolve_types::{Site, expr_at, literal_of, option_at, type_at};
 use pads_resolved::{Array, ArrayOption};
 use pads_rules::ExprSort;
 use pads_sorts::Form;

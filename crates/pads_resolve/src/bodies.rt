@@ -1,20 +1,18 @@
 //! The bodies of declarations.
 
 ghost use Rattle.std.specs.Prelude.{◌≡◌, IfOk};
-ghost use Rattle.pads_resolve.specs.Places.{stands};
+ghost use Rattle.pads_resolve_types.specs.Places.{stands};
 ghost use Rattle.pads_resolution.specs.Bodies as bodies;
 ghost use Rattle.pads_resolution.specs.Types as types;
 
 use crate::arrays::array_at;
-use crate::labels::labels_of;
-use crate::site::Site;
 use crate::structs::struct_at;
 use crate::typedefs::typedef_at;
-use crate::types::type_at;
 use crate::unions::union_at;
 use pads_ast::{DeclBody as WrittenBody, Type as WrittenType};
 use pads_resolution::Visible;
 use pads_resolve_expr::Scope;
+use pads_resolve_types::{Site, labels_of, type_at};
 use pads_resolved::{DeclBody, Type};
 use pads_value::{Items, Memory};
 use std::alloc::Global;

@@ -1,19 +1,16 @@
 //! Fields of structs and branches of unions.
 
 ghost use Rattle.std.specs.Prelude.{◌≡◌, ◌++◌, ◌∷◌, [], IfOk, OnOk};
-ghost use Rattle.pads_resolve.specs.Places.{stands};
+ghost use Rattle.pads_resolve_types.specs.Places.{stands};
 ghost use Rattle.pads_resolution.specs.Bodies as bodies;
 ghost use Rattle.pads_resolution.specs.Scopes.{variable};
 ghost use Rattle.pads_rules.specs.Pieces as pieces;
 ghost use Rattle.pads_rules.specs.Resolving.{branch_named};
 
-use crate::expressions::option_at;
-use crate::scopes::add_variable;
-use crate::site::{Site, earlier};
-use crate::types::type_at;
 use pads_ast::Branch as WrittenBranch;
 use pads_resolution::Visible;
 use pads_resolve_expr::{Scope, text};
+use pads_resolve_types::{Site, add_variable, earlier, option_at, type_at};
 use pads_resolved::Branch;
 use pads_value::{Items, Memory};
 use std::alloc::Global;

@@ -2,14 +2,14 @@
 
 ghost use Rattle.std.specs.Prelude.{◌≡◌, slice_get};
 ghost use Rattle.std.specs.Option.{option_copied};
-ghost use Rattle.pads_resolve.specs.Places.{stands};
+ghost use Rattle.pads_resolve_types.specs.Places.{stands};
 ghost use Rattle.pads_resolution.specs.Resolution as resolution;
 ghost use Rattle.pads_resolve.specs.Places.{sites_among};
 
-use crate::site::{Site, earlier};
 use pads_ast::{Decl as WrittenDecl, DeclBody, DeclMark, Part, Type};
 use pads_declared::{EarlierTypes, TypeTable, is_precord, is_psource, is_record_list};
 use pads_resolve_expr::{PartTable, number_of, short};
+use pads_resolve_types::{Site, earlier};
 use pads_resolved::{Role, Source};
 
 /// What a declaration is for.

@@ -1,7 +1,7 @@
 //! Structs.
 
 ghost use Rattle.std.specs.Prelude.{◌≡◌, IfOk, OnOk};
-ghost use Rattle.pads_resolve.specs.Places.{stands};
+ghost use Rattle.pads_resolve_types.specs.Places.{stands};
 ghost use Rattle.pads_resolution.specs.Bodies as bodies;
 ghost use Rattle.pads_resolution.specs.Scopes as scopes;
 ghost use Rattle.pads_resolved.specs.declared.decl.Part.TheVariants as part_form;
@@ -9,16 +9,14 @@ ghost use Rattle.pads_resolution.specs.Types as types;
 ghost use Rattle.pads_rules.specs.Pieces as pieces;
 
 use crate::branches::branch_in;
-use crate::expressions::expr_at;
-use crate::literals::literal_of;
-use crate::scopes::{add_variable, with_fields};
-use crate::site::{Site, earlier};
-use crate::types::computed_of;
 use pads_ast::{
     Expr as Tree, Name, Part as WrittenPart, Struct as WrittenStruct, Type as WrittenType,
 };
 use pads_resolution::Visible;
 use pads_resolve_expr::{Scope, text};
+use pads_resolve_types::{
+    Site, add_variable, computed_of, earlier, expr_at, literal_of, with_fields,
+};
 use pads_resolved::{Expr, Part, Struct};
 use pads_value::{Items, Memory};
 use std::alloc::Global;
@@ -44,7 +42,7 @@ fn computed_at(
 }
 
 /// A part of a struct, which puts its name behind those in scope, where it has one.
-#[tactic(auto, unfolding(pads_resolution::specs::Bodies::part_at), using(crate::proofs::Steps::nothing_more))]
+#[tactic(auto, unfolding(pads_resolution::specs::Bodies::part_at), using(pads_resolve_types::proofs::Steps::nothing_more))]
 fn part_in(
     alloc: Global,
     site: &Site<'_>,

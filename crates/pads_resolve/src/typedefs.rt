@@ -1,16 +1,14 @@
 //! Typedefs.
 
 ghost use Rattle.std.specs.Prelude.{◌≡◌, option_map, IfOk};
-ghost use Rattle.pads_resolve.specs.Places.{stands};
+ghost use Rattle.pads_resolve_types.specs.Places.{stands};
 ghost use Rattle.pads_resolution.specs.Bodies as bodies;
 
-use crate::expressions::expr_at;
-use crate::site::{Site, earlier};
-use crate::types::type_at;
 use pads_ast::{Constraint as WrittenConstraint, Typedef as WrittenTypedef};
 use pads_declared::type_sort;
 use pads_resolution::{Stands, Visible};
 use pads_resolve_expr::{Scope, text};
+use pads_resolve_types::{Site, earlier, expr_at, type_at};
 use pads_resolved::{Constraint, Typedef};
 use pads_value::Memory;
 use std::alloc::Global;

@@ -1,16 +1,14 @@
 //! Unions.
 
 ghost use Rattle.std.specs.Prelude.{◌≡◌, map, option_map, IfOk, OnOk};
-ghost use Rattle.pads_resolve.specs.Places.{stands};
+ghost use Rattle.pads_resolve_types.specs.Places.{stands};
 ghost use Rattle.pads_resolution.specs.Bodies as bodies;
 
 use crate::branches::branch_in;
-use crate::expressions::expr_at;
-use crate::literals::const_of;
-use crate::site::Site;
 use pads_ast::{Branch as WrittenBranch, Case as WrittenCase, Switch as WrittenSwitch, UnionBody};
 use pads_resolution::Visible;
 use pads_resolve_expr::Scope;
+use pads_resolve_types::{Site, const_of, expr_at};
 use pads_resolved::{Branch, Case, Switch, Union};
 use pads_value::{Items, Memory};
 use std::alloc::Global;

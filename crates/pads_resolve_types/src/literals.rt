@@ -10,7 +10,8 @@ use pads_resolved::{Const, Literal};
 use pads_value::Memory;
 use std::alloc::Global;
 
-pub(crate) fn literal_of(alloc: Global, literal: &WrittenLiteral) -> Result<Literal, Memory>
+/// A literal: the code points that are written, or the end of the record.
+pub fn literal_of(alloc: Global, literal: &WrittenLiteral) -> Result<Literal, Memory>
     ensures made { IfOk result (λ made. made ≡ types.literal_of literal.now) }
 {
     match literal {
@@ -27,7 +28,8 @@ fn signed(negative: bool, value: &Number) -> i128
     if negative { 0 - value } else { value }
 }
 
-pub(crate) fn const_of(alloc: Global, constant: &WrittenConst) -> Result<Const, Memory>
+/// A constant of a case: a number with its sign, or code points.
+pub fn const_of(alloc: Global, constant: &WrittenConst) -> Result<Const, Memory>
     ensures made { IfOk result (λ made. made ≡ types.const_of constant.now) }
 {
     match constant {

@@ -1,7 +1,7 @@
 //! Types with their arguments, and the parameters of declarations.
 
 ghost use Rattle.std.specs.Prelude.{◌≡◌, ◌++◌, map, IfOk, OnOk};
-ghost use Rattle.pads_resolve.specs.Places.{stands};
+ghost use Rattle.pads_resolve_types.specs.Places.{stands};
 ghost use Rattle.pads_resolution.specs.Types as types;
 ghost use Rattle.pads_resolve_expr.specs.Scopes.{names_in_scope};
 ghost use Rattle.pads_rules.specs.Trees as trees;
@@ -139,7 +139,7 @@ fn args(
 
 /// A type where it stands in a declaration, in a scope.
 #[tactic(auto, unfolding(pads_resolution::specs::Types::type_at))]
-pub(crate) fn type_at(
+pub fn type_at(
     alloc: Global,
     site: &Site<'_>,
     scope: &Scope<'_, '_>,
@@ -157,7 +157,7 @@ pub(crate) fn type_at(
 
 /// What a `Pcompute` of a type's name is to give: a number of the kind's range, else a text.
 #[tactic(auto, unfolding(pads_resolution::specs::Types::computed_of))]
-pub(crate) fn computed_of(of: &WrittenType) -> Computed
+pub fn computed_of(of: &WrittenType) -> Computed
     ensures computed { result ≡ types.computed_of of.now }
 {
     match base_name(of.name.text.as_slice()) {
@@ -181,7 +181,7 @@ fn param_of(
 }
 
 /// The parameters of a declaration.
-pub(crate) fn params_of(
+pub fn params_of(
     alloc: Global,
     earlier: &EarlierTypes<'_>,
     written: &[WrittenParam],

@@ -1,7 +1,7 @@
 //! Expressions in declarations.
 
 ghost use Rattle.std.specs.Prelude.{◌≡◌, IfOk};
-ghost use Rattle.pads_resolve.specs.Places.{stands};
+ghost use Rattle.pads_resolve_types.specs.Places.{stands};
 ghost use Rattle.pads_resolution.specs.Bodies as bodies;
 ghost use Rattle.pads_resolve_expr.specs.Scopes.{names_in_scope};
 
@@ -15,7 +15,7 @@ use std::alloc::Global;
 
 /// An expression of a declaration, in a scope.
 #[tactic(auto, unfolding(pads_resolution::specs::Bodies::expr_at, pads_resolution::specs::Expressions::expr_of))]
-pub(crate) fn expr_at(
+pub fn expr_at(
     alloc: Global,
     site: &Site<'_>,
     scope: &Scope<'_, '_>,
@@ -32,7 +32,7 @@ pub(crate) fn expr_at(
 }
 
 /// An expression, where one is written.
-pub(crate) fn option_at(
+pub fn option_at(
     alloc: Global,
     site: &Site<'_>,
     scope: &Scope<'_, '_>,

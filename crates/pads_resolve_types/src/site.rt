@@ -1,7 +1,7 @@
 //! Declarations where they stand.
 
 ghost use Rattle.std.specs.Prelude.{◌≡◌};
-ghost use Rattle.pads_resolve.specs.Places.{stands};
+ghost use Rattle.pads_resolve_types.specs.Places.{stands};
 ghost use Rattle.pads_rules.specs.Pieces as pieces;
 
 use pads_ast::Decl;
@@ -10,7 +10,7 @@ use pads_resolve_expr::PartTable;
 
 /// A declaration where it stands.
 #[derive(Clone, Copy)]
-pub(crate) struct Site<'a> {
+pub struct Site<'a> {
     /// The declarations of the whole description.
     pub decls: &'a PartTable<'a>,
     /// Its declared types.
@@ -21,7 +21,7 @@ pub(crate) struct Site<'a> {
 }
 
 /// The types that are declared before.
-pub(crate) fn earlier<'a>(site: &Site<'a>) -> EarlierTypes<'a>
+pub fn earlier<'a>(site: &Site<'a>) -> EarlierTypes<'a>
     ensures types { result ≡ pieces.earlier (stands site.now) }
 {
     site.env.before(site.number)

@@ -29,7 +29,8 @@ fn label_of(alloc: Global, label: &WrittenLabel) -> Result<Label, Memory>
     Ok(Label { name, spelling })
 }
 
-pub(crate) fn labels_of(alloc: Global, labels: &[WrittenLabel]) -> Result<Items<Label>, Memory>
+/// The labels of an enum, in order, each with its spelling where one is written.
+pub fn labels_of(alloc: Global, labels: &[WrittenLabel]) -> Result<Items<Label>, Memory>
     ensures made { IfOk result (λ made. made ≡ map bodies.label_of labels.now) }
 {
     let mut made = Items::new(alloc);

@@ -37,7 +37,7 @@ fn add(
 }
 
 /// Puts the name of something of a type behind some others, as a variable.
-pub(crate) fn add_variable(
+pub fn add_variable(
     alloc: Global,
     earlier: &EarlierTypes<'_>,
     names: &mut Items<Visible>,
@@ -51,7 +51,7 @@ pub(crate) fn add_variable(
 }
 
 /// The parameters of a declaration as variables.
-pub(crate) fn variables(
+pub fn variables(
     alloc: Global,
     earlier: &EarlierTypes<'_>,
     params: &[Param],
@@ -123,7 +123,7 @@ fn add_field(
 }
 
 /// The names in the `Pwhere` of a struct behind those of its parameters: its fields, by their numbers among all parts.
-pub(crate) fn with_fields(
+pub fn with_fields(
     alloc: Global,
     earlier: &EarlierTypes<'_>,
     params: &[Visible],
