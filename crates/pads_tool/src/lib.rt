@@ -18,6 +18,3 @@ mod words_of;
 
 pub use running::run;
 pub use status::Status;
-
-#[cfg(test)]
-mod tests;
