@@ -1,14 +1,5 @@
 -- The lemmas of this crate.
 pub mod Told
-pub mod Outputs
-pub mod Growing
-pub mod Waiting
-pub mod Refilling
-pub mod Progress
-pub mod Blame
-pub mod ReadSteps
-pub mod Driven
-pub mod Halting
 pub mod Texts
 pub mod Lines
 pub mod Statuses

@@ -1,21 +1,21 @@
 -- From the reading of an input to what `parse` gives, by its ending.
 use Rattle.std.proofs.Common.{◌≡◌, inl, inr, sym, refl, ℕ, true, false, List, [], Option, IfSome, Result, Ok, Err}
 use Rattle.pads_code.specs.declared.Coding.{Coding}
+use Rattle.pads_drive.specs.Drives.{DriveGives}
+use Rattle.pads_drive.specs.Stopping.{HasSinkCause}
+use Rattle.pads_drive.specs.declared.ended.Ended.{Ended}
+use Rattle.pads_drive.specs.declared.ended.Ended.TheVariants as ended
+use Rattle.pads_drive.specs.declared.stop.Stop.{Stop}
+use Rattle.pads_drive.specs.declared.stop.Stop.TheVariants as stop
 use Rattle.pads_io.specs.Faults.{Rose}
 use Rattle.pads_orders.specs.declared.order.Cutting.{Cutting}
 use Rattle.pads_trans.specs.Modules.{Contents}
 use Rattle.pads_value.specs.Cuts.{Cut}
 use Rattle.pads_tool.specs.Describing.{Description, described, line_in, no_notes, is_clean_in}
-use Rattle.pads_tool.specs.Drives.{DriveGives}
 use Rattle.pads_tool.specs.Parsing.{LinesGive, ParseGives, ReadLittleAhead, ending_of}
-use Rattle.pads_tool.specs.Stopping.{HasSinkCause}
 use Rattle.pads_tool.specs.Texts.{IsDescribedIn, IsRefusedIn, StopsBefore}
-use Rattle.pads_tool.specs.declared.ended.Ended.{Ended}
-use Rattle.pads_tool.specs.declared.ended.Ended.TheVariants as ended
 use Rattle.pads_tool.specs.declared.ending.Ending.{Ending}
 use Rattle.pads_tool.specs.declared.ending.Ending.TheVariants as ending
-use Rattle.pads_tool.specs.declared.stop.Stop.{Stop}
-use Rattle.pads_tool.specs.declared.stop.Stop.TheVariants as stop
 use Rattle.pads_tool.proofs.Texts.{if-known, if-both}
 
 module _ (d : Description) (left left' o o' n n' : Option (List ℕ)) (source source' out out' notes notes' : ℕ) where

@@ -6,11 +6,11 @@ use Rattle.pads_value.specs.Header.{is_ok_class}
 use Rattle.pads_value.specs.declared.descriptor.Pd.{out-Pd}
 use Rattle.pads_value.specs.declared.row.Row.{Row}
 use Rattle.pads_calc.specs.Rows.{row_of}
+use Rattle.pads_drive.specs.Outputs.{are_clean, written_for}
 use Rattle.pads_frame.specs.Cutting.{records, closed}
 use Rattle.pads_json.specs.Lines.{line_told}
 use Rattle.pads_orders.specs.declared.order.Cutting.{Cutting}
 use Rattle.pads_trans.specs.Modules.{Contents}
-use Rattle.pads_tool.specs.Outputs.{are_clean, written_for}
 
 -- A description's module, and how the records lie in the input.
 pub record Description : Type 0 where

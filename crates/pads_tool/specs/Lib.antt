@@ -3,16 +3,7 @@ pub mod Checking
 pub mod Closing
 pub mod Describing
 pub mod Descriptions
-pub mod Drives
-pub mod Driving
 pub mod Endings
-pub mod Ends
-pub mod Halting
-pub mod Moments
-pub mod Outputs
 pub mod Parsing
-pub mod Progress
 pub mod Running
-pub mod Stopping
 pub mod Texts
-pub mod Writing

@@ -3,19 +3,19 @@
 use Rattle.std.specs.Prelude.{◌≡◌, ℕ, ◌^◌, ◌<◌, ◌≤◌, ◌⊎◌, Bool, true, false, List, Option, Some, Result, Ok, Err, IfSome, length, take}
 use Rattle.std.specs.Io.KnownBytes.{Appends, Consumes, IsAtEnd}
 use Rattle.pads_code.specs.declared.Coding.{Coding}
+use Rattle.pads_drive.specs.LittleAhead.{IsLittleAhead}
+use Rattle.pads_drive.specs.declared.ended.Ended.{Ended}
+use Rattle.pads_drive.specs.declared.ended.Ended.TheVariants as ended
+use Rattle.pads_drive.specs.declared.stop.Stop.{Stop}
+use Rattle.pads_drive.specs.declared.stop.Stop.TheVariants as stop
 use Rattle.pads_io.specs.Faults.{Rose}
 use Rattle.pads_io.specs.Transfer.{AppendsPrefix}
 use Rattle.pads_orders.specs.declared.order.Cutting.{Cutting}
 use Rattle.pads_trans.specs.Modules.{Contents}
 use Rattle.pads_tool.specs.Describing.{Description, described, all_clean, complete_frames_of, frames_of, line_in, lines_for}
-use Rattle.pads_tool.specs.Halting.{IsLittleAhead}
 use Rattle.pads_tool.specs.Texts.{IsDescribedIn, IsRefusedIn}
-use Rattle.pads_tool.specs.declared.ended.Ended.{Ended}
-use Rattle.pads_tool.specs.declared.ended.Ended.TheVariants as ended
 use Rattle.pads_tool.specs.declared.ending.Ending.{Ending}
 use Rattle.pads_tool.specs.declared.ending.Ending.TheVariants as ending
-use Rattle.pads_tool.specs.declared.stop.Stop.{Stop}
-use Rattle.pads_tool.specs.declared.stop.Stop.TheVariants as stop
 
 -- What was written on `out`, which held the bytes `o` and now holds `o'`, for an input of which `left'` is left.
 module _ (left' o o' : Option (List ℕ)) where

@@ -1,31 +1,20 @@
-//! The commands of `pads`: which words are an order, which descriptions are accepted, what a command
-//! writes, and how a run ends.
+//! The commands of `pads`, and the top call `run`: it takes the words of a command line, reads the
+//! description that they name, does what they order, and ends with a status and the last words.
+//!
+//! Each command says by its ending what it read and wrote. How an input is read, record by record,
+//! and written for stands in `pads_drive`, once for every command.
 #![tactic(auto)]
 
 mod check;
 mod close;
-mod command;
 mod description;
-mod drive;
-mod driving;
-mod ended;
 mod ending;
 mod files;
-mod finish;
-mod flush;
-mod output;
 mod parse;
-mod pump;
-mod refill;
 mod running;
-mod source;
 mod status;
-mod stop;
 mod text;
 mod words_of;
 
 pub use running::run;
 pub use status::Status;
-
-#[cfg(test)]
-mod tests;

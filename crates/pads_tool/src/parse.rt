@@ -8,15 +8,11 @@ ghost use Rattle.pads_trans.specs.Modules.{contents};
 ghost use Rattle.pads_value.specs.Header.{is_ok_class};
 ghost use Rattle.pads_value.specs.declared.descriptor.Pd.{out-Pd};
 
-use crate::command::Command;
-use crate::drive::drive;
-use crate::ended::Ended;
 use crate::ending::Ending;
-use crate::output::Output;
-use crate::stop::Stop;
 use crate::text::described_in;
 use pads_calc::Module;
 use pads_code::Coding;
+use pads_drive::{Command, Ended, Output, Stop, drive};
 use pads_io::{Calls, Files, MemSink, Sink, Source};
 use pads_json::record_line;
 use pads_orders::Cutting;

@@ -14,6 +14,8 @@ mod framing;
 #[cfg(test)]
 mod numbers;
 #[cfg(test)]
+mod objects;
+#[cfg(test)]
 mod refusals;
 #[cfg(test)]
 mod run_over;

@@ -44,7 +44,7 @@ pub(crate) struct Left {
     pub(crate) notes: MemSink,
 }
 
-fn words_of(alloc: Global, texts: &[&str]) -> Result<Words, Memory> {
+pub(crate) fn words_of(alloc: Global, texts: &[&str]) -> Result<Words, Memory> {
     let mut words = Words::new(alloc);
     for text in texts {
         words.push(Word::new(String::from_str(alloc, text)?))?;
@@ -52,7 +52,8 @@ fn words_of(alloc: Global, texts: &[&str]) -> Result<Words, Memory> {
     Ok(words)
 }
 
-fn files_of(alloc: Global, description: &[u8]) -> Result<NamedFiles, Memory> {
+/// The file `d` alone.
+pub(crate) fn files_of(alloc: Global, description: &[u8]) -> Result<NamedFiles, Memory> {
     let mut named = Items::new(alloc);
     named.push(NamedFile {
         name: Bytes::from_slice(alloc, b"d")?,

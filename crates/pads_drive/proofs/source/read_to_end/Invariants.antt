@@ -1,0 +1,32 @@
+use Rattle.std.proofs.Common.{◌≡◌, ℕ, ◌-◌, ◌^◌, ◌≤◌, Bool, false, [], Option, List}
+use Rattle.pads_value.specs.Cuts.{Cut}
+use Rattle.pads_frame.specs.State.{reach}
+use Rattle.pads_drive.specs.Progress.{Moment}
+use Rattle.pads_drive.specs.Ends.{Reads}
+use Rattle.pads_drive.specs.Halting.{Caught, IsSized}
+use Rattle.pads_drive.specs.Moments.{moment_of}
+use Rattle.pads_drive.proofs.source.read_to_end.Given as goal
+
+-- no byte was lost so far, the input is open, and no count fell
+pub record ReadSoFar (out notes : ℕ → Cut → List ℕ) (clean : ℕ → Cut → Bool) (left left' o o' n n' : Option (List ℕ)) (old new : Moment) (fs fs' fo fo' fn fn' size : ℕ) : Type 0 where
+  pub reads : Reads out notes clean left left' o o' n n' old new []
+  pub within : reach new.framer ≤ 2 ^ 62
+  pub open_still : new.framer.ended ≡ false
+  pub source_later : fs ≤ fs'
+  pub out_later : fo ≤ fo'
+  pub notes_later : fn ≤ fn'
+  pub filled : IsSized new.waiting size
+  pub caught : Caught left left' old new
+
+abbrev pub invariant-reads : goal.invariant-reads
+invariant-reads g l =
+    let command = g.C.Command in
+    let s = g.S.Source in
+    let k = g.K.Sink in
+    let e = g.E.Sink in
+    ReadSoFar (command.out l.command) (command.notes l.command) (command.is_clean l.command) (s.left l.initial.source) (s.left l.source) (k.written l.initial.out) (k.written l.out)
+    (e.written l.initial.notes) (e.written l.notes) (moment_of l.initial.reading) (moment_of l.reading) (s.faults l.initial.source) (s.faults l.source) (k.faults l.initial.out) (k.faults l.out)
+    (e.faults l.initial.notes) (e.faults l.notes) l.reading.batch.size
+
+abbrev pub decreases-reads : goal.decreases-reads
+decreases-reads g l = 2 ^ 62 - reach l.reading.framer

@@ -1,0 +1,10 @@
+pub mod Drives
+pub mod Driving
+pub mod Ends
+pub mod Halting
+pub mod LittleAhead
+pub mod Moments
+pub mod Outputs
+pub mod Progress
+pub mod Stopping
+pub mod Writing

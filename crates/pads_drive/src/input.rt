@@ -1,0 +1,82 @@
+ghost use Rattle.std.specs.Prelude.{◌≡◌, ℕ, ◌<◌, ◌≤◌, [], Ok, Err, IfSome};
+ghost use Rattle.pads_frame.specs.Fits.{FitsLimit};
+ghost use Rattle.pads_io.specs.Faults.{Rose};
+ghost use Rattle.pads_value.specs.Cuts.{Cut};
+ghost use Rattle.pads_drive.specs.Drives.{DriveGives};
+ghost use Rattle.pads_drive.specs.LittleAhead.{IsLittleAhead};
+ghost use Rattle.pads_drive.specs.Stopping.{HasSinkCause};
+ghost use Rattle.pads_drive.specs.declared.ended.Ended.TheVariants as ended;
+ghost use Rattle.pads_drive.specs.declared.stop.Stop.TheVariants as stop;
+
+use crate::command::Command;
+use crate::driving::{Batch, Reading};
+use crate::ended::Ended;
+use crate::finish::finish;
+use crate::refill::Refill;
+use crate::source::read_to_end;
+use crate::stop::Stop;
+use pads_frame::{Discipline, Framer};
+use pads_io::{Sink, Source};
+use std::alloc::Global;
+
+/// Reads a source to its end, cuts its bytes into records, and writes on `out` and the notes what the
+/// command says of each, in the order of the input. What is left of the source is the whole input: its
+/// first byte has offset 0, and its first record number 0. A record has at most `max` bytes, or else
+/// is marked as too long.
+///
+/// The source is read in pieces of at most 4,096 bytes, and the frames that they complete are gathered
+/// into batches: one has at most 256 frames, and takes no more once they have 4,194,304 bytes. A full
+/// batch is written before more is read, and the rest as soon as the input has ended, failed, or
+/// proved too long.
+///
+/// `Ended` and `Stop` say what was written at each answer. `Ended::ReadFault` comes only where the
+/// source's count of failures rose, `Stop::Out` and `Stop::Notes` only where that sink's did, and
+/// `Ended::TooLong` only where the source tells more than 2^62 bytes. At `Stop::Out`, where no record
+/// of the input is too long or broken, the output of all records that the bytes read complete was
+/// written, but for those in at most 2 `max` + 4,259,840 of the last bytes. What a source or sink
+/// doesn't tell, nothing is said of.
+pub fn drive<C: Command, S: Source, K: Sink, E: Sink>(
+    command: &C,
+    alloc: Global,
+    discipline: Discipline,
+    max: u64,
+    source: &mut S,
+    out: &mut K,
+    notes: &mut E,
+) -> Result<Ended, Stop>
+    requires some { 0 < max }
+    requires limit { max ≤ 16777216 }
+    requires fits_limit { FitsLimit discipline max }
+    ensures gives { IfSome (S.left source.old) (λ input. DriveGives (C.out command.now) (C.notes command.now)
+        (C.is_clean command.now) discipline max input (S.left source.new) (K.written out.old) (K.written out.new)
+        (E.written notes.old) (E.written notes.new) result) }
+    ensures ahead { result ≡ Err stop.Out → IfSome (S.left source.old) (IsLittleAhead (C.out command.now) discipline max
+        (S.left source.new) (K.written out.old) (K.written out.new)) }
+    ensures read_fault { result ≡ Ok ended.ReadFault → Rose (S.faults source.old) (S.faults source.new) }
+    ensures later { S.faults source.old ≤ S.faults source.new }
+    ensures cause { HasSinkCause (K.faults out.old) (K.faults out.new) (E.faults notes.old) (E.faults notes.new)
+        ((number : ℕ) (cut : Cut) → C.notes command.now number cut ≡ []) result }
+{
+    let Ok(framer) = Framer::new(alloc, discipline, max, 0) else {
+        return Err(Stop::Memory);
+    };
+    let mut reading = Reading {
+        framer,
+        batch: Batch::new(alloc),
+        number: 0,
+        clean: true,
+    };
+    let refill = match read_to_end(command, alloc, &mut reading, source, out, notes) {
+        Ok(refill) => refill,
+        Err(stop) => return Err(stop),
+    };
+    if let Err(stop) = finish(command, alloc, &mut reading, out, notes) {
+        return Err(stop);
+    }
+    match refill {
+        Refill::End => Ok(Ended::Finished(reading.clean)),
+        Refill::ReadFault => Ok(Ended::ReadFault),
+        Refill::TooLong => Ok(Ended::TooLong),
+        Refill::More => unreachable!(),
+    }
+}

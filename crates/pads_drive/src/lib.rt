@@ -1,0 +1,25 @@
+//! The reading of an input, once for every command: a source is read to its end, cut into records,
+//! and what a command says of each record is written on two sinks.
+//!
+//! Records are read in batches, so that neither the input nor its output is ever held as a whole,
+//! and each full batch is written before more is read. What a record means is no matter here: the
+//! caller's `Command` is given its number and its frame.
+#![tactic(auto)]
+
+mod command;
+mod driving;
+mod ended;
+mod finish;
+mod flush;
+mod input;
+mod output;
+mod pump;
+mod refill;
+mod source;
+mod stop;
+
+pub use command::Command;
+pub use ended::Ended;
+pub use input::drive;
+pub use output::Output;
+pub use stop::Stop;

@@ -1,0 +1,61 @@
+ghost use Rattle.std.specs.Prelude.{◌≡◌, ℕ, ◌+◌, ◌^◌, ◌≤◌, [], false, length, IfOk, OnOk, OnErr, Err};
+ghost use Rattle.pads_value.specs.Cuts.{Cut};
+ghost use Rattle.pads_frame.specs.State.{reach, rest};
+ghost use Rattle.pads_drive.specs.Ends.{Anything, ReadsToEnd, StopsAt};
+ghost use Rattle.pads_drive.specs.Halting.{Caught, HaltsAt, IsFilled};
+ghost use Rattle.pads_drive.specs.Moments.{moment_of};
+ghost use Rattle.pads_drive.specs.Stopping.{HasSinkCause};
+ghost use Rattle.pads_drive.specs.declared.stop.Stop.TheVariants as stop;
+
+use crate::command::Command;
+use crate::driving::{Reading, refill};
+use crate::pump::pump;
+use crate::refill::Refill;
+use crate::stop::Stop;
+use pads_io::{Sink, Source};
+use std::alloc::Global;
+
+/// Reads a source to its end, in pieces of at most 4,096 bytes. Each full batch is read and written
+/// before more is read.
+pub(crate) fn read_to_end<C: Command, S: Source, K: Sink, E: Sink>(
+    command: &C,
+    alloc: Global,
+    reading: &mut Reading,
+    source: &mut S,
+    out: &mut K,
+    notes: &mut E,
+) -> Result<Refill, Stop>
+    requires small { reading.old.number + length reading.old.batch.frames ≤ reading.old.framer.first }
+    requires within { reach reading.old.framer ≤ 2 ^ 62 }
+    requires open { reading.old.framer.ended ≡ false }
+    requires filled { IsFilled reading.old.batch }
+    requires fresh { rest false reading.old.framer [] ≡ [] }
+    ensures ok { IfOk result (ReadsToEnd (C.out command.now) (C.notes command.now) (C.is_clean command.now)
+        (S.left source.old) (S.left source.new) (K.written out.old) (K.written out.new)
+        (E.written notes.old) (E.written notes.new) (S.faults source.old) (S.faults source.new)
+        (moment_of reading.old) (moment_of reading.new)) }
+    ensures within { OnOk result (reach reading.new.framer ≤ 2 ^ 62) }
+    ensures filled { OnOk result (IsFilled reading.new.batch) }
+    ensures caught { OnOk result (Caught (S.left source.old) (S.left source.new) (moment_of reading.old) (moment_of reading.new)) }
+    ensures halts { result ≡ Err stop.Out → HaltsAt (C.out command.now) (S.left source.old) (S.left source.new)
+        (K.written out.old) (K.written out.new) (moment_of reading.old) Anything }
+    ensures err { OnErr result (StopsAt (C.out command.now) (C.notes command.now) (C.is_clean command.now)
+        (S.left source.old) (S.left source.new) (K.written out.old) (K.written out.new)
+        (E.written notes.old) (E.written notes.new) (moment_of reading.old)) }
+    ensures later { S.faults source.old ≤ S.faults source.new }
+    ensures cause { HasSinkCause (K.faults out.old) (K.faults out.new) (E.faults notes.old) (E.faults notes.new)
+        ((number : ℕ) (cut : Cut) → C.notes command.now number cut ≡ []) result }
+{
+    let mut piece = [0; 4096];
+    'reads: loop {
+        if let Err(stop) = pump(command, alloc, reading, out, notes) {
+            return Err(stop);
+        }
+        match refill(source, &mut reading.framer, &mut piece) {
+            Refill::More => {}
+            Refill::End => return Ok(Refill::End),
+            Refill::ReadFault => return Ok(Refill::ReadFault),
+            Refill::TooLong => return Ok(Refill::TooLong),
+        }
+    }
+}

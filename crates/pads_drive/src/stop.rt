@@ -1,0 +1,11 @@
+/// Why the reading of an input stopped before its end. By then a prefix of what is due for the whole
+/// input was written on each sink.
+#[derive(Clone, Copy, Debug, PartialEq, Eq)]
+pub enum Stop {
+    /// There was no memory. No clause says when this comes.
+    Memory,
+    /// A write on `out` failed.
+    Out,
+    /// A write on the notes failed. A command that notes nothing never gets this.
+    Notes,
+}

@@ -1,5 +1,0 @@
-use Rattle.pads_tool.proofs.Halting.{sized-push}
-use Rattle.pads_tool.proofs.driving.Batch.push.Goals as goal
-
-pub returns-clause-filled : goal.returns-clause-filled
-returns-clause-filled c = sized-push _ _ c.args.kept _ _ _ c.in_ok-push.ensures.ok c.len.ensures.length c.saturating_add-size.ensures c.requires.filled c.requires.few c.requires.light
