@@ -1,13 +1,13 @@
-/// How the reading of an input ended that no sink and no want of memory stopped: all that is due for
-/// the bytes read was written.
+/// How the reading of an input ended that neither a sink nor want of memory stopped.
 #[derive(Clone, Copy, Debug, PartialEq, Eq)]
 pub enum Ended {
-    /// The source is at its end, the input has at most 2^62 bytes, and what the command writes for
-    /// each of its records was written. The value is whether all of them are clean.
+    /// The source is at its end, and the output for all records of the input was written. The input
+    /// has at most 2^62 bytes. The value is whether all its records are clean.
     Finished(bool),
-    /// A read failed. What was written is due for the records that the bytes read complete.
+    /// A read failed. The output for the records that the bytes read complete was written, and nothing
+    /// else.
     ReadFault,
-    /// The input has more than 2^62 bytes. What was written is due for the records that the first
-    /// 2^62 of them complete.
+    /// The input has more than 2^62 bytes. The output for the records that the first 2^62 of them
+    /// complete was written, and nothing else.
     TooLong,
 }

@@ -1,5 +1,5 @@
-/// Why the reading of an input stopped before its end. By then a prefix of what is due for the whole
-/// input was written on each sink.
+/// Why the reading of an input stopped before its end. By then a prefix of the output for all its
+/// records was written on each sink.
 #[derive(Clone, Copy, Debug, PartialEq, Eq)]
 pub enum Stop {
     /// There was no memory. No clause says when this comes.
