@@ -17,8 +17,6 @@ mod scopes;
 mod site;
 mod sources;
 mod structs;
-#[cfg(test)]
-mod tests;
 mod typedefs;
 mod types;
 mod unions;

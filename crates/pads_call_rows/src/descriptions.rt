@@ -1,5 +1,7 @@
-use super::resolve;
+//! `resolve` of pads_resolve: what a description resolves to.
+
 use pads_ast::{Ast, Decl, DeclBody, Enum, Name};
+use pads_resolve::resolve;
 use pads_resolved::Role;
 use pads_value::{Items, Memory};
 use std::alloc::Global;
