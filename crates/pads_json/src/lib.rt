@@ -13,6 +13,3 @@ mod text;
 mod value;
 
 pub use line::record_line;
-
-#[cfg(test)]
-mod tests;

@@ -1,13 +1,13 @@
 //! Every form of value, under terms that it suits and terms that it doesn't suit.
-use crate::lines::{clean_line, decl, rules, rules_of, value_line};
-use crate::pieces::{
-    Made, and, array, base, boxed, branch, choice, chosen, list, literal, named, none, num, number,
-    one, structure, text, tuple, two, unnamed, written,
-};
+use crate::lines::{clean_line, value_line};
 use pads_bases::{Label, Labels};
-use pads_calc::{Base, Decls, Part, Result2, Term};
+use pads_calc::{Base, Decls, Result2, Term};
 use pads_code::Coding;
 use pads_expr::Expr;
+use pads_makers::{
+    Made, and, array, base, boxed, branch, choice, chosen, decl, list, literal, named, none, num,
+    number, one, rules, rules_of, structure, text, tuple, two, unnamed, written,
+};
 use pads_value::{Bytes, Items, Val};
 use std::alloc::Global;
 use std::test::Fail;

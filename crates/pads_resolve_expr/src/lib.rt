@@ -11,8 +11,6 @@ mod operators;
 mod part_table;
 mod resolving;
 mod scope;
-#[cfg(test)]
-mod tests;
 mod texts;
 
 pub use names::sort_known;

@@ -1,6 +1,8 @@
-use super::*;
+//! `resolve_expr` of pads_resolve_expr: what an expression resolves to.
+
 use pads_ast::{Expr, Word};
 use pads_declared::declared;
+use pads_resolve_expr::{PartTable, Scope, Types, resolve_expr};
 use pads_resolved::Expr as Resolved;
 use pads_rules::ExprSort;
 use pads_sorts::Form;

@@ -1,4 +1,5 @@
-use super::translate;
+//! `translate` of pads_trans: the module of a description.
+
 use pads_calc::{Base, IllFormed, Module, Part as TermPart, Term};
 use pads_code::Coding;
 use pads_int::Kind;
@@ -6,6 +7,7 @@ use pads_resolved::{
     BaseType, Branch, Decl, DeclBody, Description, Literal, Part, Prefix, Role, Source, Struct,
     Type, TypeName,
 };
+use pads_trans::translate;
 use pads_value::{Bytes, Items, Memory, Refusal};
 use std::alloc::Global;
 

@@ -1,23 +1,13 @@
 //! Places of faults.
-use crate::lines::{body_line, faulty_line, line_of, rules};
-use crate::pieces::{
-    Made, and, array, branch, choice, chosen, clean, faulty, list, literal, named, none, num,
-    number, one, structure, tuple, two, unnamed,
-};
+use crate::lines::{body_line, faulty_line, line_of};
 use pads_calc::Term;
-use pads_value::{Cause, Pd, Val};
+use pads_makers::{
+    Made, array, branch, choice, chosen, clean, fault, faulty, leaf, list, literal, named, num,
+    number, one, rules, structure, tuple, two, unnamed,
+};
+use pads_value::{Cause, Val};
 use std::alloc::Global;
 use std::test::Fail;
-
-/// A descriptor of no kids with a cause of its own.
-fn fault(alloc: Global, cause: Cause, begin: u64, end: u64) -> Made<Pd> {
-    faulty(cause, begin, end, none(alloc))
-}
-
-/// A clean descriptor of no kids.
-fn leaf(alloc: Global, begin: u64, end: u64) -> Made<Pd> {
-    clean(begin, end, none(alloc))
-}
 
 #[test]
 fn the_body(rt: HostRuntime) -> Result<(), Fail> {

@@ -1,0 +1,12 @@
+//! The main calls of larger crates with ample memory, where they give what they promise. The tests stand here so that
+//! no proof of those crates is made twice.
+#![tactic(auto)]
+
+#[cfg(test)]
+mod descriptions;
+#[cfg(test)]
+mod expressions;
+#[cfg(test)]
+mod lines;
+#[cfg(test)]
+mod modules;
