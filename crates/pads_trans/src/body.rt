@@ -178,10 +178,9 @@ fn switched(
 ) -> Result<Term, Memory>
     ensures made { IfOk result (λ made. made ≡ switch_of names.now ambient switch.now) }
 {
-    let value = expr(alloc, names, &switch.value)?;
     let mut cases = keyed_cases(alloc, names, ambient, switch.cases.as_slice())?;
     push_default(alloc, names, ambient, &mut cases, &switch.default)?;
-    Ok(Term::Switch(value, cases))
+    Ok(Term::Switch(expr(alloc, names, &switch.value)?, cases))
 }
 
 #[tactic(auto, unfolding(crate::specs::Terms::union_of))]

@@ -12,6 +12,3 @@ mod translation;
 mod types;
 
 pub use translation::translate;
-
-#[cfg(test)]
-mod tests;

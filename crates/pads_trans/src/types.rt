@@ -134,9 +134,9 @@ pub(crate) fn guarded(
 ) -> Result<Term, Memory>
     ensures guarded { IfOk result (λ made. made ≡ constrained_by names.now inner name.now (Some condition.now)) }
 {
+    let inner = Boxed::new(alloc, inner)?;
     let condition = expr(alloc, names, condition)?;
-    let number = names.number(name);
-    Ok(Term::Guard(Boxed::new(alloc, inner)?, number, condition))
+    Ok(Term::Guard(inner, names.number(name), condition))
 }
 
 /// A term under a constraint, if there is one.
