@@ -17,8 +17,8 @@ use Rattle.pads_rules.specs.NameTokens.{Names as Texts, with_name, with_names}
 use Rattle.pads_rules.specs.Texts.{same_text, is_among}
 use Rattle.pads_rules.specs.Trees.{points_of}
 use Rattle.pads_rules.specs.declared.fault.CheckFault.{CheckFault}
-use Rattle.pads_trans.specs.Terms.{label_of}
 use Rattle.pads_trans.specs.Terms as trans
+use Rattle.pads_trans.specs.Terms.{label_of}
 use Rattle.pads_well_sorted.proofs.Lists.{mapped-there}
 use Rattle.pads_accepted.proofs.Faultless.{none-left, none-right, not-when}
 use Rattle.pads_accepted.proofs.Types.{or-false}

@@ -27,7 +27,7 @@ use Rattle.pads_rules.specs.declared.declared.Declared.{Declared}
 use Rattle.pads_rules.specs.declared.declared.Named.{Named as RuleNamed}
 use Rattle.pads_rules.specs.declared.expr_sort.ExprSort.{ExprSort}
 use Rattle.pads_rules.specs.declared.expr_sort.ExprSort.TheVariants as expr_sort
-use Rattle.pads_trans.specs.Names.{at_sign}
+use Rattle.pads_trans_expr.specs.Names.{at_sign}
 use Rattle.pads_well_sorted.specs.Expressions.{Scope, meaning_sort}
 use Rattle.pads_well_sorted.specs.Sorts as sorts_of
 use Rattle.pads_well_sorted.specs.WellSorted.{Each, params_scope}

@@ -32,7 +32,7 @@ use Rattle.pads_rules.specs.declared.declared.Declared.{Declared}
 use Rattle.pads_rules.specs.declared.expr_sort.ExprSort.{ExprSort}
 use Rattle.pads_rules.specs.declared.expr_sort.ExprSort.TheVariants as expr_sort
 use Rattle.pads_rules.proofs.Judgements.{judged-roll, names_in_expr-roll}
-use Rattle.pads_trans.specs.Names.{at_sign}
+use Rattle.pads_trans_expr.specs.Names.{at_sign}
 use Rattle.pads_well_sorted.specs.Expressions.{Scope, sort_in_scope, plainly, number_alone, truth_alone, length_sort, forall_sort, part_sort, meaning_sort, sort_in}
 use Rattle.pads_well_sorted.specs.Sorts.{num, text, truth}
 use Rattle.pads_well_sorted.specs.WellSorted.{Each}

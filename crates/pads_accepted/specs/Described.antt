@@ -22,7 +22,7 @@ use Rattle.pads_rules.specs.declared.expr_sort.ExprSort.TheVariants as expr_sort
 use Rattle.pads_sorts.specs.declared.sort.Form.{Form}
 use Rattle.pads_sorts.specs.declared.sort.Form.TheVariants as form
 use Rattle.pads_sorts.specs.declared.sort.Sort.{Sort}
-use Rattle.pads_trans.specs.Names.{at_sign}
+use Rattle.pads_trans_expr.specs.Names.{at_sign}
 use Rattle.pads_well_sorted.specs.Expressions.{Scope, body_at, part_sort, union_branch, plain_choice, of_elements, meaning_sort, sort_in}
 use Rattle.pads_well_sorted.specs.Sorts.{truth}
 use Rattle.pads_well_sorted.specs.WellSorted.{Each}

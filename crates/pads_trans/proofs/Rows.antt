@@ -1,42 +1,29 @@
--- Rows of the translation, computed on the definitions. Names are numbered as they stand in `some`, `none`, `y`, `x`.
+-- Rows of the translation, computed on the definitions. Names are numbered as they stand in `some`, `none`, `y`.
 use Rattle.std.proofs.Common.{◌≡◌, refl, pos, negsuc, List, [], ◌∷◌, true, Some, None}
 use Rattle.pads_calc.specs.declared.term.Term.TheVariants as term
 use Rattle.pads_calc.specs.declared.term.Result2.TheVariants as result2
 use Rattle.pads_code.specs.CodePage.{byte_of, page_037}
 use Rattle.pads_code.specs.declared.Coding.TheVariants as coding
 use Rattle.pads_dispatch.specs.declared.base.Base.TheVariants as base
-use Rattle.pads_expr.specs.declared.expr.BinOp.TheVariants as bin
 use Rattle.pads_expr.specs.declared.expr.Expr.TheVariants as expr
 use Rattle.pads_int.specs.declared.kind.Kind.TheVariants as kind
-use Rattle.pads_sorts.specs.declared.sort.Sort.{Sort}
 use Rattle.pads_resolved.specs.declared.base_type.BaseType.TheVariants as base_type
 use Rattle.pads_resolved.specs.declared.base_type.Prefix.TheVariants as prefix
 use Rattle.pads_resolved.specs.declared.decl.ArrayOption.TheVariants as option
 use Rattle.pads_resolved.specs.declared.decl.Computed.TheVariants as computed
 use Rattle.pads_resolved.specs.declared.decl.Part.TheVariants as part
-use Rattle.pads_resolved.specs.declared.expr.BinaryOperator.TheVariants as operator
 use Rattle.pads_resolved.specs.declared.expr.Expr.TheVariants as tree
-use Rattle.pads_resolved.specs.declared.expr.Meaning.TheVariants as meaning
 use Rattle.pads_resolved.specs.declared.types.Literal.TheVariants as literal
 use Rattle.pads_resolved.specs.declared.types.TypeName.TheVariants as type_name
-use Rattle.pads_trans.specs.Names.{Name, some_name, none_name, number_of, with_name, with_names, at_sign}
-use Rattle.pads_trans.specs.Expressions.{expr_of, meaning_of}
 use Rattle.pads_trans.specs.Terms.{part_of, type_of, bare_type, optional, separator_of, first}
-use Rattle.pads_trans.proofs.ExprRolls.{made-Binary, made-Name, made-Number}
+use Rattle.pads_trans_expr.specs.Names.{Name, some_name, none_name, number_of}
+use Rattle.pads_trans_expr.proofs.ExprRolls.{made-Number}
 
 y : Name
 y = 0x79 ∷ []
 
-x : Name
-x = 0x78 ∷ []
-
 names : List Name
-names = some_name ∷ none_name ∷ y ∷ x ∷ []
-
--- Each name has the place where it is first met: y, x, y, `@`.
-numbered : with_names [] (y ∷ x ∷ y ∷ at_sign ∷ []) ≡ y ∷ x ∷ at_sign ∷ []
-unfolding with_name y x
-numbered = refl
+names = some_name ∷ none_name ∷ y ∷ []
 
 -- A comma is 6B in code page 037.
 literal_row : part_of names coding.Ebcdic (part.Literal (literal.Word (0x2c ∷ [])))
@@ -55,14 +42,8 @@ separator_row : separator_of coding.Ascii (option.Pterm literal.Peor ∷ option.
 unfolding first byte_of
 separator_row = refl
 
-module _ (sort : Sort) where
-  -- y >= 1
-  y_bound : expr_of names (tree.Binary operator.AtLeast (tree.Name (meaning.Variable y) sort) (tree.Number (pos 1))) ≡ expr.Bin bin.Ge (expr.Var 2) (expr.Num (pos 1))
-  unfolding meaning_of number_of names y x
-  y_bound = rw (made-Binary names operator.AtLeast (tree.Name (meaning.Variable y) sort) (tree.Number (pos 1)), made-Name names (meaning.Variable y) sort, made-Number names (pos 1)) refl
-
 -- Pcompute Pint8 y = 1
 computed_row : part_of names coding.Ascii (part.Pcompute (computed.Int kind.I8) y (tree.Number (pos 1)))
     ≡ record { name = Some 2; term = term.Compute (expr.Num (pos 1)) (result2.Range (negsuc 127) (pos 127)) }
-unfolding part_of number_of names y x
+unfolding part_of number_of names y
 computed_row = rw (made-Number names (pos 1)) refl

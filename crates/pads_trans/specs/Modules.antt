@@ -1,5 +1,5 @@
 -- The translation of a description: its module.
-use Rattle.std.specs.Prelude.{Bool, ◌&&◌, nat_lt, List, length, map, Result, Ok, Err}
+use Rattle.std.specs.Prelude.{Bool, ◌&&◌, nat_lt, List, [], length, map, Result, Ok, Err}
 use Rattle.pads_calc.specs.Counts.{module_counts}
 use Rattle.pads_calc.specs.Scopes.{module_in_scope}
 use Rattle.pads_calc.specs.declared.decl.Decl.{Decl}
@@ -11,9 +11,9 @@ use Rattle.pads_resolved.specs.declared.decl.Description.{Description}
 use Rattle.pads_resolved.specs.declared.decl.Source.{Source}
 use Rattle.pads_value.specs.declared.memory.Refusal.{Refusal}
 use Rattle.pads_value.specs.declared.memory.Refusal.TheVariants as refusal
-use Rattle.pads_trans.specs.Met.{names_of}
-use Rattle.pads_trans.specs.Names.{Name}
 use Rattle.pads_trans.specs.Terms.{decl_of}
+use Rattle.pads_trans_expr.specs.Met.{names_of}
+use Rattle.pads_trans_expr.specs.Names.{Name, with_names}
 
 -- What a module has: declarations, the names of the numbers in them, and which declarations the records
 -- have.
@@ -34,6 +34,11 @@ shape_of source = record { head = source.header; each = source.record }
 abbrev pub module_by : List Name → Description → Coding → Contents
 module_by names description ambient =
     made_of (map (decl_of names ambient) description.decls) names (shape_of description.source)
+
+-- The same with the names that a table of them holds.
+abbrev pub module_by_table : List Name → Description → Coding → Contents
+module_by_table names description ambient =
+    made_of (map (decl_of names ambient) description.decls) (with_names [] names) (shape_of description.source)
 
 -- The module of a description in a coding.
 abbrev pub module_of : Description → Coding → Contents

@@ -67,8 +67,8 @@ use Rattle.pads_resolved.specs.declared.types.Literal.TheVariants as literal
 use Rattle.pads_resolved.specs.declared.types.«Type».{«Type» as Typed}
 use Rattle.pads_resolved.specs.declared.types.TypeName.{TypeName}
 use Rattle.pads_resolved.specs.declared.types.TypeName.TheVariants as type_name
-use Rattle.pads_trans.specs.Expressions.{expr_of}
-use Rattle.pads_trans.specs.Names.{Name, at_sign, some_name, none_name, number_of}
+use Rattle.pads_trans_expr.specs.Expressions.{expr_of, option_of}
+use Rattle.pads_trans_expr.specs.Names.{Name, at_sign, some_name, none_name, number_of}
 
 -- The coding that a base type's name says, in a description of this coding.
 abbrev pub coding_of : Coding → Prefix → Coding
@@ -152,9 +152,6 @@ literal_part ambient l = record { name = None; term = term.Scan (term.Absorb (li
 
 -- By the names of the description.
 module _ (names : List Name) where
-  abbrev pub option_of : Option ExprTree → Option Expr
-  option_of e = option_map (expr_of names) e
-
   abbrev pub named_part : Name → Term → Part
   named_part name inner = record { name = Some (number_of names name); term = inner }
 
@@ -218,8 +215,8 @@ module _ (names : List Name) where
     seq_of a = record {
       elem = type_of a.of;
       sep = separator_of ambient a.options;
-      size = option_of a.size;
-      last = option_of (first last a.options);
+      size = option_of names a.size;
+      last = option_of names (first last a.options);
       stop = terminator_of ambient a.options;
       elts = number_of names at_sign;
     }

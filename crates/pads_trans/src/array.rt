@@ -1,15 +1,15 @@
 //! The translation of arrays.
 ghost use Rattle.std.specs.Prelude.{◌≡◌, IfOk};
 ghost use Rattle.std.specs.Option.{option_copied, option_map};
-ghost use Rattle.pads_trans.specs.Terms.{separator, terminator, last, first, separator_of, terminator_of, option_of, seq_of, array_of};
+ghost use Rattle.pads_trans.specs.Terms.{separator, terminator, last, first, separator_of, terminator_of, seq_of, array_of};
+ghost use Rattle.pads_trans_expr.specs.Expressions.{option_of};
 
-use crate::expr::{expr, option};
-use crate::names::Numbering;
 use crate::types::{constrained, literal, text, type_term};
 use pads_calc::{Seq, Term};
 use pads_code::Coding;
 use pads_expr::Expr;
 use pads_resolved::{Array, ArrayOption, Expr as Tree, Literal};
+use pads_trans_expr::{Numbering, translate_expr, translate_option};
 use pads_value::{Boxed, Bytes, Memory};
 use std::alloc::Global;
 
@@ -116,7 +116,7 @@ fn last_condition(
 {
     match first_last(options) {
         None => Ok(None),
-        Some(condition) => Ok(Some(expr(alloc, names, condition)?)),
+        Some(condition) => Ok(Some(translate_expr(alloc, names, condition)?)),
     }
 }
 
@@ -126,12 +126,12 @@ fn sequence(alloc: Global, names: &Numbering, ambient: Coding, body: &Array) -> 
 {
     let options = body.options.as_slice();
     Ok(Seq {
-        elem: type_term(alloc, names, ambient, &body.of)?,
-        sep: separator_term(alloc, ambient, options)?,
-        size: option(alloc, names, &body.size)?,
-        last: last_condition(alloc, names, options)?,
-        stop: terminator_term(alloc, ambient, options)?,
         elts: names.number(b"@"),
+        size: translate_option(alloc, names, &body.size)?,
+        last: last_condition(alloc, names, options)?,
+        sep: separator_term(alloc, ambient, options)?,
+        stop: terminator_term(alloc, ambient, options)?,
+        elem: type_term(alloc, names, ambient, &body.of)?,
     })
 }
 

@@ -2,10 +2,8 @@
 ghost use Rattle.std.specs.Prelude.{◌≡◌, ◌++◌, map, IfOk, OnOk};
 ghost use Rattle.pads_calc.specs.declared.term.Term.TheVariants as term_form;
 ghost use Rattle.pads_trans.specs.Terms.{form_of, literal_part as literal_part_of, named_part as named_part_of, field_of, part_of, struct_of, arm_of, case_of, default_of, switch_of, union_of};
-ghost use Rattle.pads_trans.specs.Expressions.{expr_of};
+ghost use Rattle.pads_trans_expr.specs.Expressions.{expr_of};
 
-use crate::expr::expr;
-use crate::names::Numbering;
 use crate::types::{constrained, form, key, literal, type_term};
 use pads_calc::{Arm, Arms, Case, Cases, Part, Parts, Term};
 use pads_code::Coding;
@@ -13,6 +11,7 @@ use pads_resolved::{
     Branch, Case as CaseTree, Computed, Expr as Tree, Literal, Part as PartTree, Struct, Switch,
     Union,
 };
+use pads_trans_expr::{Numbering, translate_expr};
 use pads_value::{Boxed, Items, Memory};
 use std::alloc::Global;
 
@@ -50,7 +49,7 @@ fn literal_part(alloc: Global, ambient: Coding, of: &Literal) -> Result<Part, Me
 fn computed(alloc: Global, names: &Numbering, of: Computed, value: &Tree) -> Result<Term, Memory>
     ensures computed { IfOk result (λ made. made ≡ term_form.Compute (expr_of names.now value.now) (form_of of)) }
 {
-    Ok(Term::Compute(expr(alloc, names, value)?, form(of)))
+    Ok(Term::Compute(translate_expr(alloc, names, value)?, form(of)))
 }
 
 #[tactic(auto, unfolding(crate::specs::Terms::part_of))]
@@ -178,9 +177,9 @@ fn switched(
 ) -> Result<Term, Memory>
     ensures made { IfOk result (λ made. made ≡ switch_of names.now ambient switch.now) }
 {
-    let value = expr(alloc, names, &switch.value)?;
     let mut cases = keyed_cases(alloc, names, ambient, switch.cases.as_slice())?;
     push_default(alloc, names, ambient, &mut cases, &switch.default)?;
+    let value = translate_expr(alloc, names, &switch.value)?;
     Ok(Term::Switch(value, cases))
 }
 

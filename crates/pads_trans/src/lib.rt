@@ -4,10 +4,6 @@
 mod array;
 mod body;
 mod decl;
-mod expr;
-mod meet_decl;
-mod meet_expr;
-mod names;
 mod translation;
 mod types;
 

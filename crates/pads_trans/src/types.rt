@@ -3,14 +3,13 @@ ghost use Rattle.std.specs.Prelude.{◌≡◌, ◌∷◌, [], map, Some, IfOk};
 ghost use Rattle.pads_code.specs.CodePage.{byte_of};
 ghost use Rattle.pads_trans.specs.Terms.{coding_of, base_of, text_of, literal_of, form_of, key_of, spelling_of, label_of, enum_of, constrained as constrained_by, some_arm, none_arm, optional as optional_of, named_type as named, bare_type as bare, type_of};
 
-use crate::expr::{expr, exprs};
-use crate::names::Numbering;
 use pads_bases::{Label as Spelled, Labels};
 use pads_calc::{Arm, Arms, Base, Exprs, Key, Result2, Term};
 use pads_code::{Coding, encode};
 use pads_resolved::{
     BaseType, Computed, Const, Expr as Tree, Label, Literal, Prefix, Type, TypeName,
 };
+use pads_trans_expr::{Numbering, translate_expr, translate_exprs};
 use pads_value::{Boxed, Bytes, Items, Memory};
 use std::alloc::Global;
 
@@ -134,9 +133,9 @@ pub(crate) fn guarded(
 ) -> Result<Term, Memory>
     ensures guarded { IfOk result (λ made. made ≡ constrained_by names.now inner name.now (Some condition.now)) }
 {
-    let condition = expr(alloc, names, condition)?;
-    let number = names.number(name);
-    Ok(Term::Guard(Boxed::new(alloc, inner)?, number, condition))
+    let inner = Boxed::new(alloc, inner)?;
+    let condition = translate_expr(alloc, names, condition)?;
+    Ok(Term::Guard(inner, names.number(name), condition))
 }
 
 /// A term under a constraint, if there is one.
@@ -192,7 +191,7 @@ fn named_type(ambient: Coding, name: TypeName, args: Exprs) -> Term
 fn bare_type(alloc: Global, names: &Numbering, ambient: Coding, of: &Type) -> Result<Term, Memory>
     ensures bare { IfOk result (λ made. made ≡ bare names.now ambient of.now) }
 {
-    let args = exprs(alloc, names, of.args.as_slice())?;
+    let args = translate_exprs(alloc, names, of.args.as_slice())?;
     Ok(named_type(ambient, of.name, args))
 }
 

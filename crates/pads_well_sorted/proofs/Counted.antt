@@ -38,11 +38,11 @@ use Rattle.pads_resolved.specs.declared.types.Literal.TheVariants as literal
 use Rattle.pads_resolved.specs.declared.types.«Type».{«Type» as Typed}
 use Rattle.pads_resolved.specs.declared.types.TypeName.{TypeName}
 use Rattle.pads_resolved.specs.declared.types.TypeName.TheVariants as type_name
-use Rattle.pads_trans.specs.Expressions.{expr_of}
-use Rattle.pads_trans.specs.Met.{names_of}
 use Rattle.pads_trans.specs.Modules.{module_of}
-use Rattle.pads_trans.specs.Names.{Name, at_sign, number_of}
 use Rattle.pads_trans.specs.Terms.{base_of, text_of, literal_of, form_of, label_of, enum_of, first, separator, terminator, named_type, constrained, constrained_type, some_arm, none_arm, optional, bare_type, type_of, field_of, part_of, struct_of, arm_of, case_of, default_of, switch_of, union_of, seq_of, array_of, body_of, read_body, decl_of}
+use Rattle.pads_trans_expr.specs.Expressions.{expr_of}
+use Rattle.pads_trans_expr.specs.Met.{names_of}
+use Rattle.pads_trans_expr.specs.Names.{Name, at_sign, number_of}
 use Rattle.pads_well_sorted.specs.Expressions.{Scope, if_read, if_default, union_branches}
 use Rattle.pads_well_sorted.specs.WellSorted.{IfThere, IsBody, IsDecl, WellSorted, params_scope}
 use Rattle.pads_well_sorted.proofs.Lists.{both-true, either-one, mapped-there, all-at}

@@ -6,9 +6,9 @@ use Rattle.pads_calc.specs.Counts.{module_counts}
 use Rattle.pads_calc.specs.Scopes.{arities_of, decl_in_scope, name_there, shape_there, module_in_scope}
 use Rattle.pads_code.specs.declared.Coding.{Coding}
 use Rattle.pads_resolved.specs.declared.decl.Description.{Description}
-use Rattle.pads_trans.specs.Met.{in_decl, names_of}
 use Rattle.pads_trans.specs.Modules.{shape_of, module_of, is_formed, is_module}
 use Rattle.pads_trans.specs.Terms.{decl_of}
+use Rattle.pads_trans_expr.specs.Met.{in_decl, names_of}
 use Rattle.pads_well_sorted.specs.WellSorted.{IfThere, WellSorted}
 use Rattle.pads_well_sorted.proofs.Counted.{module-counts}
 use Rattle.pads_well_sorted.proofs.Lists.{both-true, mapped-there, all-at, each-flat}

@@ -35,9 +35,9 @@ use Rattle.pads_resolved.specs.declared.types.TypeName.TheVariants as type_name
 use Rattle.pads_sorted.specs.Sorts.{Sort as TermSort, Number, Text, Truth, Nothing, Struct, Choice, Array, base_sort, sort_at, sort_of, AreSorts}
 use Rattle.pads_sorted.proofs.Forms.{layer_sort, sort-out}
 use Rattle.pads_sorted.proofs.Layers.{out-Base, out-Struct, out-Alt, out-Switch, out-Guard, out-Seq, out-Call, out-Compute}
-use Rattle.pads_trans.specs.Expressions.{expr_of}
-use Rattle.pads_trans.specs.Names.{Name, at_sign, number_of}
 use Rattle.pads_trans.specs.Terms.{base_of, label_of, enum_of, named_type, constrained, constrained_type, some_arm, none_arm, optional, bare_type, type_of, field_of, part_of, struct_of, arm_of, case_of, default_of, switch_of, union_of, seq_of, array_of, body_of, read_body, decl_of}
+use Rattle.pads_trans_expr.specs.Expressions.{expr_of}
+use Rattle.pads_trans_expr.specs.Names.{Name, at_sign, number_of}
 use Rattle.pads_well_sorted.specs.Expressions.{Scope, if_read, if_default, union_branches}
 use Rattle.pads_well_sorted.specs.Sorts as sorts_of
 use Rattle.pads_well_sorted.specs.Sorts.{num, text, named_sort, type_sort, behind_popt, body_sort}

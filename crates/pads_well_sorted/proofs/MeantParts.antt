@@ -22,9 +22,9 @@ use Rattle.pads_resolved.specs.declared.types.Branch.{Branch}
 use Rattle.pads_sorted.specs.Expressions as made
 use Rattle.pads_sorted.specs.Sorts.{Sort as TermSort, Number, Truth, Choice, sort_at, sort_of, AreSorts}
 use Rattle.pads_sorted.proofs.Forms.{layer_sort}
-use Rattle.pads_trans.specs.Expressions.{expr_of}
-use Rattle.pads_trans.specs.Names.{Name}
 use Rattle.pads_trans.specs.Terms.{form_of, label_of, type_of, field_of, part_of, body_of, decl_of}
+use Rattle.pads_trans_expr.specs.Expressions.{expr_of}
+use Rattle.pads_trans_expr.specs.Names.{Name}
 use Rattle.pads_well_sorted.specs.Expressions as sorting
 use Rattle.pads_well_sorted.specs.Expressions.{Scope, plainly, number_alone, if_read, body_at, union_branches, value_of, part_sort, branch_of, union_branch, branch_by, branch_sort, optional_branch, plain_choice, choice_by, choice_sort, element_of, of_elements, element_sort}
 use Rattle.pads_well_sorted.specs.Sorts.{truth, computed_sort, type_sort}

@@ -5,8 +5,8 @@ use Rattle.std.proofs.lemmas.List.Folds.{list_any-append}
 use Rattle.std.proofs.lemmas.List.Sums.{passes_at_first}
 use lib.Pointwise.{pointwise, bytes_decides}
 use Rattle.pads_resolved.specs.declared.decl.Description.{Description}
-use Rattle.pads_trans.specs.Met.{in_decl, names_of}
-use Rattle.pads_trans.specs.Names.{Name, place_of, number_at, number_of, names_at, with_name, with_names}
+use Rattle.pads_trans_expr.specs.Met.{in_decl, names_of}
+use Rattle.pads_trans_expr.specs.Names.{Name, place_of, number_at, number_of, names_at, with_name, with_names}
 use Rattle.pads_well_sorted.specs.WellSorted.{Each}
 use Rattle.pads_well_sorted.proofs.Lists.{either-true}
 

@@ -34,11 +34,11 @@ use Rattle.pads_sorted.specs.Plain.{IsPlain, Plain, HasPlainLabels, IsMark, IsAb
 use Rattle.pads_sorted.specs.Terms.{if_there}
 use Rattle.pads_sorted.proofs.Layers.{out-Unit, out-Base, out-Lit, out-Eor, out-Struct, out-Alt, out-Switch, out-Guard, out-Seq, out-Call, out-Compute, out-Absorb, out-Scan}
 use Rattle.pads_sorted.proofs.Made.{Each as AllOf, plain-as}
-use Rattle.pads_trans.specs.Expressions.{expr_of}
-use Rattle.pads_trans.specs.Met.{names_of}
 use Rattle.pads_trans.specs.Modules.{module_of}
-use Rattle.pads_trans.specs.Names.{Name, at_sign, number_of}
 use Rattle.pads_trans.specs.Terms.{base_of, text_of, literal_of, form_of, label_of, enum_of, first, separator, terminator, named_type, constrained, constrained_type, some_arm, none_arm, optional, bare_type, type_of, field_of, part_of, struct_of, arm_of, case_of, default_of, switch_of, union_of, seq_of, array_of, body_of, read_body, decl_of}
+use Rattle.pads_trans_expr.specs.Expressions.{expr_of}
+use Rattle.pads_trans_expr.specs.Met.{names_of}
+use Rattle.pads_trans_expr.specs.Names.{Name, at_sign, number_of}
 use Rattle.pads_well_sorted.specs.Expressions.{Scope, if_read, if_default}
 use Rattle.pads_well_sorted.specs.WellSorted.{Each, IfThere, IsNamed, IsType, IsBranch, IsPart, behind, AreParts, IsStruct, IsUnion, IsArray, IsEnum, IsBody, IsDecl, WellSorted, params_scope}
 use Rattle.pads_well_sorted.proofs.Lists.{all-append, either-one, mapped-there}

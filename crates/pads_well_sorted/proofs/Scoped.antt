@@ -11,9 +11,9 @@ use Rattle.pads_resolved.specs.declared.expr.BinaryOperator.{BinaryOperator}
 use Rattle.pads_resolved.specs.declared.expr.Expr.{Expr, Expr-F, roll-Expr, map-Expr}
 use Rattle.pads_resolved.specs.declared.expr.Meaning.{Meaning}
 use Rattle.pads_resolved.specs.declared.expr.Meaning.TheVariants as meaning
-use Rattle.pads_trans.specs.Expressions.{expr_of, expr_step as made_step, meaning_of, operator_of}
-use Rattle.pads_trans.specs.Met.{Met, in_expr, expr_met}
-use Rattle.pads_trans.specs.Names.{Name, at_sign, number_of}
+use Rattle.pads_trans_expr.specs.Expressions.{expr_of, expr_step as made_step, meaning_of, operator_of}
+use Rattle.pads_trans_expr.specs.Met.{Met, in_expr, expr_met}
+use Rattle.pads_trans_expr.specs.Names.{Name, at_sign, number_of}
 use Rattle.pads_well_sorted.specs.Expressions.{Scope, sort_in_scope, as_told, same_form, sort_in, expr_step, meaning_sort}
 use Rattle.pads_well_sorted.specs.Sorts.{num}
 use Rattle.pads_well_sorted.specs.WellSorted.{Each}

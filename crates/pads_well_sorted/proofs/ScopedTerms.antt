@@ -40,10 +40,10 @@ use Rattle.pads_resolved.specs.declared.types.Param.{Param}
 use Rattle.pads_resolved.specs.declared.types.«Type».{«Type» as Typed}
 use Rattle.pads_resolved.specs.declared.types.TypeName.{TypeName}
 use Rattle.pads_resolved.specs.declared.types.TypeName.TheVariants as type_name
-use Rattle.pads_trans.specs.Expressions.{expr_of}
-use Rattle.pads_trans.specs.Met.{Met, in_expr, in_option, in_type, in_branch, in_part, in_where, in_struct, in_case, in_default, in_switch, in_union, in_array_option, in_array, in_constraint, in_typedef, in_body, in_read_body, in_decl}
-use Rattle.pads_trans.specs.Names.{Name, at_sign, some_name, none_name, number_of}
-use Rattle.pads_trans.specs.Terms.{base_of, text_of, literal_of, form_of, label_of, first, separator, terminator, last, named_type, option_of, constrained, constrained_type, some_arm, none_arm, optional, bare_type, type_of, field_of, part_of, struct_of, arm_of, case_of, default_of, switch_of, union_of, seq_of, array_of, body_of, read_body, decl_of}
+use Rattle.pads_trans.specs.Terms.{base_of, text_of, literal_of, form_of, label_of, first, separator, terminator, last, named_type, constrained, constrained_type, some_arm, none_arm, optional, bare_type, type_of, field_of, part_of, struct_of, arm_of, case_of, default_of, switch_of, union_of, seq_of, array_of, body_of, read_body, decl_of}
+use Rattle.pads_trans_expr.specs.Expressions.{expr_of, option_of}
+use Rattle.pads_trans_expr.specs.Met.{Met, in_expr, in_option, in_type, in_branch, in_part, in_where, in_struct, in_case, in_default, in_switch, in_union, in_array_option, in_array, in_constraint, in_typedef, in_body, in_read_body, in_decl}
+use Rattle.pads_trans_expr.specs.Names.{Name, at_sign, some_name, none_name, number_of}
 use Rattle.pads_well_sorted.specs.Expressions.{Scope, if_read, if_default}
 use Rattle.pads_well_sorted.specs.Sorts.{plain, num, computed_sort, type_sort}
 use Rattle.pads_well_sorted.specs.WellSorted.{Each, IfThere, Takes, HaveSorts, IsTruth, IsNumber, IsConstraint, IsNamed, IsType, IsBranch, IsPart, behind, AreParts, IsStruct, Chooses, IsUnion, IsOption, IsArray, IsBody, IsDecl, params_scope, param_sorts}

@@ -37,10 +37,10 @@ use Rattle.pads_sorted.specs.Sorted.{Sorts, IsSorted, Standing, stands, bind_sor
 use Rattle.pads_sorted.specs.Sorts.{Sort as TermSort, Number, Text, Nothing, is_number, is_text, is_truth, sort_at, sort_of, AreSorts}
 use Rattle.pads_sorted.proofs.Layers.{out-Unit, out-Base, out-Lit, out-Eor, out-Struct, out-Alt, out-Switch, out-Guard, out-Call, out-Compute, out-Absorb, out-Scan}
 use Rattle.pads_sorted.proofs.Made.{Each as AllOf, sorted-as}
-use Rattle.pads_trans.specs.Expressions.{expr_of}
-use Rattle.pads_trans.specs.Met.{Met, in_expr, in_option, in_type, in_branch, in_part, in_where, in_struct, in_case, in_default, in_switch, in_union}
-use Rattle.pads_trans.specs.Names.{Name, at_sign, some_name, none_name, number_of}
 use Rattle.pads_trans.specs.Terms.{base_of, text_of, literal_of, form_of, key_of, named_type, constrained, some_arm, none_arm, optional, bare_type, type_of, field_of, part_of, struct_of, arm_of, case_of, default_of, switch_of, union_of, decl_of}
+use Rattle.pads_trans_expr.specs.Expressions.{expr_of}
+use Rattle.pads_trans_expr.specs.Met.{Met, in_expr, in_option, in_type, in_branch, in_part, in_where, in_struct, in_case, in_default, in_switch, in_union}
+use Rattle.pads_trans_expr.specs.Names.{Name, at_sign, some_name, none_name, number_of}
 use Rattle.pads_well_sorted.specs.Expressions.{Scope, if_default}
 use Rattle.pads_well_sorted.specs.Sorts.{plain, num, text, truth, computed_sort, type_sort}
 use Rattle.pads_well_sorted.specs.WellSorted.{AreSorts as AreSortsOf, Each, IsNumberKey, IsTextKey, Takes, HasSort, HaveSorts, IsTruth, IsConstraint, IsNamed, IsType, IsBranch, IsPart, IsParam, behind, AreParts, IsStruct, Chooses, IsUnion, IsDecl, param_sorts}

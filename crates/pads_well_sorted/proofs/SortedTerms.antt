@@ -30,10 +30,11 @@ use Rattle.pads_sorted.specs.Terms.{if_there}
 use Rattle.pads_sorted.proofs.Layers.{out-Base, out-Seq}
 use Rattle.pads_sorted.proofs.Made.{Each as AllOf, sorted-as}
 use Rattle.pads_sorted.proofs.PlainSorts.{plain-sorts}
-use Rattle.pads_trans.specs.Met.{Met, names_of, in_expr, in_option, in_type, in_array_option, in_array, in_constraint, in_typedef, in_body, in_read_body, in_decl}
 use Rattle.pads_trans.specs.Modules.{module_of}
-use Rattle.pads_trans.specs.Names.{Name, at_sign, number_of}
-use Rattle.pads_trans.specs.Terms.{text_of, literal_of, label_of, first, separator, terminator, last, option_of, constrained_type, type_of, seq_of, array_of, body_of, read_body, decl_of}
+use Rattle.pads_trans.specs.Terms.{text_of, literal_of, label_of, first, separator, terminator, last, constrained_type, type_of, seq_of, array_of, body_of, read_body, decl_of}
+use Rattle.pads_trans_expr.specs.Expressions.{option_of}
+use Rattle.pads_trans_expr.specs.Met.{Met, names_of, in_expr, in_option, in_type, in_array_option, in_array, in_constraint, in_typedef, in_body, in_read_body, in_decl}
+use Rattle.pads_trans_expr.specs.Names.{Name, at_sign, number_of}
 use Rattle.pads_well_sorted.specs.Expressions.{Scope, if_read}
 use Rattle.pads_well_sorted.specs.Sorts.{plain, num, truth, type_sort}
 use Rattle.pads_well_sorted.specs.WellSorted.{AreSorts as AreSortsOf, Each, IfThere, IsTruth, IsNumber, IsParam, IsOption, IsArray, IsBody, IsDecl, WellSorted, params_scope}

@@ -5,9 +5,9 @@ use Rattle.pads_expr.specs.declared.expr.Expr.{Expr as Made}
 use Rattle.pads_sorts.specs.declared.sort.Sort.{Sort}
 use Rattle.pads_resolved.specs.declared.decl.Decl.{Decl}
 use Rattle.pads_resolved.specs.declared.expr.Expr.{Expr, Expr-F, out-Expr, roll-Expr, roll-out-Expr, map-Expr, fold-roll-Expr, size-Expr, the_lemmas}
-use Rattle.pads_trans.specs.Expressions.{expr_of, expr_step as made_step}
-use Rattle.pads_trans.specs.Met.{Met, in_expr, expr_met}
-use Rattle.pads_trans.specs.Names.{Name}
+use Rattle.pads_trans_expr.specs.Expressions.{expr_of, expr_step as made_step}
+use Rattle.pads_trans_expr.specs.Met.{Met, in_expr, expr_met}
+use Rattle.pads_trans_expr.specs.Names.{Name}
 use Rattle.pads_well_sorted.specs.Expressions.{Scope, sort_in, expr_step}
 
 -- what holds of each expression directly in one

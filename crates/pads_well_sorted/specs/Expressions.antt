@@ -22,7 +22,7 @@ use Rattle.pads_resolved.specs.declared.expr.Meaning.{Meaning}
 use Rattle.pads_resolved.specs.declared.expr.Meaning.TheVariants as meaning
 use Rattle.pads_resolved.specs.declared.types.Branch.{Branch}
 use Rattle.pads_resolved.specs.declared.types.«Type».{«Type» as Typed}
-use Rattle.pads_trans.specs.Names.{Name, at_sign}
+use Rattle.pads_trans_expr.specs.Names.{Name, at_sign}
 use Rattle.pads_well_sorted.specs.Sorts.{num, text, truth, computed_sort, type_sort}
 
 -- Names with the sorts of what they stand for, the latest binding first. `@` stands for the elements so far

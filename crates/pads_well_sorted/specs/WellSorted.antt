@@ -30,9 +30,9 @@ use Rattle.pads_resolved.specs.declared.types.Param.{Param}
 use Rattle.pads_resolved.specs.declared.types.«Type».{«Type» as Typed}
 use Rattle.pads_resolved.specs.declared.types.TypeName.{TypeName}
 use Rattle.pads_resolved.specs.declared.types.TypeName.TheVariants as type_name
-use Rattle.pads_trans.specs.Met.{names_of}
-use Rattle.pads_trans.specs.Names.{Name, at_sign}
 use Rattle.pads_trans.specs.Terms.{label_of}
+use Rattle.pads_trans_expr.specs.Met.{names_of}
+use Rattle.pads_trans_expr.specs.Names.{Name, at_sign}
 use Rattle.pads_well_sorted.specs.Expressions.{Scope, sort_in, if_read, union_branches}
 use Rattle.pads_well_sorted.specs.Sorts.{plain, num, text, truth, computed_sort, type_sort, body_sort}
 

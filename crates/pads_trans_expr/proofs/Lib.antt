@@ -1,0 +1,4 @@
+pub mod Places
+pub mod MetRolls
+pub mod ExprRolls
+mod Rows
