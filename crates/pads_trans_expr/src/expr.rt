@@ -120,11 +120,7 @@ pub fn translate_option(
 }
 
 /// The translations of expressions in their order.
-pub fn translate_exprs(
-    alloc: Global,
-    names: &Numbering,
-    es: &[Tree],
-) -> Result<Items<Expr>, Memory>
+pub fn translate_exprs(alloc: Global, names: &Numbering, es: &[Tree]) -> Result<Items<Expr>, Memory>
     ensures exprs { IfOk result (λ made. made ≡ map (expr_of names.now) es.now) }
 {
     let mut made = Items::new(alloc);
