@@ -1,5 +1,5 @@
 -- The names of a description stay as they are in a table, so a module made with one is the description's.
-use Rattle.std.proofs.Common.{◌≡◌, ◌∙◌, ap, refl, Bool, true, ◌&&◌, nat_lt, List, [], length}
+use Rattle.std.proofs.Common.{◌≡◌, ◌∙◌, ap, refl, true, ◌&&◌, nat_lt, List, [], length}
 use Rattle.std.specs.List.{flat_map}
 use Rattle.pads_code.specs.declared.Coding.{Coding}
 use Rattle.pads_resolved.specs.declared.decl.Description.{Description}

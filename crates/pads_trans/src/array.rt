@@ -126,12 +126,12 @@ fn sequence(alloc: Global, names: &Numbering, ambient: Coding, body: &Array) -> 
 {
     let options = body.options.as_slice();
     Ok(Seq {
-        elts: names.number(b"@"),
+        elem: type_term(alloc, names, ambient, &body.of)?,
+        sep: separator_term(alloc, ambient, options)?,
         size: translate_option(alloc, names, &body.size)?,
         last: last_condition(alloc, names, options)?,
-        sep: separator_term(alloc, ambient, options)?,
         stop: terminator_term(alloc, ambient, options)?,
-        elem: type_term(alloc, names, ambient, &body.of)?,
+        elts: names.number(b"@"),
     })
 }
 
