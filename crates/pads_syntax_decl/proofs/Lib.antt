@@ -2,7 +2,6 @@ pub mod Outermost
 pub mod Firsts
 pub mod PartLaws
 pub mod BodyLaws
-pub mod DeclLaws
 pub mod LoopForms
 pub mod TypeLoops
 pub mod DeclLoops

@@ -7,7 +7,7 @@ ghost use Rattle.pads_syntax_expr.specs.Leaves.{mark};
 ghost use Rattle.pads_syntax_decl.specs.Parts.{separator, terminator, last_test, array_option, array_options};
 ghost use Rattle.pads_syntax_decl.specs.Declarations.{sized, array_decl, array_body};
 
-use crate::expressions::{expression, optional_expression};
+use crate::expressions::{expression, optional_expression, with_mark};
 use crate::literals::{literal, opened};
 use crate::structure::{heading, optional_condition};
 use crate::types::type_use;
@@ -23,7 +23,7 @@ fn separator(alloc: Global, cursor: &mut Cursor<'_>) -> Reading<ArrayOption>
 {
     let at = opened(cursor, Kind::Psep)?;
     let separator = word(alloc, cursor)?;
-    let _close = cursor.mark(Kind::CloseParen)?;
+    let (separator, _close) = with_mark(separator, cursor, Kind::CloseParen)?;
     Ok(ArrayOption::Psep { at, separator })
 }
 
@@ -33,7 +33,7 @@ fn terminator(alloc: Global, cursor: &mut Cursor<'_>) -> Reading<ArrayOption>
 {
     let at = opened(cursor, Kind::Pterm)?;
     let terminator = literal(alloc, cursor)?;
-    let _close = cursor.mark(Kind::CloseParen)?;
+    let (terminator, _close) = with_mark(terminator, cursor, Kind::CloseParen)?;
     Ok(ArrayOption::Pterm { at, terminator })
 }
 
@@ -43,7 +43,7 @@ fn last_test(alloc: Global, cursor: &mut Cursor<'_>) -> Reading<ArrayOption>
 {
     let at = opened(cursor, Kind::Plast)?;
     let condition = expression(alloc, cursor)?;
-    let _close = cursor.mark(Kind::CloseParen)?;
+    let (condition, _close) = with_mark(condition, cursor, Kind::CloseParen)?;
     Ok(ArrayOption::Plast { at, condition })
 }
 
@@ -99,9 +99,9 @@ fn sized(alloc: Global, cursor: &mut Cursor<'_>) -> Reading<(Type, Option<Expr>)
     ensures reads { Reads (reads sized cursor.old) result cursor.new }
 {
     let of = type_use(alloc, cursor)?;
-    let _open = cursor.mark(Kind::OpenBracket)?;
+    let (of, _open) = with_mark(of, cursor, Kind::OpenBracket)?;
     let size = optional_expression(alloc, cursor)?;
-    let _close = cursor.mark(Kind::CloseBracket)?;
+    let (size, _close) = with_mark(size, cursor, Kind::CloseBracket)?;
     Ok((of, size))
 }
 

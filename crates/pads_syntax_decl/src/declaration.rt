@@ -7,6 +7,7 @@ ghost use Rattle.pads_syntax_decl.specs.Declarations.{marked, decl_body, other_b
 
 use crate::array::array_decl;
 use crate::enumeration::enum_decl;
+use crate::expressions::with_mark;
 use crate::structure::struct_decl;
 use crate::typedef::{opt_decl, typedef_decl};
 use crate::unions::union_decl;
@@ -80,12 +81,13 @@ fn decl_body(alloc: Global, cursor: &mut Cursor<'_>) -> Reading<DeclBody>
     }
 }
 
+#[tactic(auto, unfolding(crate::specs::Declarations::decl))]
 fn decl(alloc: Global, cursor: &mut Cursor<'_>) -> Reading<Decl>
     ensures reads { Reads (reads decl cursor.old) result cursor.new }
 {
     let mark = marked(cursor)?;
     let body = decl_body(alloc, cursor)?;
-    let _end = cursor.mark(Kind::Semicolon)?;
+    let (body, _end) = with_mark(body, cursor, Kind::Semicolon)?;
     Ok(Decl { mark, body })
 }
 

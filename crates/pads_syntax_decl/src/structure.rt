@@ -7,7 +7,7 @@ ghost use Rattle.pads_syntax_decl.specs.Types.{branch, literal};
 ghost use Rattle.pads_syntax_decl.specs.Parts.{literal_part, computed_name, computed_part, part, condition};
 ghost use Rattle.pads_syntax_decl.specs.Declarations.{signature, heading, struct_decl};
 
-use crate::expressions::{expression, optional_mark};
+use crate::expressions::{expression, optional_mark, with_mark};
 use crate::literals::literal;
 use crate::types::{branch, params, type_use};
 use pads_ast::{Expr, Name, Params, Part, Struct, Type};
@@ -51,7 +51,7 @@ fn computed_name(alloc: Global, cursor: &mut Cursor<'_>) -> Reading<(Type, Name)
     let _keyword = cursor.mark(Kind::Pcompute)?;
     let of = type_use(alloc, cursor)?;
     let name = name(alloc, cursor)?;
-    let _equals = cursor.mark(Kind::Equals)?;
+    let (name, _equals) = with_mark(name, cursor, Kind::Equals)?;
     Ok((of, name))
 }
 
@@ -60,7 +60,7 @@ fn computed_part(alloc: Global, cursor: &mut Cursor<'_>) -> Reading<Part>
 {
     let (of, name) = computed_name(alloc, cursor)?;
     let value = expression(alloc, cursor)?;
-    let _end = cursor.mark(Kind::Semicolon)?;
+    let (value, _end) = with_mark(value, cursor, Kind::Semicolon)?;
     Ok(Part::Pcompute { of, name, value })
 }
 
@@ -136,7 +136,7 @@ fn condition(alloc: Global, cursor: &mut Cursor<'_>) -> Reading<Expr>
     let _open = cursor.mark(Kind::OpenBrace)?;
     let condition = expression(alloc, cursor)?;
     let _end = optional_mark(cursor, Kind::Semicolon)?;
-    let _close = cursor.mark(Kind::CloseBrace)?;
+    let (condition, _close) = with_mark(condition, cursor, Kind::CloseBrace)?;
     Ok(condition)
 }
 

@@ -5,7 +5,7 @@ ghost use Rattle.pads_grammar.specs.Reads.{Reads};
 ghost use Rattle.pads_syntax_decl.specs.Parts.{refined_names, refinement};
 ghost use Rattle.pads_syntax_decl.specs.Declarations.{typedef_decl, opt_decl};
 
-use crate::expressions::expression;
+use crate::expressions::{expression, with_mark};
 use crate::structure::signature;
 use crate::types::type_use;
 use pads_ast::{Constraint, Name, Opt, Typedef};
@@ -31,7 +31,7 @@ fn refinement(alloc: Global, cursor: &mut Cursor<'_>) -> Reading<Constraint>
 {
     let (name, variable) = refined_names(alloc, cursor)?;
     let condition = expression(alloc, cursor)?;
-    let _close = cursor.mark(Kind::CloseBrace)?;
+    let (condition, _close) = with_mark(condition, cursor, Kind::CloseBrace)?;
     Ok(Constraint {
         name,
         variable,

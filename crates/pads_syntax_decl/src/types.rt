@@ -7,7 +7,7 @@ ghost use Rattle.pads_ast.specs.declared.types.Arg.TheVariants as arg_form;
 ghost use Rattle.pads_syntax_expr.specs.Leaves.{mark};
 ghost use Rattle.pads_syntax_decl.specs.Types.{arg, args, type_use, param, params, branch};
 
-use crate::expressions::{constraint, expression, optional_mark};
+use crate::expressions::{constraint, expression, optional_mark, with_mark};
 use pads_ast::{Arg, Branch, Param, Params, Type};
 use pads_grammar::{Cursor, Kind, Reading};
 use pads_syntax_expr::name;
@@ -125,7 +125,7 @@ pub fn branch(alloc: Global, cursor: &mut Cursor<'_>) -> Reading<Branch>
     let of = type_use(alloc, cursor)?;
     let name = name(alloc, cursor)?;
     let constraint = constraint(alloc, cursor)?;
-    let _end = cursor.mark(Kind::Semicolon)?;
+    let (constraint, _end) = with_mark(constraint, cursor, Kind::Semicolon)?;
     Ok(Branch {
         of,
         name,

@@ -1,13 +1,13 @@
 ghost use Rattle.std.specs.Prelude.{◌≡◌};
 ghost use Rattle.pads_grammar.specs.declared.kind.Kind.TheVariants as kind;
-ghost use Rattle.pads_grammar.specs.Grammar.{reads, begins, optional, many, apply};
+ghost use Rattle.pads_grammar.specs.Grammar.{reads, begins, optional, many, apply, ◌&◌};
 ghost use Rattle.pads_grammar.specs.Reads.{Reads};
 ghost use Rattle.pads_ast.specs.declared.decl.UnionBody.TheVariants as union_form;
 ghost use Rattle.pads_syntax_decl.specs.Types.{branch};
 ghost use Rattle.pads_syntax_decl.specs.Parts.{case_key, case_rule, default_case, switch_value, switch};
 ghost use Rattle.pads_syntax_decl.specs.Declarations.{union_body, union_decl};
 
-use crate::expressions::expression;
+use crate::expressions::{expression, with_mark};
 use crate::literals::constant;
 use crate::structure::heading;
 use crate::types::branch;
@@ -72,21 +72,29 @@ fn switch_value(alloc: Global, cursor: &mut Cursor<'_>) -> Reading<Expr>
     ensures reads { Reads (reads switch_value cursor.old) result cursor.new }
 {
     let _keyword = cursor.mark(Kind::Pswitch)?;
-    let _open = cursor.mark(Kind::OpenParen)?;
+    let _paren = cursor.mark(Kind::OpenParen)?;
     let value = expression(alloc, cursor)?;
-    let _close = cursor.mark(Kind::CloseParen)?;
-    let _brace = cursor.mark(Kind::OpenBrace)?;
+    let (value, _close) = with_mark(value, cursor, Kind::CloseParen)?;
+    let (value, _open) = with_mark(value, cursor, Kind::OpenBrace)?;
     Ok(value)
+}
+
+/// What a switch chooses by, and its cases.
+fn switch_cases(alloc: Global, cursor: &mut Cursor<'_>) -> Reading<(Expr, Items<Case>)>
+    ensures reads { Reads (reads (switch_value & many case_rule) cursor.old) result cursor.new }
+{
+    let value = switch_value(alloc, cursor)?;
+    let cases = cases(alloc, cursor)?;
+    Ok((value, cases))
 }
 
 #[tactic(auto, unfolding(crate::specs::Parts::switch))]
 fn switch(alloc: Global, cursor: &mut Cursor<'_>) -> Reading<Switch>
     ensures reads { Reads (reads switch cursor.old) result cursor.new }
 {
-    let value = switch_value(alloc, cursor)?;
-    let cases = cases(alloc, cursor)?;
+    let (value, cases) = switch_cases(alloc, cursor)?;
     let default = default_case(alloc, cursor)?;
-    let _close = cursor.mark(Kind::CloseBrace)?;
+    let (default, _close) = with_mark(default, cursor, Kind::CloseBrace)?;
     Ok(Switch {
         value,
         cases,
@@ -131,6 +139,6 @@ pub fn union_decl(alloc: Global, cursor: &mut Cursor<'_>) -> Reading<Union>
 {
     let (name, params) = heading(alloc, cursor, Kind::Punion)?;
     let body = union_body(alloc, cursor)?;
-    let _close = cursor.mark(Kind::CloseBrace)?;
+    let (body, _close) = with_mark(body, cursor, Kind::CloseBrace)?;
     Ok(Union { name, params, body })
 }
