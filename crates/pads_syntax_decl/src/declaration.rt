@@ -7,12 +7,12 @@ ghost use Rattle.pads_syntax_decl.specs.Declarations.{marked, decl_body, other_b
 
 use crate::array::array_decl;
 use crate::enumeration::enum_decl;
-use crate::expressions::with_mark;
 use crate::structure::struct_decl;
 use crate::typedef::{opt_decl, typedef_decl};
 use crate::unions::union_decl;
 use pads_ast::{Decl, DeclBody, DeclMark};
 use pads_grammar::{Cursor, Kind, Reading};
+use pads_syntax_parts::with_mark;
 use pads_value::Items;
 use std::alloc::Global;
 
