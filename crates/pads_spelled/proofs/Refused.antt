@@ -15,7 +15,7 @@ use Rattle.pads_ast.specs.declared.decl.Enum.{Enum}
 use Rattle.pads_ast.specs.declared.decl.Label.{Label}
 use Rattle.pads_ast.specs.declared.name.Name.{Name}
 use Rattle.pads_syntax_expr.specs.Leaves.{mark, name}
-use Rattle.pads_syntax_decl.specs.Parts.{spelling, label, labels}
+use Rattle.pads_syntax_parts.specs.Parts.{spelling, label, labels}
 use Rattle.pads_syntax_decl.specs.Declarations.{enum_heading, enum_decl, marked, other_body, decl_body, decl}
 use Rattle.pads_syntax.specs.Trees.{IsTree}
 use Rattle.pads_accepted.specs.Known.{IsSpelledTree}

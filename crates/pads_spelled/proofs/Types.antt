@@ -9,7 +9,7 @@ use Rattle.pads_ast.specs.declared.types.Param.{Param}
 use Rattle.pads_ast.specs.declared.types.Type.{«Type»}
 use Rattle.pads_rules.specs.NameTokens.{names_in_expr, names_in_option, names_in_arg, names_in_type, names_in_param, names_in_branch}
 use Rattle.pads_syntax_expr.specs.Leaves.{mark}
-use Rattle.pads_syntax_decl.specs.Types.{expression, arg, args, type_use, param, params, constraint, branch}
+use Rattle.pads_syntax_parts.specs.Types.{expression, arg, args, type_use, param, params, constraint, branch}
 use Rattle.pads_well_sorted.specs.WellSorted.{Each, IfThere}
 use Rattle.pads_accepted.specs.Described.{IsSpelled, AreSpelled}
 use Rattle.pads_spelled.proofs.Expressions.{SpelledExpr, keeps-name, keeps-expr}

@@ -7,12 +7,14 @@ use Rattle.pads_grammar.specs.Grammar.{begins, ahead, Apart, Decides}
 use Rattle.pads_grammar.proofs.Disjoint.{apart_by, within_by}
 use Rattle.pads_syntax_expr.specs.Leaves.{mark}
 use Rattle.pads_syntax_expr.proofs.ExprDecides.{any_on}
-use Rattle.pads_syntax_decl.specs.Types.{type_use, params, branch, literal}
-use Rattle.pads_syntax_decl.specs.Parts.{part, condition, switch, refinement}
+use Rattle.pads_syntax_parts.specs.Types.{type_use, params, branch, literal}
+use Rattle.pads_syntax_parts.specs.Parts.{part, condition, refinement}
+use Rattle.pads_syntax_parts.proofs.Outermost.{expression_ok, solid_expression, apart_to}
+use Rattle.pads_syntax_parts.proofs.TypeDecides.{type_use_ok, params_ok, branch_ok}
+use Rattle.pads_syntax_parts.proofs.PartDecides.{part_ok, condition_ok, array_options_ok, labels_ok, refinement_ok}
+use Rattle.pads_syntax_decl.specs.Switches.{switch}
 use Rattle.pads_syntax_decl.specs.Declarations.{signature, heading, struct_decl, union_body, union_decl, sized, array_body, array_decl, enum_heading, enum_decl, typedef_decl, opt_decl, decl_mark, decl_body, other_body, marked, decl, decls}
-use Rattle.pads_syntax_decl.proofs.Outermost.{expression_ok, solid_expression, apart_to}
-use Rattle.pads_syntax_decl.proofs.TypeDecides.{type_use_ok, params_ok, branch_ok}
-use Rattle.pads_syntax_decl.proofs.PartDecides.{part_ok, condition_ok, switch_ok, array_options_ok, labels_ok, refinement_ok}
+use Rattle.pads_syntax_decl.proofs.SwitchDecides.{switch_ok}
 
 signature_ok : (F : Kind → Bool) → Apart (is kind.OpenParams) F → Decides signature F
 unfolding signature

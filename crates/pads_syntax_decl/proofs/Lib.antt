@@ -1,12 +1,5 @@
-pub mod Outermost
 pub mod Firsts
-pub mod PartLaws
 pub mod BodyLaws
-pub mod DeclLaws
-pub mod LoopForms
-pub mod TypeLoops
 pub mod DeclLoops
-pub mod LabelLoop
-pub mod TypeDecides
-pub mod PartDecides
+pub mod SwitchDecides
 pub mod DeclDecides

@@ -31,8 +31,9 @@ use Rattle.pads_ast.specs.declared.name.Name.{Name}
 use Rattle.pads_ast.specs.declared.types.Param.{Param}
 use Rattle.pads_ast.specs.declared.types.«Type».{«Type»}
 use Rattle.pads_syntax_expr.specs.Leaves.{mark, name}
-use Rattle.pads_syntax_decl.specs.Types.{expression, type_use, params, branch}
-use Rattle.pads_syntax_decl.specs.Parts.{part, condition, switch, array_options, labels, refinement}
+use Rattle.pads_syntax_parts.specs.Types.{expression, type_use, params, branch}
+use Rattle.pads_syntax_parts.specs.Parts.{part, condition, array_options, labels, refinement}
+use Rattle.pads_syntax_decl.specs.Switches.{switch}
 
 -- A name and the parameters behind it.
 unfoldable pub signature : Grammar (Name × Option (List Param))

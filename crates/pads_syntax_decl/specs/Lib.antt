@@ -1,3 +1,2 @@
-pub mod Types
-pub mod Parts
+pub mod Switches
 pub mod Declarations

@@ -1,97 +1,17 @@
 ghost use Rattle.std.specs.Prelude.{◌≡◌};
 ghost use Rattle.pads_grammar.specs.declared.kind.Kind.TheVariants as kind;
-ghost use Rattle.pads_grammar.specs.Grammar.{reads, begins, optional, many, apply, ◌*>◌};
-ghost use Rattle.pads_grammar.specs.Lists.{listed};
+ghost use Rattle.pads_grammar.specs.Grammar.{reads, begins, optional};
 ghost use Rattle.pads_grammar.specs.Reads.{Reads};
-ghost use Rattle.pads_syntax_expr.specs.Leaves.{mark};
-ghost use Rattle.pads_syntax_decl.specs.Parts.{separator, terminator, last_test, array_option, array_options};
 ghost use Rattle.pads_syntax_decl.specs.Declarations.{sized, array_decl, array_body};
 
-use crate::expressions::{expression, optional_expression};
-use crate::literals::{literal, opened};
-use crate::structure::{heading, optional_condition};
-use crate::types::type_use;
+use crate::structure::heading;
 use pads_ast::{Array, ArrayOption, Expr, Type};
 use pads_grammar::{Cursor, Kind, Reading};
-use pads_syntax_expr::word;
+use pads_syntax_parts::{
+    array_options, optional_condition, optional_expression, type_use, with_mark,
+};
 use pads_value::Items;
 use std::alloc::Global;
-
-/// `Psep` with what stands between two elements.
-fn separator(alloc: Global, cursor: &mut Cursor<'_>) -> Reading<ArrayOption>
-    ensures reads { Reads (reads separator cursor.old) result cursor.new }
-{
-    let at = opened(cursor, Kind::Psep)?;
-    let separator = word(alloc, cursor)?;
-    let _close = cursor.mark(Kind::CloseParen)?;
-    Ok(ArrayOption::Psep { at, separator })
-}
-
-/// `Pterm` with what ends the array.
-fn terminator(alloc: Global, cursor: &mut Cursor<'_>) -> Reading<ArrayOption>
-    ensures reads { Reads (reads terminator cursor.old) result cursor.new }
-{
-    let at = opened(cursor, Kind::Pterm)?;
-    let terminator = literal(alloc, cursor)?;
-    let _close = cursor.mark(Kind::CloseParen)?;
-    Ok(ArrayOption::Pterm { at, terminator })
-}
-
-/// `Plast` with what is true of the last element.
-fn last_test(alloc: Global, cursor: &mut Cursor<'_>) -> Reading<ArrayOption>
-    ensures reads { Reads (reads last_test cursor.old) result cursor.new }
-{
-    let at = opened(cursor, Kind::Plast)?;
-    let condition = expression(alloc, cursor)?;
-    let _close = cursor.mark(Kind::CloseParen)?;
-    Ok(ArrayOption::Plast { at, condition })
-}
-
-#[tactic(auto, unfolding(crate::specs::Parts::array_option))]
-fn array_option(alloc: Global, cursor: &mut Cursor<'_>) -> Reading<ArrayOption>
-    ensures reads { Reads (reads array_option cursor.old) result cursor.new }
-{
-    let next = cursor.peek();
-    if Kind::Psep.is(next) {
-        separator(alloc, cursor)
-    } else if Kind::Pterm.is(next) {
-        terminator(alloc, cursor)
-    } else {
-        last_test(alloc, cursor)
-    }
-}
-
-/// `&&`, and an option behind it.
-fn next_option(alloc: Global, cursor: &mut Cursor<'_>) -> Reading<ArrayOption>
-    ensures reads { Reads (reads (mark kind.And *> array_option) cursor.old) result cursor.new }
-{
-    let _and = cursor.mark(Kind::And)?;
-    array_option(alloc, cursor)
-}
-
-/// One option or more.
-#[tactic(auto, using(crate::proofs::DeclLoops::option_loop))]
-fn option_list(alloc: Global, cursor: &mut Cursor<'_>) -> Reading<Items<ArrayOption>>
-    ensures reads { Reads (reads (listed kind.And array_option) cursor.old) result cursor.new }
-{
-    let mut options = Items::new(alloc);
-    options.push(array_option(alloc, cursor)?)?;
-    'more: while Kind::And.is(cursor.peek()) {
-        options.push(next_option(alloc, cursor)?)?;
-    }
-    Ok(options)
-}
-
-/// The options of an array, of which there may be none.
-fn array_options(alloc: Global, cursor: &mut Cursor<'_>) -> Reading<Items<ArrayOption>>
-    ensures reads { Reads (reads array_options cursor.old) result cursor.new }
-{
-    if !Kind::Colon.is(cursor.peek()) {
-        return Ok(Items::new(alloc));
-    }
-    let _colon = cursor.mark(Kind::Colon)?;
-    option_list(alloc, cursor)
-}
 
 /// The type of the elements, and the size between brackets.
 #[tactic(auto, unfolding(crate::specs::Declarations::sized))]
@@ -101,7 +21,7 @@ fn sized(alloc: Global, cursor: &mut Cursor<'_>) -> Reading<(Type, Option<Expr>)
     let of = type_use(alloc, cursor)?;
     let _open = cursor.mark(Kind::OpenBracket)?;
     let size = optional_expression(alloc, cursor)?;
-    let _close = cursor.mark(Kind::CloseBracket)?;
+    let (size, _close) = with_mark(size, cursor, Kind::CloseBracket)?;
     Ok((of, size))
 }
 

@@ -12,6 +12,7 @@ use crate::typedef::{opt_decl, typedef_decl};
 use crate::unions::union_decl;
 use pads_ast::{Decl, DeclBody, DeclMark};
 use pads_grammar::{Cursor, Kind, Reading};
+use pads_syntax_parts::with_mark;
 use pads_value::Items;
 use std::alloc::Global;
 
@@ -80,12 +81,13 @@ fn decl_body(alloc: Global, cursor: &mut Cursor<'_>) -> Reading<DeclBody>
     }
 }
 
+#[tactic(auto, unfolding(crate::specs::Declarations::decl))]
 fn decl(alloc: Global, cursor: &mut Cursor<'_>) -> Reading<Decl>
     ensures reads { Reads (reads decl cursor.old) result cursor.new }
 {
     let mark = marked(cursor)?;
     let body = decl_body(alloc, cursor)?;
-    let _end = cursor.mark(Kind::Semicolon)?;
+    let (body, _end) = with_mark(body, cursor, Kind::Semicolon)?;
     Ok(Decl { mark, body })
 }
 

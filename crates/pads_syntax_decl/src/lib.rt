@@ -7,12 +7,8 @@
 mod array;
 mod declaration;
 mod enumeration;
-mod expressions;
-mod literals;
 mod structure;
 mod typedef;
-mod types;
 mod unions;
 
 pub use declaration::decls;
-pub use expressions::expression;

@@ -1,19 +1,13 @@
 ghost use Rattle.std.specs.Prelude.{◌≡◌};
 ghost use Rattle.pads_grammar.specs.declared.kind.Kind.TheVariants as kind;
-ghost use Rattle.pads_grammar.specs.Grammar.{reads, begins, optional, many, apply};
+ghost use Rattle.pads_grammar.specs.Grammar.{reads, begins, optional, many};
 ghost use Rattle.pads_grammar.specs.Reads.{Reads};
-ghost use Rattle.pads_ast.specs.declared.decl.Part.TheVariants as part_form;
-ghost use Rattle.pads_syntax_decl.specs.Types.{branch, literal};
-ghost use Rattle.pads_syntax_decl.specs.Parts.{literal_part, computed_name, computed_part, part, condition};
 ghost use Rattle.pads_syntax_decl.specs.Declarations.{signature, heading, struct_decl};
 
-use crate::expressions::{expression, optional_mark};
-use crate::literals::literal;
-use crate::types::{branch, params, type_use};
-use pads_ast::{Expr, Name, Params, Part, Struct, Type};
+use pads_ast::{Name, Params, Struct};
 use pads_grammar::{Cursor, Kind, Reading};
 use pads_syntax_expr::name;
-use pads_value::Items;
+use pads_syntax_parts::{optional_condition, params, parts};
 use std::alloc::Global;
 
 /// A name and the parameters behind it.
@@ -34,110 +28,6 @@ pub fn heading(alloc: Global, cursor: &mut Cursor<'_>, keyword: Kind) -> Reading
     let signature = signature(alloc, cursor)?;
     let _open = cursor.mark(Kind::OpenBrace)?;
     Ok(signature)
-}
-
-fn literal_part(alloc: Global, cursor: &mut Cursor<'_>) -> Reading<Part>
-    ensures reads { Reads (reads literal_part cursor.old) result cursor.new }
-{
-    let literal = literal(alloc, cursor)?;
-    let _end = cursor.mark(Kind::Semicolon)?;
-    Ok(Part::Literal(literal))
-}
-
-/// Type and name of a computed field, and the `=` behind them.
-fn computed_name(alloc: Global, cursor: &mut Cursor<'_>) -> Reading<(Type, Name)>
-    ensures reads { Reads (reads computed_name cursor.old) result cursor.new }
-{
-    let _keyword = cursor.mark(Kind::Pcompute)?;
-    let of = type_use(alloc, cursor)?;
-    let name = name(alloc, cursor)?;
-    let _equals = cursor.mark(Kind::Equals)?;
-    Ok((of, name))
-}
-
-fn computed_part(alloc: Global, cursor: &mut Cursor<'_>) -> Reading<Part>
-    ensures reads { Reads (reads computed_part cursor.old) result cursor.new }
-{
-    let (of, name) = computed_name(alloc, cursor)?;
-    let value = expression(alloc, cursor)?;
-    let _end = cursor.mark(Kind::Semicolon)?;
-    Ok(Part::Pcompute { of, name, value })
-}
-
-fn field(alloc: Global, cursor: &mut Cursor<'_>) -> Reading<Part>
-    ensures reads { Reads (reads (apply part_form.Field branch) cursor.old) result cursor.new }
-{
-    Ok(Part::Field(branch(alloc, cursor)?))
-}
-
-/// Whether a token of that kind begins a literal.
-#[tactic(auto, using(crate::proofs::Firsts::firsts))]
-fn begins_literal(kind: Kind) -> bool
-    ensures begins { result ≡ begins literal kind }
-{
-    Kind::Char.is(kind) || Kind::Text.is(kind) || Kind::Peor.is(kind)
-}
-
-#[tactic(auto, using(crate::proofs::PartLaws::part_laws))]
-fn part(alloc: Global, cursor: &mut Cursor<'_>) -> Reading<Part>
-    ensures reads { Reads (reads part cursor.old) result cursor.new }
-{
-    let next = cursor.peek();
-    if begins_literal(next) {
-        literal_part(alloc, cursor)
-    } else if Kind::Pcompute.is(next) {
-        computed_part(alloc, cursor)
-    } else {
-        field(alloc, cursor)
-    }
-}
-
-/// Whether a token of that kind begins a part.
-#[tactic(auto, using(crate::proofs::Firsts::begins_part))]
-fn begins_part(kind: Kind) -> bool
-    ensures begins { result ≡ begins part kind }
-{
-    Kind::Char.is(kind)
-        || Kind::Text.is(kind)
-        || Kind::Peor.is(kind)
-        || Kind::Pcompute.is(kind)
-        || Kind::Popt.is(kind)
-        || Kind::Name.is(kind)
-}
-
-/// Any number of parts.
-#[tactic(auto, using(crate::proofs::DeclLoops::part_loop))]
-fn parts(alloc: Global, cursor: &mut Cursor<'_>) -> Reading<Items<Part>>
-    ensures reads { Reads (reads (many part) cursor.old) result cursor.new }
-{
-    let mut parts = Items::new(alloc);
-    'parts: while begins_part(cursor.peek()) {
-        parts.push(part(alloc, cursor)?)?;
-    }
-    Ok(parts)
-}
-
-/// The condition of a whole struct or array, where one is written.
-#[tactic(auto, using(crate::proofs::Firsts::firsts))]
-pub fn optional_condition(alloc: Global, cursor: &mut Cursor<'_>) -> Reading<Option<Expr>>
-    ensures reads { Reads (reads (optional condition) cursor.old) result cursor.new }
-{
-    if !Kind::Pwhere.is(cursor.peek()) {
-        return Ok(None);
-    }
-    Ok(Some(condition(alloc, cursor)?))
-}
-
-#[tactic(auto, unfolding(crate::specs::Parts::condition))]
-fn condition(alloc: Global, cursor: &mut Cursor<'_>) -> Reading<Expr>
-    ensures reads { Reads (reads condition cursor.old) result cursor.new }
-{
-    let _keyword = cursor.mark(Kind::Pwhere)?;
-    let _open = cursor.mark(Kind::OpenBrace)?;
-    let condition = expression(alloc, cursor)?;
-    let _end = optional_mark(cursor, Kind::Semicolon)?;
-    let _close = cursor.mark(Kind::CloseBrace)?;
-    Ok(condition)
 }
 
 #[tactic(auto, unfolding(crate::specs::Declarations::struct_decl))]

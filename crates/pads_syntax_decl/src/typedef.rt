@@ -2,53 +2,13 @@ ghost use Rattle.std.specs.Prelude.{◌≡◌};
 ghost use Rattle.pads_grammar.specs.declared.kind.Kind.TheVariants as kind;
 ghost use Rattle.pads_grammar.specs.Grammar.{reads, begins, optional};
 ghost use Rattle.pads_grammar.specs.Reads.{Reads};
-ghost use Rattle.pads_syntax_decl.specs.Parts.{refined_names, refinement};
 ghost use Rattle.pads_syntax_decl.specs.Declarations.{typedef_decl, opt_decl};
 
-use crate::expressions::expression;
 use crate::structure::signature;
-use crate::types::type_use;
-use pads_ast::{Constraint, Name, Opt, Typedef};
+use pads_ast::{Opt, Typedef};
 use pads_grammar::{Cursor, Kind, Reading};
-use pads_syntax_expr::name;
+use pads_syntax_parts::{optional_refinement, type_use};
 use std::alloc::Global;
-
-/// The names before the condition of a typedef's constraint, and what stands round them.
-fn refined_names(alloc: Global, cursor: &mut Cursor<'_>) -> Reading<(Name, Name)>
-    ensures reads { Reads (reads refined_names cursor.old) result cursor.new }
-{
-    let _colon = cursor.mark(Kind::Colon)?;
-    let of = name(alloc, cursor)?;
-    let variable = name(alloc, cursor)?;
-    let _arrow = cursor.mark(Kind::Arrow)?;
-    let _open = cursor.mark(Kind::OpenBrace)?;
-    Ok((of, variable))
-}
-
-#[tactic(auto, unfolding(crate::specs::Parts::refinement))]
-fn refinement(alloc: Global, cursor: &mut Cursor<'_>) -> Reading<Constraint>
-    ensures reads { Reads (reads refinement cursor.old) result cursor.new }
-{
-    let (name, variable) = refined_names(alloc, cursor)?;
-    let condition = expression(alloc, cursor)?;
-    let _close = cursor.mark(Kind::CloseBrace)?;
-    Ok(Constraint {
-        name,
-        variable,
-        condition,
-    })
-}
-
-/// The constraint of a typedef, where one is written.
-#[tactic(auto, using(crate::proofs::Firsts::firsts))]
-fn optional_refinement(alloc: Global, cursor: &mut Cursor<'_>) -> Reading<Option<Constraint>>
-    ensures reads { Reads (reads (optional refinement) cursor.old) result cursor.new }
-{
-    if !Kind::Colon.is(cursor.peek()) {
-        return Ok(None);
-    }
-    Ok(Some(refinement(alloc, cursor)?))
-}
 
 #[tactic(auto, unfolding(crate::specs::Declarations::typedef_decl))]
 pub fn typedef_decl(alloc: Global, cursor: &mut Cursor<'_>) -> Reading<Typedef>

@@ -1,20 +1,20 @@
 ghost use Rattle.std.specs.Prelude.{◌≡◌};
 ghost use Rattle.pads_grammar.specs.declared.kind.Kind.TheVariants as kind;
-ghost use Rattle.pads_grammar.specs.Grammar.{reads, begins, optional, many, apply};
+ghost use Rattle.pads_grammar.specs.Grammar.{reads, begins, optional, many, apply, ◌&◌};
 ghost use Rattle.pads_grammar.specs.Reads.{Reads};
 ghost use Rattle.pads_ast.specs.declared.decl.UnionBody.TheVariants as union_form;
-ghost use Rattle.pads_syntax_decl.specs.Types.{branch};
-ghost use Rattle.pads_syntax_decl.specs.Parts.{case_key, case_rule, default_case, switch_value, switch};
+ghost use Rattle.pads_syntax_decl.specs.Switches.{case_key, case_rule, default_case, switch_value, switch};
 ghost use Rattle.pads_syntax_decl.specs.Declarations.{union_body, union_decl};
 
-use crate::expressions::expression;
-use crate::literals::constant;
 use crate::structure::heading;
-use crate::types::branch;
 use pads_ast::{Branch, Case, Const, Expr, Switch, Union, UnionBody};
 use pads_grammar::{Cursor, Kind, Reading};
+use pads_syntax_parts::{branch, branches, constant, expression, with_mark};
 use pads_value::Items;
 use std::alloc::Global;
+
+/// What a switch chooses by, its cases and its default.
+type SwitchBody = ((Expr, Items<Case>), Option<Branch>);
 
 /// The constant of a case.
 fn case_key(alloc: Global, cursor: &mut Cursor<'_>) -> Reading<Const>
@@ -26,7 +26,7 @@ fn case_key(alloc: Global, cursor: &mut Cursor<'_>) -> Reading<Const>
     Ok(key)
 }
 
-#[tactic(auto, unfolding(crate::specs::Parts::case_rule))]
+#[tactic(auto, unfolding(crate::specs::Switches::case_rule))]
 fn case_rule(alloc: Global, cursor: &mut Cursor<'_>) -> Reading<Case>
     ensures reads { Reads (reads case_rule cursor.old) result cursor.new }
 {
@@ -48,7 +48,7 @@ fn cases(alloc: Global, cursor: &mut Cursor<'_>) -> Reading<Items<Case>>
 }
 
 /// Whether a token of that kind begins a case.
-#[tactic(auto, unfolding(crate::specs::Parts::case_rule))]
+#[tactic(auto, unfolding(crate::specs::Switches::case_rule))]
 fn begins_case(kind: Kind) -> bool
     ensures begins { result ≡ begins case_rule kind }
 {
@@ -74,44 +74,32 @@ fn switch_value(alloc: Global, cursor: &mut Cursor<'_>) -> Reading<Expr>
     let _keyword = cursor.mark(Kind::Pswitch)?;
     let _open = cursor.mark(Kind::OpenParen)?;
     let value = expression(alloc, cursor)?;
-    let _close = cursor.mark(Kind::CloseParen)?;
-    let _brace = cursor.mark(Kind::OpenBrace)?;
+    let (value, _close) = with_mark(value, cursor, Kind::CloseParen)?;
+    let (value, _brace) = with_mark(value, cursor, Kind::OpenBrace)?;
     Ok(value)
 }
 
-#[tactic(auto, unfolding(crate::specs::Parts::switch))]
-fn switch(alloc: Global, cursor: &mut Cursor<'_>) -> Reading<Switch>
-    ensures reads { Reads (reads switch cursor.old) result cursor.new }
+/// What a switch chooses by, its cases and its default.
+fn switch_body(alloc: Global, cursor: &mut Cursor<'_>) -> Reading<SwitchBody>
+    ensures reads { Reads (reads (switch_value & many case_rule & optional default_case) cursor.old) result cursor.new }
 {
     let value = switch_value(alloc, cursor)?;
     let cases = cases(alloc, cursor)?;
     let default = default_case(alloc, cursor)?;
-    let _close = cursor.mark(Kind::CloseBrace)?;
+    Ok(((value, cases), default))
+}
+
+#[tactic(auto, unfolding(crate::specs::Switches::switch))]
+fn switch(alloc: Global, cursor: &mut Cursor<'_>) -> Reading<Switch>
+    ensures reads { Reads (reads switch cursor.old) result cursor.new }
+{
+    let body = switch_body(alloc, cursor)?;
+    let (((value, cases), default), _close) = with_mark(body, cursor, Kind::CloseBrace)?;
     Ok(Switch {
         value,
         cases,
         default,
     })
-}
-
-/// Whether a token of that kind begins a branch.
-#[tactic(auto, using(crate::proofs::Firsts::begins_branch))]
-fn begins_branch(kind: Kind) -> bool
-    ensures begins { result ≡ begins branch kind }
-{
-    Kind::Popt.is(kind) || Kind::Name.is(kind)
-}
-
-/// Any number of branches.
-#[tactic(auto, using(crate::proofs::DeclLoops::branch_loop))]
-fn branches(alloc: Global, cursor: &mut Cursor<'_>) -> Reading<Items<Branch>>
-    ensures reads { Reads (reads (many branch) cursor.old) result cursor.new }
-{
-    let mut branches = Items::new(alloc);
-    'branches: while begins_branch(cursor.peek()) {
-        branches.push(branch(alloc, cursor)?)?;
-    }
-    Ok(branches)
 }
 
 #[tactic(auto, using(crate::proofs::Firsts::firsts), unfolding(crate::specs::Declarations::union_body))]
@@ -131,6 +119,6 @@ pub fn union_decl(alloc: Global, cursor: &mut Cursor<'_>) -> Reading<Union>
 {
     let (name, params) = heading(alloc, cursor, Kind::Punion)?;
     let body = union_body(alloc, cursor)?;
-    let _close = cursor.mark(Kind::CloseBrace)?;
+    let (body, _close) = with_mark(body, cursor, Kind::CloseBrace)?;
     Ok(Union { name, params, body })
 }

@@ -1,5 +1,5 @@
 use Rattle.std.proofs.Common.{sym, ◌∙◌}
-use Rattle.pads_syntax_decl.specs.Types.{expression}
+use Rattle.pads_syntax_parts.specs.Types.{expression}
 use Rattle.pads_syntax.proofs.Trees.{filter_ok}
 use Rattle.pads_syntax.specs.Trees.{filter}
 use Rattle.pads_syntax.proofs.Stops.{ends, fewer_found, fewer_met, completed, stopped_at, stopped_behind}

@@ -1,4 +1,4 @@
-use Rattle.pads_syntax_decl.specs.Types.{expression}
+use Rattle.pads_syntax_parts.specs.Types.{expression}
 use Rattle.pads_syntax.proofs.Trees.{filter_ok}
 use Rattle.pads_syntax.specs.Trees.{filter}
 use Rattle.pads_syntax.proofs.Answered.{answer_found, answer_only, answer_fault, answer_place}

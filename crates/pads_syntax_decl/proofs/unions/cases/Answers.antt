@@ -1,7 +1,7 @@
 use Rattle.std.proofs.Common.{◌∙◌, sym, ap}
 use Rattle.std.proofs.lemmas.Result.{err_from_is_err_and}
 use Rattle.pads_grammar.specs.Grammar.{begins}
-use Rattle.pads_syntax_decl.specs.Parts.{case_rule}
+use Rattle.pads_syntax_decl.specs.Switches.{case_rule}
 use Rattle.pads_syntax_decl.proofs.DeclLoops.{cases_go, cases_refuse, cases_shorten}
 use Rattle.pads_syntax_decl.proofs.unions.cases.Goals as goal
 

@@ -1,7 +1,7 @@
 use Rattle.std.proofs.Common.{length}
 use Rattle.pads_grammar.specs.Grammar.{reads, many}
 use Rattle.pads_grammar.proofs.Loops.{Whole}
-use Rattle.pads_syntax_decl.specs.Parts.{case_rule}
+use Rattle.pads_syntax_decl.specs.Switches.{case_rule}
 use Rattle.pads_syntax_decl.proofs.unions.cases.Given as goal
 
 abbrev pub invariant-cases : goal.invariant-cases

@@ -1,0 +1,9 @@
+pub mod Outermost
+pub mod Firsts
+pub mod PartLaws
+pub mod LoopForms
+pub mod TypeLoops
+pub mod PartLoops
+pub mod LabelLoop
+pub mod TypeDecides
+pub mod PartDecides

@@ -1,0 +1,35 @@
+ghost use Rattle.std.specs.Prelude.{◌≡◌, Ok};
+ghost use Rattle.pads_grammar.specs.declared.kind.Kind.TheVariants as kind;
+ghost use Rattle.pads_grammar.specs.Grammar.{reads, begins, optional, token, then_read};
+ghost use Rattle.pads_grammar.specs.Reads.{Reads};
+ghost use Rattle.pads_syntax_expr.specs.Leaves.{mark};
+ghost use Rattle.pads_syntax_parts.specs.Parts.{opened};
+
+use pads_grammar::{Cursor, Kind, Reading};
+
+/// The place of a mark or a keyword, where it stands there.
+pub fn optional_mark(cursor: &mut Cursor<'_>, kind: Kind) -> Reading<Option<u64>>
+    ensures reads { Reads (reads (optional (mark kind)) cursor.old) result cursor.new }
+{
+    if !kind.is(cursor.peek()) {
+        return Ok(None);
+    }
+    Ok(Some(cursor.mark(kind)?))
+}
+
+/// What was read, and the place of the mark that stands behind it.
+pub fn with_mark<T: Drop>(read: T, cursor: &mut Cursor<'_>, kind: Kind) -> Reading<(T, u64)>
+    ensures reads { Reads (then_read (reads (mark kind) cursor.old) (λ at rest. Ok ((read, at), rest))) result cursor.new }
+{
+    let at = cursor.mark(kind)?;
+    Ok((read, at))
+}
+
+/// A keyword and the bracket behind it, by the place of the keyword.
+pub fn opened(cursor: &mut Cursor<'_>, keyword: Kind) -> Reading<u64>
+    ensures reads { Reads (reads (opened keyword) cursor.old) result cursor.new }
+{
+    let at = cursor.mark(keyword)?;
+    let _open = cursor.mark(Kind::OpenParen)?;
+    Ok(at)
+}
