@@ -2,6 +2,7 @@ ghost use Rattle.std.specs.Prelude.{◌≡◌, ◌≢◌, ◌+◌, ◌^◌, ◌<
 ghost use Rattle.pads_io.specs.Faults.{Rose};
 ghost use Rattle.pads_frame.specs.State.{reach, room};
 ghost use Rattle.pads_value.specs.Cuts.{cut_of_kept};
+ghost use Rattle.pads_drive.specs.declared.refill.Refill.TheVariants as refilled;
 ghost use Rattle.pads_drive.specs.Driving.{KeepsNext, Collects, IsWaiting, RefillGives};
 ghost use Rattle.pads_drive.specs.Halting.{IsFilled};
 ghost use Rattle.pads_drive.specs.Writing.{Grows, GrowsPrefix};
@@ -123,6 +124,7 @@ pub(crate) fn refill<S: Source>(source: &mut S, framer: &mut Framer, piece: &mut
     ensures gives { RefillGives (S.left source.old) (S.left source.new) (S.faults source.old) (S.faults source.new)
         framer.old framer.new result }
     ensures later { S.faults source.old ≤ S.faults source.new }
+    ensures kept { result ≢ refilled.ReadFault → S.faults source.new ≡ S.faults source.old }
     ensures piece { length piece.new ≡ length piece.old }
 {
     let Ok(count) = source.read(piece) else {

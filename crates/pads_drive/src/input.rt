@@ -1,4 +1,4 @@
-ghost use Rattle.std.specs.Prelude.{◌≡◌, ℕ, ◌<◌, ◌≤◌, [], Ok, Err, IfSome};
+ghost use Rattle.std.specs.Prelude.{◌≡◌, ◌≢◌, ℕ, ◌<◌, ◌≤◌, [], Ok, Err, IfSome, IfOk};
 ghost use Rattle.pads_frame.specs.Fits.{FitsLimit};
 ghost use Rattle.pads_io.specs.Faults.{Rose};
 ghost use Rattle.pads_value.specs.Cuts.{Cut};
@@ -54,6 +54,7 @@ pub fn drive<C: Command, S: Source, K: Sink, E: Sink>(
         (S.left source.new) (K.written out.old) (K.written out.new)) }
     ensures read_fault { result ≡ Ok ended.ReadFault → Rose (S.faults source.old) (S.faults source.new) }
     ensures later { S.faults source.old ≤ S.faults source.new }
+    ensures kept { IfOk result (λ outcome. outcome ≢ ended.ReadFault → S.faults source.new ≡ S.faults source.old) }
     ensures cause { HasSinkCause (K.faults out.old) (K.faults out.new) (E.faults notes.old) (E.faults notes.new)
         ((number : ℕ) (cut : Cut) → C.notes command.now number cut ≡ []) result }
 {

@@ -1,6 +1,7 @@
-ghost use Rattle.std.specs.Prelude.{◌≡◌, ℕ, ◌+◌, ◌^◌, ◌≤◌, [], false, length, IfOk, OnOk, OnErr, Err};
+ghost use Rattle.std.specs.Prelude.{◌≡◌, ◌≢◌, ℕ, ◌+◌, ◌^◌, ◌≤◌, [], false, length, IfOk, OnOk, OnErr, Err, Ok};
 ghost use Rattle.pads_value.specs.Cuts.{Cut};
 ghost use Rattle.pads_frame.specs.State.{reach, rest};
+ghost use Rattle.pads_drive.specs.declared.refill.Refill.TheVariants as refilled;
 ghost use Rattle.pads_drive.specs.Ends.{Anything, ReadsToEnd, StopsAt};
 ghost use Rattle.pads_drive.specs.Halting.{Caught, HaltsAt, IsFilled};
 ghost use Rattle.pads_drive.specs.Moments.{moment_of};
@@ -43,6 +44,7 @@ pub(crate) fn read_to_end<C: Command, S: Source, K: Sink, E: Sink>(
         (S.left source.old) (S.left source.new) (K.written out.old) (K.written out.new)
         (E.written notes.old) (E.written notes.new) (moment_of reading.old)) }
     ensures later { S.faults source.old ≤ S.faults source.new }
+    ensures kept { result ≢ Ok refilled.ReadFault → S.faults source.new ≡ S.faults source.old }
     ensures cause { HasSinkCause (K.faults out.old) (K.faults out.new) (E.faults notes.old) (E.faults notes.new)
         ((number : ℕ) (cut : Cut) → C.notes command.now number cut ≡ []) result }
 {

@@ -1,5 +1,5 @@
 -- From the reading of an input to what `parse` gives, by its ending.
-use Rattle.std.proofs.Common.{◌≡◌, inl, inr, sym, refl, ℕ, true, false, List, [], Option, IfSome, Result, Ok, Err}
+use Rattle.std.proofs.Common.{◌≡◌, ◌≢◌, inl, inr, sym, refl, ℕ, true, false, List, [], Option, IfSome, IfOk, Result, Ok, Err}
 use Rattle.pads_code.specs.declared.Coding.{Coding}
 use Rattle.pads_drive.specs.Drives.{DriveGives}
 use Rattle.pads_drive.specs.Stopping.{HasSinkCause}
@@ -36,6 +36,24 @@ module _ (d : Description) (left left' o o' n n' : Option (List ℕ)) (source so
   lines-give (Err stop.Out) h near read cause = (cause.out_failed refl, if-both _ _ _ left (λ input p q. (p.out_grows, q)) h (near refl))
   lines-give (Err stop.Notes) h near read cause = absurd (cause.notes_wanted (λ number cut. refl) refl)
   lines-give (Err stop.Memory) h near read cause = if-known _ _ left (λ input p. p.out_grows) h
+
+  -- a failure of `out` is told
+  pub out-kept : (r : Result Ended Stop) → Blames r → (ending_of r ≢ ending.WriteFault) → out' ≡ out
+  out-kept (Ok outcome) cause other = cause.out_kept (λ e. cc)
+  out-kept (Err stop.Out) cause other = absurd (other refl)
+  out-kept (Err stop.Notes) cause other = absurd (other refl)
+  out-kept (Err stop.Memory) cause other = cause.out_kept (λ e. cc)
+
+  -- a failure of the source is told, but where a failure of `out` or want of memory comes behind it
+  pub source-kept : (r : Result Ended Stop) → IfOk r (λ outcome. (outcome ≢ ended.ReadFault) → source' ≡ source)
+      → (ending_of r ≢ ending.ReadFault) → (ending_of r ≢ ending.WriteFault) → (ending_of r ≢ ending.Memory) → source' ≡ source
+  source-kept (Ok (ended.Finished true)) kept reads writes wants = kept (λ e. cc)
+  source-kept (Ok (ended.Finished false)) kept reads writes wants = kept (λ e. cc)
+  source-kept (Ok ended.TooLong) kept reads writes wants = kept (λ e. cc)
+  source-kept (Ok ended.ReadFault) kept reads writes wants = absurd (reads refl)
+  source-kept (Err stop.Out) kept reads writes wants = absurd (writes refl)
+  source-kept (Err stop.Notes) kept reads writes wants = absurd (writes refl)
+  source-kept (Err stop.Memory) kept reads writes wants = absurd (wants refl)
 
 -- By a description that is there, an input was read.
 pub parse-read : (content : Option (List ℕ)) (coding : Coding) (cutting : Cutting) (left left' o o' : Option (List ℕ)) (files files' source source' out out' : ℕ) (made : Contents)

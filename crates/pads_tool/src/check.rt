@@ -1,5 +1,6 @@
-ghost use Rattle.std.specs.Prelude.{◌≡◌, IfOk, OnOk, OnErr};
+ghost use Rattle.std.specs.Prelude.{◌≡◌, IfOk, OnOk, OnErr, ◌≢◌};
 ghost use Rattle.pads_tool.specs.Checking.{CheckGives, accepted_line};
+ghost use Rattle.pads_tool.specs.declared.ending.Ending.TheVariants as ending;
 
 use crate::ending::Ending;
 use crate::text::accepted_in;
@@ -27,6 +28,8 @@ pub(crate) fn check<F: Files, K: Sink>(
 ) -> Ending
     ensures gives { CheckGives (F.content files.old name.now) (K.written out.old) (K.written out.new)
         (F.faults files.old) (F.faults files.new) (K.faults out.old) (K.faults out.new) result }
+    ensures files_kept { result ≢ ending.FileFault → F.faults files.new ≡ F.faults files.old }
+    ensures out_kept { result ≢ ending.WriteFault → K.faults out.new ≡ K.faults out.old }
 {
     let count = match accepted_in(alloc, files, name) {
         Ok(count) => count,

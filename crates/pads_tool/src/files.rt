@@ -1,6 +1,7 @@
-ghost use Rattle.std.specs.Prelude.{◌≡◌, IfOk, IfSome};
+ghost use Rattle.std.specs.Prelude.{◌≡◌, IfOk, IfSome, OnOk, Err};
 ghost use Rattle.pads_tool.specs.Causes.{FaultHasCause};
 ghost use Rattle.pads_tool.specs.Descriptions.{described_by};
+ghost use Rattle.pads_value.specs.declared.memory.Refusal.TheVariants as refusal;
 
 use crate::description::{Described, FileFault, LONGEST_DESCRIPTION};
 use pads_io::Files;
@@ -18,6 +19,8 @@ pub(crate) fn read_description<F: Files>(
         (λ bytes. described ≡ described_by bytes)) }
     ensures stays { F.content files.new ≡ F.content files.old }
     ensures cause { FaultHasCause (F.faults files.old) (F.faults files.new) result }
+    ensures kept { OnOk result (F.faults files.new ≡ F.faults files.old) }
+    ensures wanted { result ≡ Err refusal.Memory → F.faults files.new ≡ F.faults files.old }
 {
     let mut text = Bytes::new(alloc);
     let mut piece = [0; 4096];

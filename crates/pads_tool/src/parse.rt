@@ -1,4 +1,4 @@
-ghost use Rattle.std.specs.Prelude.{◌≡◌, ◌≤◌, ◌++◌, ◌&&◌, length, OnOk};
+ghost use Rattle.std.specs.Prelude.{◌≡◌, ◌≤◌, ◌++◌, ◌&&◌, length, OnOk, ◌≢◌};
 ghost use Rattle.pads_orders.specs.Orders.{IsWithinLimits};
 ghost use Rattle.pads_tool.specs.Describing.{described};
 ghost use Rattle.pads_tool.specs.Endings.{status_of};
@@ -28,6 +28,7 @@ pub(crate) struct Lines {
 
 impl Command for Lines {
     ghost use Rattle.pads_tool.specs.Describing.{line_in, no_notes, is_clean_in};
+    ghost use Rattle.pads_tool.specs.declared.ending.Ending.TheVariants as ending;
     ghost use Rattle.pads_trans.specs.Modules.{contents};
 
     ghost out = { λ lines. line_in (contents lines.module) };
@@ -98,6 +99,8 @@ fn write_lines<S: Source, K: Sink>(
     requires limits { IsWithinLimits cutting }
     ensures gives { LinesGive (described (contents lines.now.module) cutting) (S.left source.old) (S.left source.new)
         (K.written out.old) (K.written out.new) (S.faults source.old) (S.faults source.new) (K.faults out.old) (K.faults out.new) result }
+    ensures out_kept { result ≢ ending.WriteFault → K.faults out.new ≡ K.faults out.old }
+    ensures source_kept { result ≢ ending.ReadFault → result ≢ ending.WriteFault → result ≢ ending.Memory → S.faults source.new ≡ S.faults source.old }
 {
     let mut unused = MemSink::new(alloc, 0, Calls::new(alloc));
     let Cutting { discipline, max } = cutting;
@@ -119,6 +122,9 @@ pub(crate) fn parse<F: Files, S: Source, K: Sink>(
         (K.written out.old) (K.written out.new) (F.faults files.old) (F.faults files.new)
         (S.faults source.old) (S.faults source.new) (K.faults out.old) (K.faults out.new) result }
     ensures untouched { IsBeforeInput (status_of result) → source.new ≡ source.old }
+    ensures files_kept { result ≢ ending.FileFault → F.faults files.new ≡ F.faults files.old }
+    ensures out_kept { result ≢ ending.WriteFault → K.faults out.new ≡ K.faults out.old }
+    ensures source_kept { result ≢ ending.ReadFault → result ≢ ending.WriteFault → result ≢ ending.Memory → S.faults source.new ≡ S.faults source.old }
 {
     match described_in(alloc, files, name, coding) {
         Ok(module) => write_lines(alloc, &Lines { module }, cutting, source, out),

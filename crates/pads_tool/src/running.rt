@@ -6,6 +6,7 @@ ghost use Rattle.pads_tool.specs.Endings.{status_of, last_line};
 ghost use Rattle.pads_tool.specs.Running.{Ordered, IsCheck, Finishes, StopsReading, StopsAtLimit, StopsWriting, StaysNear, StopsEarly, OrderGives, RunGives, HasReason, IsFair, EndsOrWantsMemory, IsBeforeInput};
 ghost use Rattle.pads_tool.specs.declared.ending.Ending.{Ending};
 ghost use Rattle.pads_tool.specs.declared.status.Status.TheVariants as status;
+ghost use Rattle.pads_tool.specs.declared.ending.Ending.TheVariants as ending;
 
 use crate::check::check;
 use crate::close::close;
@@ -31,6 +32,9 @@ fn perform<F: Files, S: Source, K: Sink>(
         order.now result }
     ensures unread { IsCheck order.now → source.new ≡ source.old }
     ensures untouched { IsBeforeInput (status_of result) → source.new ≡ source.old }
+    ensures files_kept { result ≢ ending.FileFault → F.faults files.new ≡ F.faults files.old }
+    ensures out_kept { result ≢ ending.WriteFault → K.faults out.new ≡ K.faults out.old }
+    ensures source_kept { result ≢ ending.ReadFault → result ≢ ending.WriteFault → result ≢ ending.Memory → S.faults source.new ≡ S.faults source.old }
 {
     match order {
         Order::Check { description, .. } => check(alloc, description.as_str(), files, out),
@@ -63,6 +67,10 @@ fn obey<F: Files, S: Source, K: Sink>(
         result }
     ensures unread { Ordered words.now IsCheck → source.new ≡ source.old }
     ensures untouched { IsBeforeInput (status_of result) → source.new ≡ source.old }
+    ensures files_kept { result ≢ ending.FileFault → F.faults files.new ≡ F.faults files.old }
+    ensures out_kept { result ≢ ending.WriteFault → K.faults out.new ≡ K.faults out.old }
+    ensures source_kept { result ≢ ending.ReadFault → result ≢ ending.WriteFault → result ≢ ending.Memory → S.faults source.new ≡ S.faults source.old }
+    ensures unopened { order_of words.now ≡ None → files.new ≡ files.old }
 {
     match read_order(alloc, words) {
         Ok(order) => perform(alloc, &order, files, source, out),
@@ -94,6 +102,13 @@ pub fn run<F: Files, S: Source, K: Sink, E: Sink>(
     ensures read_fault { result ≡ status.ReadFault → Rose (S.faults source.old) (S.faults source.new) }
     ensures write_fault { result ≡ status.WriteFault → Rose (K.faults out.old) (K.faults out.new) }
     ensures limit { result ≢ status.Limit }
+
+    // A failure is told. One of the source may be followed by one of `out`, or by want of memory, for what was read before it.
+    ensures files_told { result ≢ status.FileFault → F.faults files.new ≡ F.faults files.old }
+    ensures out_told { result ≢ status.WriteFault → K.faults out.new ≡ K.faults out.old }
+    ensures source_told { result ≢ status.ReadFault → result ≢ status.WriteFault → result ≢ status.Memory
+        → S.faults source.new ≡ S.faults source.old }
+
     ensures completeness { IsFair words.now (F.content files.old) (S.left source.old) (F.faults files.old) (F.faults files.new)
         (S.faults source.old) (S.faults source.new) (K.faults out.old) (K.faults out.new) → EndsOrWantsMemory result }
 
@@ -112,9 +127,10 @@ pub fn run<F: Files, S: Source, K: Sink, E: Sink>(
     ensures ahead { result ≡ status.WriteFault → Ordered words.now (StaysNear (F.content files.old) (S.left source.old)
         (S.left source.new) (K.written out.old) (K.written out.new)) }
 
-    // `check` reads no source, and no run does that ends at its words or at the description.
+    // `check` reads no source, and no run does that ends at its words or at the description. Words that are no order reach no file.
     ensures unread { Ordered words.now IsCheck → source.new ≡ source.old }
     ensures untouched { IsBeforeInput result → source.new ≡ source.old }
+    ensures unopened { order_of words.now ≡ None → files.new ≡ files.old }
 
     // The last words go to the notes, and nothing else does. Those of a refusal tell the verdict on the description.
     ensures last_words { (ending : Ending) × (result ≡ status_of ending) × HasReason words.now (F.content files.old) ending

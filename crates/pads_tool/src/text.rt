@@ -1,5 +1,6 @@
-ghost use Rattle.std.specs.Prelude.{◌≡◌, IfOk, IfErr};
+ghost use Rattle.std.specs.Prelude.{◌≡◌, IfOk, IfErr, ◌≢◌, OnOk};
 ghost use Rattle.pads_tool.specs.Texts.{IsAcceptedIn, IsDescribedIn, IsRefusedIn, IsTextIn, StopsBefore};
+ghost use Rattle.pads_tool.specs.declared.ending.Ending.TheVariants as ending;
 ghost use Rattle.pads_trans.specs.Modules.{contents};
 
 use crate::description::Described;
@@ -16,6 +17,8 @@ use std::alloc::Global;
 fn text_in<F: Files>(alloc: Global, files: &mut F, name: &str) -> Result<Bytes, Ending>
     ensures text { IfOk result (IsTextIn (F.content files.old name.now)) }
     ensures stops { IfErr result (StopsBefore (IsRefusedIn (F.content files.old name.now)) (F.faults files.old) (F.faults files.new)) }
+    ensures kept { OnOk result (F.faults files.new ≡ F.faults files.old) }
+    ensures untold { IfErr result (λ stop. stop ≢ ending.FileFault → F.faults files.new ≡ F.faults files.old) }
 {
     match read_description(alloc, files, name) {
         Ok(Described::Text(text)) => Ok(text),
@@ -29,6 +32,8 @@ fn text_in<F: Files>(alloc: Global, files: &mut F, name: &str) -> Result<Bytes, 
 pub(crate) fn accepted_in<F: Files>(alloc: Global, files: &mut F, name: &str) -> Result<u64, Ending>
     ensures accepted { IfOk result (IsAcceptedIn (F.content files.old name.now)) }
     ensures stops { IfErr result (StopsBefore (IsRefusedIn (F.content files.old name.now)) (F.faults files.old) (F.faults files.new)) }
+    ensures kept { OnOk result (F.faults files.new ≡ F.faults files.old) }
+    ensures untold { IfErr result (λ stop. stop ≢ ending.FileFault → F.faults files.new ≡ F.faults files.old) }
 {
     let text = match text_in(alloc, files, name) {
         Ok(text) => text,
@@ -50,6 +55,8 @@ pub(crate) fn described_in<F: Files>(
 ) -> Result<Module, Ending>
     ensures described { IfOk result (λ made. IsDescribedIn (F.content files.old name.now) coding (contents made)) }
     ensures stops { IfErr result (StopsBefore (IsRefusedIn (F.content files.old name.now)) (F.faults files.old) (F.faults files.new)) }
+    ensures kept { OnOk result (F.faults files.new ≡ F.faults files.old) }
+    ensures untold { IfErr result (λ stop. stop ≢ ending.FileFault → F.faults files.new ≡ F.faults files.old) }
 {
     let text = match text_in(alloc, files, name) {
         Ok(text) => text,

@@ -1,12 +1,13 @@
 use Rattle.std.proofs.Common.{◌∙◌, [], refl, ap, arith}
 use Rattle.pads_frame.specs.State.{State, MayCome}
 use Rattle.pads_drive.proofs.Progress.{progresses-same, progresses-collected, progresses-trans, stops-unwritten, stops-after, stops-when}
+use Rattle.pads_drive.proofs.Blame.{none-counted}
 use Rattle.pads_drive.proofs.Halting.{halts-after, halts-when}
 use Rattle.pads_drive.proofs.Waiting.{same_end}
 use Rattle.pads_drive.proofs.pump.pump.Goals as goal
 
 pub batches-init : goal.batches-init
-batches-init g c = record { progress = progresses-same _ _ _ _ _ _; ended = refl; out_later = omega arith; notes_later = omega arith; kept = omega arith; filled = c.requires.filled }
+batches-init g c = record { progress = progresses-same _ _ _ _ _ _; ended = refl; out_kept = refl; notes_kept = refl; kept = omega arith; filled = c.requires.filled }
 
 pub returns-in-Err-clause-err : goal.returns-in-Err-clause-err
 returns-in-Err-clause-err g c =
@@ -43,8 +44,8 @@ batches-preserved g c =
     record {
       progress = progresses-trans _ _ _ _ _ _ _ _ _ _ _ _ [] [] (progresses-trans _ _ _ _ _ _ _ _ _ _ _ _ [] [] c.batches.invariant.progress collected) c.in_default.ensures.ok;
       ended = ap (λ (s : State). s.ended) c.in_default.ensures.framer ∙ c.in-Ok-true.ensures.collects.input.ended ∙ c.batches.invariant.ended;
-      out_later = omega (arith, c.batches.invariant.out_later, c.in_default.ensures.cause.out_later);
-      notes_later = omega (arith, c.batches.invariant.notes_later, c.in_default.ensures.cause.notes_later);
+      out_kept = (none-counted _ _ _ _ _ _ c.in_default.ensures.cause).0 ∙ c.batches.invariant.out_kept;
+      notes_kept = (none-counted _ _ _ _ _ _ c.in_default.ensures.cause).1 ∙ c.batches.invariant.notes_kept;
       kept = omega (arith, c.batches.invariant.kept, c.in-Ok-true.ensures.collects.kept, c.in_default.ensures.met);
       filled = c.in_default.ensures.filled;
     }

@@ -5,12 +5,12 @@ use Rattle.pads_drive.specs.Halting.{IsSized, met}
 use Rattle.pads_drive.specs.Moments.{moment_of}
 use Rattle.pads_drive.proofs.pump.pump.Given as goal
 
--- no frame was lost so far, what was read is written, the input is open or ended as before, and no count fell
+-- no frame was lost so far, what was read is written, the input is open or ended as before, and no sink has counted a failure
 pub record Pumped (out notes : ℕ → Cut → List ℕ) (clean : ℕ → Cut → Bool) (o o' n n' : Option (List ℕ)) (old new : Moment) (fo fo' fn fn' size : ℕ) : Type 0 where
   pub progress : Progresses out notes clean o o' n n' old new []
   pub ended : new.framer.ended ≡ old.framer.ended
-  pub out_later : fo ≤ fo'
-  pub notes_later : fn ≤ fn'
+  pub out_kept : fo' ≡ fo
+  pub notes_kept : fn' ≡ fn
   pub kept : met old ≤ met new
   pub filled : IsSized new.waiting size
 

@@ -2,6 +2,7 @@ use Rattle.std.proofs.Common.{◌≡◌, ℕ, Bool, true, Err, List, [], ◌∙�
 use Rattle.std.proofs.lemmas.Bool.{true≢false}
 use Rattle.pads_frame.specs.State.{MayCome, State, reach, rest}
 use Rattle.pads_drive.specs.Ends.{Anything}
+use Rattle.pads_drive.proofs.Blame.{none-counted}
 use Rattle.pads_drive.proofs.Halting.{caught-none, caught-took, caught-kept, halts-read, halts-when, same_stop}
 use Rattle.pads_drive.proofs.ReadSteps.{reads-none, reads-pumped, reads-more, reads-kept, reads-stopped}
 use Rattle.pads_drive.proofs.source.read_to_end.Goals as goal
@@ -11,9 +12,9 @@ reads-init g c = record {
   reads = reads-none _ _ _ _ _ _ _;
   within = c.requires.within;
   open_still = c.requires.open;
-  source_later = omega arith;
-  out_later = omega arith;
-  notes_later = omega arith;
+  source_kept = refl;
+  out_kept = refl;
+  notes_kept = refl;
   filled = c.requires.filled;
   caught = caught-none _ _ c.requires.fresh;
 }
@@ -52,9 +53,9 @@ reads-preserved g c =
       reads = reads-more _ _ _ _ _ _ _ _ _ _ _ _ _ _ [] pumped refl refl refl still took;
       within = took.within;
       open_still = took.input.ended ∙ still;
-      source_later = omega (arith, c.reads.invariant.source_later, c.in-More.ensures.later);
-      out_later = omega (arith, c.reads.invariant.out_later, c.in_default.ensures.cause.out_later);
-      notes_later = omega (arith, c.reads.invariant.notes_later, c.in_default.ensures.cause.notes_later);
+      source_kept = c.in-More.ensures.kept (λ e. cc) ∙ c.reads.invariant.source_kept;
+      out_kept = (none-counted _ _ _ _ _ _ c.in_default.ensures.cause).0 ∙ c.reads.invariant.out_kept;
+      notes_kept = (none-counted _ _ _ _ _ _ c.in_default.ensures.cause).1 ∙ c.reads.invariant.notes_kept;
       filled = c.in_default.ensures.filled;
       caught = caught-took _ _ _ _ _ _ _ _ _ _ _ _ _ _ [] pumped still c.in_default.ensures.waiting took refl;
     }
@@ -76,7 +77,7 @@ returns-in-ReadFault-clause-ok g c =
     let gives = c.in-ReadFault.ensures.gives in
     let rose = gives.1 in (
       reads-kept _ _ _ _ _ _ _ _ _ _ _ _ _ pumped gives.0 refl refl refl still (λ ended more. ap (λ (s : State). rest ended s more) gives.2) (ap reach gives.2) (ap (λ (s : State). s.first) gives.2),
-      omega (arith, c.reads.invariant.source_later, rose),
+      omega (arith, c.reads.invariant.source_kept, rose),
       ap (λ (s : State). s.ended) gives.2 ∙ still,
     )
 

@@ -7,14 +7,14 @@ use Rattle.pads_drive.specs.Halting.{Caught, IsSized}
 use Rattle.pads_drive.specs.Moments.{moment_of}
 use Rattle.pads_drive.proofs.source.read_to_end.Given as goal
 
--- no byte was lost so far, the input is open, and no count fell
+-- no byte was lost so far, the input is open, and nothing has counted a failure
 pub record ReadSoFar (out notes : ℕ → Cut → List ℕ) (clean : ℕ → Cut → Bool) (left left' o o' n n' : Option (List ℕ)) (old new : Moment) (fs fs' fo fo' fn fn' size : ℕ) : Type 0 where
   pub reads : Reads out notes clean left left' o o' n n' old new []
   pub within : reach new.framer ≤ 2 ^ 62
   pub open_still : new.framer.ended ≡ false
-  pub source_later : fs ≤ fs'
-  pub out_later : fo ≤ fo'
-  pub notes_later : fn ≤ fn'
+  pub source_kept : fs' ≡ fs
+  pub out_kept : fo' ≡ fo
+  pub notes_kept : fn' ≡ fn
   pub filled : IsSized new.waiting size
   pub caught : Caught left left' old new
 

@@ -7,5 +7,5 @@ pieces-preserved g c = record {
   told = told-more _ _ _ c.read_at.new.into _ c.in-Ok.count _ (ap (λ content. content c.args.name.now) c.pieces.invariant.stays)
       c.len-in-pieces.ensures.length c.pieces.invariant.told (omega (arith, c.in-Ok.ensures.within.0)) c.in-Ok.ensures.bytes c.in_ok-extend_from_slice.ensures.ok;
   stays = c.in-Ok.ensures.stays ∙ c.pieces.invariant.stays;
-  later = omega (arith, c.pieces.invariant.later, c.in-Ok.ensures.cause.later);
+  kept = c.in-Ok.ensures.cause.stays ∙ c.pieces.invariant.kept;
 }

@@ -2,11 +2,11 @@ use Rattle.std.proofs.Common.{◌≡◌, ℕ, ◌-◌, ◌≤◌, List, Option, 
 use Rattle.pads_tool.proofs.Told.{IsFront}
 use Rattle.pads_tool.proofs.files.read_description.Given as goal
 
--- what was read is the front of the file, which stays as it was, and no count fell
+-- what was read is the front of the file, which stays as it was, and no failure was counted
 pub record ReadSoFar (content content' : List ℕ → Option (List ℕ)) (name text : List ℕ) (before now : ℕ) : Type 0 where
   pub told : IfSome (content name) (IsFront text)
   pub stays : content' ≡ content
-  pub later : before ≤ now
+  pub kept : now ≡ before
 
 abbrev pub invariant-pieces : goal.invariant-pieces
 invariant-pieces g l =

@@ -14,10 +14,16 @@ returns-in-Ok g c = record {
       (g.S.Source.faults c.args.source.now) (g.S.Source.faults c.write_lines.new.source)
       (g.K.Sink.faults c.args.out.now) (g.K.Sink.faults c.write_lines.new.out)
       c.write_lines.result c.write_lines.ensures.gives before);
+  files_kept = λ other. c.in-Ok.ensures.kept;
+  out_kept = c.write_lines.ensures.out_kept;
+  source_kept = c.write_lines.ensures.source_kept;
 }
 
 pub returns-in-Err : goal.returns-in-Err
 returns-in-Err g c = record {
   gives = parse-stopped _ _ _ _ _ _ _ _ _ _ _ _ c.in-Err.ending c.in-Err.ensures.stops;
   untouched = λ before. refl;
+  files_kept = c.in-Err.ensures.untold;
+  out_kept = λ other. refl;
+  source_kept = λ reads writes wants. refl;
 }

@@ -1,6 +1,6 @@
 use Rattle.pads_trans.specs.Modules.{contents}
 use Rattle.pads_tool.specs.Describing.{described}
-use Rattle.pads_tool.proofs.Lines.{lines-give}
+use Rattle.pads_tool.proofs.Lines.{lines-give, out-kept, source-kept}
 use Rattle.pads_tool.proofs.parse.write_lines.Goals as goal
 
 pub returns : goal.returns
@@ -10,4 +10,14 @@ returns g c = record {
       (g.K.Sink.written c.args.out.now) (g.K.Sink.written c.drive.new.out) _ _ (g.S.Source.faults c.args.source.now)
       (g.S.Source.faults c.drive.new.source) (g.K.Sink.faults c.args.out.now) (g.K.Sink.faults c.drive.new.out) _ _
       c.drive.result c.drive.ensures.gives c.drive.ensures.ahead c.drive.ensures.read_fault c.drive.ensures.cause);
+  out_kept = rw c.ending_of.ensures.ending
+      (out-kept (described (contents c.args.lines.now.module) c.args.cutting) (g.S.Source.left c.args.source.now) (g.S.Source.left c.drive.new.source)
+      (g.K.Sink.written c.args.out.now) (g.K.Sink.written c.drive.new.out) _ _ (g.S.Source.faults c.args.source.now)
+      (g.S.Source.faults c.drive.new.source) (g.K.Sink.faults c.args.out.now) (g.K.Sink.faults c.drive.new.out) _ _
+      c.drive.result c.drive.ensures.cause);
+  source_kept = rw c.ending_of.ensures.ending
+      (source-kept (described (contents c.args.lines.now.module) c.args.cutting) (g.S.Source.left c.args.source.now) (g.S.Source.left c.drive.new.source)
+      (g.K.Sink.written c.args.out.now) (g.K.Sink.written c.drive.new.out) _ _ (g.S.Source.faults c.args.source.now)
+      (g.S.Source.faults c.drive.new.source) (g.K.Sink.faults c.args.out.now) (g.K.Sink.faults c.drive.new.out) _ _
+      c.drive.result c.drive.ensures.kept);
 }

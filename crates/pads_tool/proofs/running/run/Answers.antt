@@ -1,4 +1,5 @@
-use Rattle.std.proofs.Common.{subst}
+use Rattle.std.proofs.Common.{subst, ap, ◌∙◌}
+use Rattle.pads_tool.specs.Endings.{status_of}
 use Rattle.pads_tool.specs.Running.{IsBeforeInput}
 use Rattle.pads_tool.specs.declared.status.Status.TheVariants as status
 use Rattle.pads_tool.proofs.Statuses.{at-status, usage-is, fair, nothing, never-limit, reason}
@@ -101,3 +102,13 @@ returns-clause-last_words g c = (
       c.obey-ending.result c.obey-ending.ensures.gives,
   c.close.ensures.words,
 )
+
+pub returns-clause-files_told : goal.returns-clause-files_told
+returns-clause-files_told g c = λ other. c.obey-ending.ensures.files_kept (λ e. other (c.close.ensures.status ∙ ap status_of e))
+
+pub returns-clause-out_told : goal.returns-clause-out_told
+returns-clause-out_told g c = λ other. c.obey-ending.ensures.out_kept (λ e. other (c.close.ensures.status ∙ ap status_of e))
+
+pub returns-clause-source_told : goal.returns-clause-source_told
+returns-clause-source_told g c = λ reads writes wants. c.obey-ending.ensures.source_kept (λ e. reads (c.close.ensures.status ∙ ap status_of e))
+    (λ e. writes (c.close.ensures.status ∙ ap status_of e)) (λ e. wants (c.close.ensures.status ∙ ap status_of e))
