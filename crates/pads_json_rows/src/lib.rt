@@ -1,4 +1,4 @@
-//! Lines of JSON of clean rows that were made by hand, one for each form of value.
+//! Lines of JSON of clean rows that were made by hand, one for each form of value that holds no other values.
 #![tactic(auto)]
 
 #[cfg(test)]
