@@ -1,11 +1,7 @@
-//! The main calls of larger crates with ample memory, where they give what they promise. The tests stand here so that
-//! no proof of those crates is made twice.
+//! The main calls of the translation and of the lines with ample memory, where they give what they promise. The tests
+//! stand here so that no proof of those crates is made twice.
 #![tactic(auto)]
 
-#[cfg(test)]
-mod descriptions;
-#[cfg(test)]
-mod expressions;
 #[cfg(test)]
 mod lines;
 #[cfg(test)]
