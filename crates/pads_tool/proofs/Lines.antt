@@ -37,23 +37,23 @@ module _ (d : Description) (left left' o o' n n' : Option (List ℕ)) (source so
   lines-give (Err stop.Notes) h near read cause = absurd (cause.notes_wanted (λ number cut. refl) refl)
   lines-give (Err stop.Memory) h near read cause = if-known _ _ left (λ input p. p.out_grows) h
 
-  -- a failure of `out` is told
-  pub out-kept : (r : Result Ended Stop) → Blames r → (ending_of r ≢ ending.WriteFault) → out' ≡ out
-  out-kept (Ok outcome) cause other = cause.out_kept (λ e. cc)
-  out-kept (Err stop.Out) cause other = absurd (other refl)
-  out-kept (Err stop.Notes) cause other = absurd (other refl)
-  out-kept (Err stop.Memory) cause other = cause.out_kept (λ e. cc)
+-- a failure of `out` is told
+pub out-kept : (out out' notes notes' : ℕ) (Nothing : Type 0) (r : Result Ended Stop) → HasSinkCause out out' notes notes' Nothing r → (ending_of r ≢ ending.WriteFault) → out' ≡ out
+out-kept out out' notes notes' Nothing (Ok outcome) cause other = cause.out_kept (λ e. cc)
+out-kept out out' notes notes' Nothing (Err stop.Out) cause other = absurd (other refl)
+out-kept out out' notes notes' Nothing (Err stop.Notes) cause other = absurd (other refl)
+out-kept out out' notes notes' Nothing (Err stop.Memory) cause other = cause.out_kept (λ e. cc)
 
-  -- a failure of the source is told, but where a failure of `out` or want of memory comes behind it
-  pub source-kept : (r : Result Ended Stop) → IfOk r (λ outcome. (outcome ≢ ended.ReadFault) → source' ≡ source)
-      → (ending_of r ≢ ending.ReadFault) → (ending_of r ≢ ending.WriteFault) → (ending_of r ≢ ending.Memory) → source' ≡ source
-  source-kept (Ok (ended.Finished true)) kept reads writes wants = kept (λ e. cc)
-  source-kept (Ok (ended.Finished false)) kept reads writes wants = kept (λ e. cc)
-  source-kept (Ok ended.TooLong) kept reads writes wants = kept (λ e. cc)
-  source-kept (Ok ended.ReadFault) kept reads writes wants = absurd (reads refl)
-  source-kept (Err stop.Out) kept reads writes wants = absurd (writes refl)
-  source-kept (Err stop.Notes) kept reads writes wants = absurd (writes refl)
-  source-kept (Err stop.Memory) kept reads writes wants = absurd (wants refl)
+-- a failure of the source is told, but where a failure of `out` or want of memory comes behind it
+pub source-kept : (source source' : ℕ) (r : Result Ended Stop) → IfOk r (λ outcome. (outcome ≢ ended.ReadFault) → source' ≡ source)
+    → (ending_of r ≢ ending.ReadFault) → (ending_of r ≢ ending.WriteFault) → (ending_of r ≢ ending.Memory) → source' ≡ source
+source-kept source source' (Ok (ended.Finished true)) kept reads writes wants = kept (λ e. cc)
+source-kept source source' (Ok (ended.Finished false)) kept reads writes wants = kept (λ e. cc)
+source-kept source source' (Ok ended.TooLong) kept reads writes wants = kept (λ e. cc)
+source-kept source source' (Ok ended.ReadFault) kept reads writes wants = absurd (reads refl)
+source-kept source source' (Err stop.Out) kept reads writes wants = absurd (writes refl)
+source-kept source source' (Err stop.Notes) kept reads writes wants = absurd (writes refl)
+source-kept source source' (Err stop.Memory) kept reads writes wants = absurd (wants refl)
 
 -- By a description that is there, an input was read.
 pub parse-read : (content : Option (List ℕ)) (coding : Coding) (cutting : Cutting) (left left' o o' : Option (List ℕ)) (files files' source source' out out' : ℕ) (made : Contents)

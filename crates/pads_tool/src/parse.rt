@@ -4,6 +4,7 @@ ghost use Rattle.pads_tool.specs.Describing.{described};
 ghost use Rattle.pads_tool.specs.Endings.{status_of};
 ghost use Rattle.pads_tool.specs.Parsing.{LinesGive, ParseGives, ending_of};
 ghost use Rattle.pads_tool.specs.Running.{IsBeforeInput};
+ghost use Rattle.pads_tool.specs.declared.ending.Ending.TheVariants as ending;
 ghost use Rattle.pads_trans.specs.Modules.{contents};
 ghost use Rattle.pads_value.specs.Header.{is_ok_class};
 ghost use Rattle.pads_value.specs.declared.descriptor.Pd.{out-Pd};
@@ -28,7 +29,6 @@ pub(crate) struct Lines {
 
 impl Command for Lines {
     ghost use Rattle.pads_tool.specs.Describing.{line_in, no_notes, is_clean_in};
-    ghost use Rattle.pads_tool.specs.declared.ending.Ending.TheVariants as ending;
     ghost use Rattle.pads_trans.specs.Modules.{contents};
 
     ghost out = { λ lines. line_in (contents lines.module) };

@@ -1,4 +1,4 @@
-use Rattle.std.proofs.Common.{◌≡◌, ℕ, ◌-◌, ◌≤◌, List, Option, IfSome, length}
+use Rattle.std.proofs.Common.{◌≡◌, ℕ, ◌-◌, List, Option, IfSome, length}
 use Rattle.pads_tool.proofs.Told.{IsFront}
 use Rattle.pads_tool.proofs.files.read_description.Given as goal
 

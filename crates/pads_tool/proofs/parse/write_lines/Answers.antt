@@ -11,13 +11,7 @@ returns g c = record {
       (g.S.Source.faults c.drive.new.source) (g.K.Sink.faults c.args.out.now) (g.K.Sink.faults c.drive.new.out) _ _
       c.drive.result c.drive.ensures.gives c.drive.ensures.ahead c.drive.ensures.read_fault c.drive.ensures.cause);
   out_kept = rw c.ending_of.ensures.ending
-      (out-kept (described (contents c.args.lines.now.module) c.args.cutting) (g.S.Source.left c.args.source.now) (g.S.Source.left c.drive.new.source)
-      (g.K.Sink.written c.args.out.now) (g.K.Sink.written c.drive.new.out) _ _ (g.S.Source.faults c.args.source.now)
-      (g.S.Source.faults c.drive.new.source) (g.K.Sink.faults c.args.out.now) (g.K.Sink.faults c.drive.new.out) _ _
-      c.drive.result c.drive.ensures.cause);
+      (out-kept (g.K.Sink.faults c.args.out.now) (g.K.Sink.faults c.drive.new.out) _ _ _ c.drive.result c.drive.ensures.cause);
   source_kept = rw c.ending_of.ensures.ending
-      (source-kept (described (contents c.args.lines.now.module) c.args.cutting) (g.S.Source.left c.args.source.now) (g.S.Source.left c.drive.new.source)
-      (g.K.Sink.written c.args.out.now) (g.K.Sink.written c.drive.new.out) _ _ (g.S.Source.faults c.args.source.now)
-      (g.S.Source.faults c.drive.new.source) (g.K.Sink.faults c.args.out.now) (g.K.Sink.faults c.drive.new.out) _ _
-      c.drive.result c.drive.ensures.kept);
+      (source-kept (g.S.Source.faults c.args.source.now) (g.S.Source.faults c.drive.new.source) c.drive.result c.drive.ensures.kept);
 }
