@@ -1,12 +1,10 @@
 ghost use Rattle.std.specs.Prelude.{◌≡◌, IfOk, OnOk};
-ghost use Rattle.pads_calc.specs.Structs.{bind as bound_by};
 ghost use Rattle.pads_calc.specs.Wrappers.{guard_of};
 
 use crate::Reading;
 use crate::args::is_true_of;
 use pads_expr::{Env, Expr};
-use pads_value::{Memory, Val};
-use std::alloc::Global;
+use pads_value::Memory;
 
 /// A reading under a constraint, which is asked of a clean reading alone.
 pub fn guarded(
@@ -29,15 +27,5 @@ pub fn guarded(
         Ok(reading)
     } else {
         Ok(reading.constrained())
-    }
-}
-
-/// Binds a part's value in the environment of the later parts, where the part has a name.
-pub fn bind_part(alloc: Global, name: Option<u16>, value: &Val, env: &mut Env) -> Result<(), Memory>
-    ensures bound { OnOk result (env.new.pairs ≡ bound_by name value.now env.old.pairs) }
-{
-    match name {
-        None => Ok(()),
-        Some(name) => env.bind(name, value.copy(alloc)?),
     }
 }

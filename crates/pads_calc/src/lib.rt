@@ -18,7 +18,7 @@ mod turn;
 pub use args::{argument, arguments, bound, is_true, is_true_of};
 pub use choice::chosen;
 pub use decl::{Decl, Decls, NameIds, Shape};
-pub use guard::{bind_part, guarded};
+pub use guard::guarded;
 pub use module::{IllFormed, Module};
 pub use pads_dispatch::{Arg, Args, Base};
 pub use reading::Reading;

@@ -11,8 +11,6 @@ mod member_numbers;
 mod members;
 mod name_set;
 mod records;
-#[cfg(test)]
-mod tests;
 mod trees;
 mod type_table;
 mod types;

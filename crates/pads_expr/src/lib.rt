@@ -13,6 +13,3 @@ pub use environment::{Binding, Env};
 pub use evaluation::{eval, eval_in};
 pub use expr::{BinOp, Expr};
 pub use worth::{Res, is_true};
-
-#[cfg(test)]
-mod tests;

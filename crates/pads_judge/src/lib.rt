@@ -7,8 +7,6 @@ mod forms;
 mod judgement;
 mod judging;
 mod scope;
-#[cfg(test)]
-mod tests;
 
 pub use judgement::Judgement;
 pub use judging::judge;

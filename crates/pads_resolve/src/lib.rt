@@ -1,18 +1,12 @@
 //! The resolving of an accepted description: its declarations with each name resolved, and the record types of its
 //! sources.
 //!
-//! [`resolve`] gives what a syntax tree resolves to, by the definitions of `pads_resolution`. The files follow them: the
-//! bodies of declarations first, then declarations and sources. `pads_resolve_types` has what stands in the bodies.
+//! [`resolve`] gives what a syntax tree resolves to, by the definitions of `pads_resolution`. The files follow them:
+//! declarations and sources. `pads_resolve_bodies` has the bodies.
 #![tactic(auto)]
 
-mod arrays;
-mod bodies;
-mod branches;
 mod declarations;
 mod resolving;
 mod sources;
-mod structs;
-mod typedefs;
-mod unions;
 
 pub use resolving::resolve;

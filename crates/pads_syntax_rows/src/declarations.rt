@@ -1,6 +1,6 @@
 //! Each form of declaration, with and without what may be left out.
 
-use crate::tree_text::described;
+use pads_tree_text::described;
 use std::test::Fail;
 
 #[test]

@@ -1,6 +1,6 @@
 //! Texts that derive no tree: the number of the token at fault and its first byte.
 
-use crate::tree_text::{described, filtered};
+use pads_tree_text::{described, filtered};
 use std::test::Fail;
 
 #[test]

@@ -1,6 +1,6 @@
 //! How expressions group.
 
-use crate::tree_text::filtered;
+use pads_tree_text::filtered;
 use std::test::Fail;
 
 #[test]

@@ -1,6 +1,6 @@
 //! 64 levels of nesting have a tree; the token that would open one more is at fault.
 
-use crate::tree_text::{described, filtered};
+use pads_tree_text::{described, filtered};
 use std::alloc::{AllocError, Global};
 use std::test::Fail;
 

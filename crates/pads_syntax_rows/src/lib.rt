@@ -2,11 +2,7 @@
 #![tactic(auto)]
 
 #[cfg(test)]
-mod decl_text;
-#[cfg(test)]
 mod declarations;
-#[cfg(test)]
-mod expr_text;
 #[cfg(test)]
 mod faults;
 #[cfg(test)]
@@ -16,10 +12,6 @@ mod levels;
 #[cfg(test)]
 mod options;
 #[cfg(test)]
-mod part_text;
-#[cfg(test)]
 mod places;
-#[cfg(test)]
-mod tree_text;
 #[cfg(test)]
 mod worked;

@@ -1,6 +1,6 @@
 //! The options of an array in each order.
 
-use crate::tree_text::described;
+use pads_tree_text::described;
 use std::alloc::{AllocError, Global};
 use std::test::Fail;
 

@@ -1,6 +1,6 @@
 //! The places of names, literals and marks in trees.
 
-use crate::tree_text::{described, filtered};
+use pads_tree_text::{described, filtered};
 use std::test::Fail;
 
 #[test]

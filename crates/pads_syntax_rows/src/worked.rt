@@ -1,6 +1,6 @@
 //! Two whole descriptions: of a web log, and of a file of orders.
 
-use crate::tree_text::described;
+use pads_tree_text::described;
 use std::test::Fail;
 
 const WEB_LOG: &[u8] = b"Punion auth_t { Pchar none : none == '-'; Pstring(:' ':) id; };

@@ -1,6 +1,6 @@
 //! Types of types, as deep as calls may go and one deeper.
 
-use crate::run_over::{Run, Wanted, gives};
+use pads_runs::{Run, Wanted, gives};
 use pads_tool::Status;
 use std::test::Fail;
 

@@ -1,6 +1,6 @@
 //! Arrays, unions, types of types and the two files of which the language was made.
 
-use crate::run_over::{Run, Wanted, gives};
+use pads_runs::{Run, Wanted, gives};
 use pads_tool::Status;
 use std::test::Fail;
 

@@ -1,6 +1,6 @@
 //! Records that lie in the input in other ways.
 
-use crate::run_over::{Run, Wanted, gives};
+use pads_runs::{Run, Wanted, gives};
 use pads_tool::Status;
 use std::test::Fail;
 

@@ -6,8 +6,6 @@ mod checks;
 #[cfg(test)]
 mod depth;
 #[cfg(test)]
-mod faults;
-#[cfg(test)]
 mod forms;
 #[cfg(test)]
 mod framing;
@@ -15,9 +13,3 @@ mod framing;
 mod numbers;
 #[cfg(test)]
 mod objects;
-#[cfg(test)]
-mod refusals;
-#[cfg(test)]
-mod run_over;
-#[cfg(test)]
-mod words;

@@ -1,6 +1,6 @@
 //! Records of two numbers.
 
-use crate::run_over::{Run, Wanted, gives};
+use pads_runs::{Run, Wanted, gives};
 use pads_tool::Status;
 use std::test::Fail;
 

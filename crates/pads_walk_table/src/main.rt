@@ -3,13 +3,8 @@
 //! told was worked out by hand.
 #![tactic(auto)]
 
-mod base_text;
-mod expr_text;
-mod line;
 mod order;
-mod row_text;
 mod tell;
-mod term_text;
 
 use std::io;
 

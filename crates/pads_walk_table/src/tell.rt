@@ -1,12 +1,10 @@
 //! Tells what the lines of a table ask for.
-use crate::line::Line;
 use crate::order::{Order, Record, order_of};
-use crate::row_text::put_row;
-use crate::term_text::{put_decl, put_names, put_shape};
 use hex::FromHexError;
 use pads_calc::Module;
 use pads_code::Coding;
 use pads_describe::describe;
+use pads_term_text::{Line, put_decl, put_names, put_row, put_shape};
 use pads_value::{Frame, Mark, Memory, Refusal};
 use pads_walk::walk;
 use std::alloc::{AllocError, Global};

@@ -1,0 +1,113 @@
+//! A run over objects in memory, and what it leaves.
+
+use pads_io::{Calls, MemFiles, MemSink, MemSource, NamedFile, NamedFiles};
+use pads_orders::{Word, Words};
+use pads_tool::{Status, run};
+use pads_value::{Bytes, Items, Memory};
+use std::alloc::Global;
+use std::process::Abort;
+use std::test::Fail;
+
+/// What a run is made over.
+#[derive(Clone, Copy)]
+pub struct Run<'a> {
+    pub words: &'a [&'a str],
+    /// The bytes of the file `d`, which is the only one.
+    pub description: &'a [u8],
+    pub input: &'a [u8],
+}
+
+/// How the run is to end, and what is to stand on its sinks.
+#[derive(Clone, Copy)]
+pub struct Wanted<'a> {
+    pub status: Status,
+    pub out: &'a [u8],
+    pub notes: &'a [u8],
+}
+
+/// How source and sink move their bytes: the most that one call moves, or 0 for any number, and the
+/// calls that fail.
+#[derive(Clone, Copy)]
+pub struct Moves<'a> {
+    pub read: u64,
+    pub failing_reads: &'a [u64],
+    pub write: u64,
+    pub failing_writes: &'a [u64],
+}
+
+/// What a run leaves.
+#[derive(Drop)]
+pub struct Left {
+    pub status: Status,
+    pub source: MemSource,
+    pub out: MemSink,
+    pub notes: MemSink,
+}
+
+pub fn words_of(alloc: Global, texts: &[&str]) -> Result<Words, Memory> {
+    let mut words = Words::new(alloc);
+    for text in texts {
+        words.push(Word::new(String::from_str(alloc, text)?))?;
+    }
+    Ok(words)
+}
+
+/// The file `d` alone.
+pub fn files_of(alloc: Global, description: &[u8]) -> Result<NamedFiles, Memory> {
+    let mut named = Items::new(alloc);
+    named.push(NamedFile {
+        name: Bytes::from_slice(alloc, b"d")?,
+        bytes: Bytes::from_slice(alloc, description)?,
+    })?;
+    Ok(named)
+}
+
+/// Makes the run.
+pub fn left_by(alloc: Global, asked: &Run<'_>, moves: &Moves<'_>) -> Result<Left, Memory> {
+    let words = words_of(alloc, asked.words)?;
+    let mut files = MemFiles::new(files_of(alloc, asked.description)?, Calls::new(alloc));
+    let input = Bytes::from_slice(alloc, asked.input)?;
+    let reads = Items::from_slice(alloc, moves.failing_reads)?;
+    let writes = Items::from_slice(alloc, moves.failing_writes)?;
+    let mut source = MemSource::new(input, moves.read, reads);
+    let mut out = MemSink::new(alloc, moves.write, writes);
+    let mut notes = MemSink::new(alloc, 0, Calls::new(alloc));
+    let status = run(alloc, &words, &mut files, &mut source, &mut out, &mut notes);
+    Ok(Left {
+        status,
+        source,
+        out,
+        notes,
+    })
+}
+
+/// The run over such a source and such a sink leaves that.
+pub fn gives_over(
+    rt: &impl Abort,
+    alloc: Global,
+    asked: &Run<'_>,
+    moves: &Moves<'_>,
+    wanted: &Wanted<'_>,
+) -> Result<(), Fail> {
+    let left = left_by(alloc, asked, moves)?;
+    assert_eq!(rt; left.status, wanted.status);
+    assert_eq!(rt; left.out.bytes(), wanted.out);
+    assert_eq!(rt; left.notes.bytes(), wanted.notes);
+    Ok(())
+}
+
+/// The run leaves that where no call fails.
+pub fn gives(
+    rt: &impl Abort,
+    alloc: Global,
+    asked: &Run<'_>,
+    wanted: &Wanted<'_>,
+) -> Result<(), Fail> {
+    let moves = Moves {
+        read: 0,
+        failing_reads: &[],
+        write: 0,
+        failing_writes: &[],
+    };
+    gives_over(rt, alloc, asked, &moves, wanted)
+}
