@@ -3,8 +3,10 @@
 //! status of the run.
 #![tactic(auto)]
 
-ghost use Rattle.std.specs.Prelude.{◌≡◌};
+ghost use Rattle.std.specs.Prelude.{◌≡◌, ◌↔◌, IfOk, None};
 ghost use Rattle.pads_cli.specs.Codes.{code_of};
+ghost use Rattle.pads_orders.specs.Orders.{order_of};
+ghost use Rattle.pads_tool.specs.declared.status.Status.TheVariants as status;
 
 use pads_io::{RealFiles, RealSink, RealSource};
 use pads_orders::{Word, Words};
@@ -29,8 +31,9 @@ fn words(rt: &HostRuntime) -> Result<Words, Memory> {
 }
 
 /// Runs the words over the streams of the process and its file system.
-fn run_words(rt: &HostRuntime) -> Result<Status, Memory> {
-    let words = words(rt)?;
+fn run_words(rt: &HostRuntime, words: &Words) -> Result<Status, Memory>
+    ensures usage { IfOk result (λ ended. (ended ≡ status.Usage) ↔ (order_of words.now ≡ None)) }
+{
     let Ok(system) = rt.clone() else {
         return Err(Memory);
     };
@@ -40,12 +43,18 @@ fn run_words(rt: &HostRuntime) -> Result<Status, Memory> {
     let mut notes = RealSink::new(rt.stderr());
     Ok(run(
         rt.alloc(),
-        &words,
+        words,
         &mut files,
         &mut source,
         &mut out,
         &mut notes,
     ))
+}
+
+/// Runs the words of the command line.
+fn run_line(rt: &HostRuntime) -> Result<Status, Memory> {
+    let words = words(rt)?;
+    run_words(rt, &words)
 }
 
 /// The exit status of a run, or that of want of memory where none was begun.
@@ -59,5 +68,5 @@ fn exit_code(ended: Result<Status, Memory>) -> u8
 }
 
 fn main(rt: HostRuntime) -> ExitCode {
-    ExitCode::from(exit_code(run_words(&rt)))
+    ExitCode::from(exit_code(run_line(&rt)))
 }
