@@ -5,8 +5,6 @@ use pads_orders::{Word, Words};
 use pads_tool::{Status, run};
 use pads_value::{Bytes, Items, Memory};
 use std::alloc::Global;
-use std::process::Abort;
-use std::test::Fail;
 
 /// What a run is made over.
 #[derive(Clone, Copy)]
@@ -17,8 +15,8 @@ pub struct Run<'a> {
     pub input: &'a [u8],
 }
 
-/// How the run is to end, and what is to stand on its sinks.
-#[derive(Clone, Copy)]
+/// How a run ends, and what stands on its sinks.
+#[derive(Clone, Copy, Debug, PartialEq, Eq)]
 pub struct Wanted<'a> {
     pub status: Status,
     pub out: &'a [u8],
@@ -35,6 +33,18 @@ pub struct Moves<'a> {
     pub failing_writes: &'a [u64],
 }
 
+impl Moves<'static> {
+    /// Each call moves as many bytes as it can, and none fails.
+    pub fn whole() -> Moves<'static> {
+        Moves {
+            read: 0,
+            failing_reads: &[],
+            write: 0,
+            failing_writes: &[],
+        }
+    }
+}
+
 /// What a run leaves.
 #[derive(Drop)]
 pub struct Left {
@@ -44,6 +54,18 @@ pub struct Left {
     pub notes: MemSink,
 }
 
+impl Left {
+    /// How the run ended, and what stands on its sinks.
+    pub fn told(&self) -> Wanted<'_> {
+        Wanted {
+            status: self.status,
+            out: self.out.bytes(),
+            notes: self.notes.bytes(),
+        }
+    }
+}
+
+/// The words of a command line.
 pub fn words_of(alloc: Global, texts: &[&str]) -> Result<Words, Memory> {
     let mut words = Words::new(alloc);
     for text in texts {
@@ -79,35 +101,4 @@ pub fn left_by(alloc: Global, asked: &Run<'_>, moves: &Moves<'_>) -> Result<Left
         out,
         notes,
     })
-}
-
-/// The run over such a source and such a sink leaves that.
-pub fn gives_over(
-    rt: &impl Abort,
-    alloc: Global,
-    asked: &Run<'_>,
-    moves: &Moves<'_>,
-    wanted: &Wanted<'_>,
-) -> Result<(), Fail> {
-    let left = left_by(alloc, asked, moves)?;
-    assert_eq!(rt; left.status, wanted.status);
-    assert_eq!(rt; left.out.bytes(), wanted.out);
-    assert_eq!(rt; left.notes.bytes(), wanted.notes);
-    Ok(())
-}
-
-/// The run leaves that where no call fails.
-pub fn gives(
-    rt: &impl Abort,
-    alloc: Global,
-    asked: &Run<'_>,
-    wanted: &Wanted<'_>,
-) -> Result<(), Fail> {
-    let moves = Moves {
-        read: 0,
-        failing_reads: &[],
-        write: 0,
-        failing_writes: &[],
-    };
-    gives_over(rt, alloc, asked, &moves, wanted)
 }

@@ -1,6 +1,7 @@
 //! Types of types, as deep as calls may go and one deeper.
 
-use pads_runs::{Run, Wanted, gives};
+use crate::gives::gives;
+use pads_runs::{Run, Wanted};
 use pads_tool::Status;
 use std::test::Fail;
 

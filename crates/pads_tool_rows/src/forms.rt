@@ -1,6 +1,7 @@
 //! Arrays, unions, types of types and the two files of which the language was made.
 
-use pads_runs::{Run, Wanted, gives};
+use crate::gives::gives;
+use pads_runs::{Run, Wanted};
 use pads_tool::Status;
 use std::test::Fail;
 

@@ -1,8 +1,6 @@
-//! Runs of the commands over objects in memory, word for word.
+//! Runs of `parse` over objects in memory, word for word.
 #![tactic(auto)]
 
-#[cfg(test)]
-mod checks;
 #[cfg(test)]
 mod depth;
 #[cfg(test)]
@@ -10,6 +8,6 @@ mod forms;
 #[cfg(test)]
 mod framing;
 #[cfg(test)]
-mod numbers;
+mod gives;
 #[cfg(test)]
-mod objects;
+mod numbers;

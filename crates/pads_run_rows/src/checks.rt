@@ -1,6 +1,7 @@
 //! Descriptions that are accepted.
 
-use pads_runs::{Run, Wanted, gives};
+use crate::gives::gives;
+use pads_runs::{Run, Wanted};
 use pads_tool::Status;
 use std::test::Fail;
 

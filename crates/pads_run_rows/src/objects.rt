@@ -1,7 +1,8 @@
 //! Runs over each kind of object in memory: those that never fail, and those that fail at listed calls.
 
+use crate::gives::gives_over;
 use pads_io::{SureFiles, SureSink, SureSource};
-use pads_runs::{Moves, Run, Wanted, files_of, gives_over, words_of};
+use pads_runs::{Moves, Run, Wanted, files_of, words_of};
 use pads_tool::{Status, run};
 use pads_value::Bytes;
 use std::alloc::Global;

@@ -1,6 +1,7 @@
 //! Sources and sinks that move few bytes a call, or fail.
 
-use pads_runs::{Moves, Run, Wanted, gives, gives_over, left_by};
+use crate::gives::{gives, gives_over};
+use pads_runs::{Moves, Run, Wanted, left_by};
 use pads_tool::Status;
 use pads_value::Bytes;
 use std::alloc::Global;
