@@ -3,7 +3,7 @@ ghost use Rattle.pads_io.specs.Faults.{Rose};
 ghost use Rattle.pads_frame.specs.State.{reach, room};
 ghost use Rattle.pads_value.specs.Cuts.{cut_of_kept};
 ghost use Rattle.pads_drive.specs.declared.refill.Refill.TheVariants as refilled;
-ghost use Rattle.pads_drive.specs.Driving.{KeepsNext, Collects, IsWaiting, RefillGives};
+ghost use Rattle.pads_drive.specs.Driving.{KeepsNext, Collects, IsWaiting, RefillGives, is_full};
 ghost use Rattle.pads_drive.specs.Halting.{IsFilled};
 ghost use Rattle.pads_drive.specs.Writing.{Grows, GrowsPrefix};
 ghost use Rattle.pads_drive.specs.Stopping.{HasSinkCause};
@@ -74,6 +74,7 @@ impl Batch {
     }
 
     fn is_full(&self) -> bool
+        ensures full { result ≡ is_full self.now }
         ensures some { result ≡ true → 0 < length self.now.frames }
         ensures bound { result ≡ false → length self.now.frames < 256 }
         ensures light { result ≡ false → 0 < length self.now.frames → self.now.size < 4194304 }
@@ -100,7 +101,8 @@ impl Batch {
 pub(crate) fn collect(alloc: Global, framer: &mut Framer, batch: &mut Batch) -> Result<bool, Memory>
     requires filled { IsFilled batch.old }
     ensures collects { OnOk result (Collects framer.old framer.new (map cut_of_kept batch.old.frames) (map cut_of_kept batch.new.frames)) }
-    ensures full { result ≡ Ok true → 0 < length batch.new.frames }
+    ensures full { result ≡ Ok true → is_full batch.new ≡ true }
+    ensures some { result ≡ Ok true → 0 < length batch.new.frames }
     ensures waiting { result ≡ Ok false → IsWaiting framer.new }
     ensures filled { OnOk result (IsFilled batch.new) }
 {

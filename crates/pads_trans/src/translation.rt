@@ -40,10 +40,10 @@ fn module_by(
 /// The module of a description whose data is in this coding: its declarations' terms, and its names by
 /// number in the order in which they are first met. Every value is kept (`set`).
 ///
-/// `IllFormed` comes exactly where that is no module: a name, a declaration or a variable isn't there, a
+/// `IllFormed` comes only where that is no module: a name, a declaration or a variable isn't there, a
 /// call has another number of arguments than its declaration, or 16 bits don't count the names,
 /// declarations, parameters, parts, branches, cases or labels. The tree of an accepted description has
-/// none of this.
+/// none of this. Where there is no module, the other answer is want of memory.
 pub fn translate(
     alloc: Global,
     description: &Description,
