@@ -1,7 +1,7 @@
 //! Sources and sinks that move few bytes a call, or fail.
 
 use crate::gives::{gives, gives_over};
-use pads_runs::{Moves, Run, Wanted, left_by};
+use pads_runs::{Moves, Outcome, Run, left_by};
 use pads_tool::Status;
 use pads_value::Bytes;
 use std::alloc::Global;
@@ -30,7 +30,7 @@ fn three_give(
     rt: &impl Abort,
     alloc: Global,
     moves: &Moves<'_>,
-    wanted: &Wanted<'_>,
+    wanted: &Outcome<'_>,
 ) -> Result<(), Fail> {
     let asked = Run {
         words: &["parse", "d"],
@@ -51,7 +51,7 @@ fn a_source_that_fails_at_its_third_read(rt: HostRuntime) -> Result<(), Fail> {
             write: 0,
             failing_writes: &[],
         },
-        &Wanted {
+        &Outcome {
             status: Status::ReadFault,
             out: TWO_LINES,
             notes: b"pads: read fault\n",
@@ -70,7 +70,7 @@ fn a_sink_that_takes_a_byte_a_call(rt: HostRuntime) -> Result<(), Fail> {
             write: 1,
             failing_writes: &[],
         },
-        &Wanted {
+        &Outcome {
             status: Status::Done,
             out: THREE_LINES,
             notes: b"",
@@ -89,7 +89,7 @@ fn a_sink_that_fails_at_its_second_call(rt: HostRuntime) -> Result<(), Fail> {
             write: 10,
             failing_writes: &[1],
         },
-        &Wanted {
+        &Outcome {
             status: Status::WriteFault,
             out: b"{\"class\":\"",
             notes: b"pads: write fault\n",
@@ -99,7 +99,7 @@ fn a_sink_that_fails_at_its_second_call(rt: HostRuntime) -> Result<(), Fail> {
 
 #[test]
 fn a_file_that_is_missing(rt: HostRuntime) -> Result<(), Fail> {
-    let wanted = Wanted {
+    let wanted = Outcome {
         status: Status::FileFault,
         out: b"",
         notes: b"pads: file fault\n",
@@ -142,7 +142,7 @@ fn in_pieces(rt: &impl Abort, alloc: Global, size: u64) -> Result<(), Fail> {
             write: 0,
             failing_writes: &[],
         },
-        &Wanted {
+        &Outcome {
             status: Status::Dirty,
             out: b"{\"class\":\"Err\",\"faults\":[{\"at\":\"#1\",\"cause\":\"SKIPPED\",\"span\":[1,4]},{\"at\":\".\",\"cause\":\"EXTRA_BEFORE_EOR\",\"span\":[5,8]}],\"nerr\":2,\"next\":5,\"record\":0,\"span\":[0,8],\"value\":{\"x\":3,\"y\":7}}\n",
             notes: b"",

@@ -1,6 +1,6 @@
 //! A run, and what it is to leave.
 
-use pads_runs::{Moves, Run, Wanted, left_by};
+use pads_runs::{Moves, Outcome, Run, left_by};
 use std::alloc::Global;
 use std::process::Abort;
 use std::test::Fail;
@@ -11,7 +11,7 @@ pub(crate) fn gives_over(
     alloc: Global,
     asked: &Run<'_>,
     moves: &Moves<'_>,
-    wanted: &Wanted<'_>,
+    wanted: &Outcome<'_>,
 ) -> Result<(), Fail> {
     let left = left_by(alloc, asked, moves)?;
     assert_eq!(rt; left.told(), *wanted);
@@ -23,7 +23,7 @@ pub(crate) fn gives(
     rt: &impl Abort,
     alloc: Global,
     asked: &Run<'_>,
-    wanted: &Wanted<'_>,
+    wanted: &Outcome<'_>,
 ) -> Result<(), Fail> {
     gives_over(rt, alloc, asked, &Moves::whole(), wanted)
 }

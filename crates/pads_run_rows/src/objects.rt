@@ -2,7 +2,7 @@
 
 use crate::gives::gives_over;
 use pads_io::{SureFiles, SureSink, SureSource};
-use pads_runs::{Moves, Run, Wanted, files_of, words_of};
+use pads_runs::{Moves, Outcome, Run, files_of, words_of};
 use pads_tool::{Status, run};
 use pads_value::Bytes;
 use std::alloc::Global;
@@ -55,7 +55,7 @@ fn ends(
     words: &[&str],
     failing_reads: &[u64],
     failing_writes: &[u64],
-    wanted: &Wanted<'_>,
+    wanted: &Outcome<'_>,
 ) -> Result<(), Fail> {
     let asked = Run {
         words,
@@ -79,7 +79,7 @@ fn a_source_that_fails(rt: HostRuntime) -> Result<(), Fail> {
         &["parse", "d"],
         &[0],
         &[],
-        &Wanted {
+        &Outcome {
             status: Status::ReadFault,
             out: b"",
             notes: b"pads: read fault\n",
@@ -95,7 +95,7 @@ fn a_sink_that_fails_at_its_second_write(rt: HostRuntime) -> Result<(), Fail> {
         &["parse", "d"],
         &[],
         &[1],
-        &Wanted {
+        &Outcome {
             status: Status::WriteFault,
             out: b"{\"class\":\"",
             notes: b"pads: write fault\n",
@@ -111,7 +111,7 @@ fn a_description_that_is_checked(rt: HostRuntime) -> Result<(), Fail> {
         &["check", "d"],
         &[0],
         &[],
-        &Wanted {
+        &Outcome {
             status: Status::Done,
             out: b"accepted 1\n",
             notes: b"",
@@ -127,7 +127,7 @@ fn words_that_are_no_order(rt: HostRuntime) -> Result<(), Fail> {
         &["parse", "d", "more"],
         &[],
         &[],
-        &Wanted {
+        &Outcome {
             status: Status::Usage,
             out: b"",
             notes: b"pads: usage: pads check|parse|print|summary|query|selftest WORDS OPTIONS\n",

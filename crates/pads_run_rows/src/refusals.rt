@@ -1,7 +1,7 @@
 //! Descriptions that are refused.
 
 use crate::gives::gives;
-use pads_runs::{Run, Wanted};
+use pads_runs::{Outcome, Run};
 use pads_tool::Status;
 use std::test::Fail;
 
@@ -15,7 +15,7 @@ fn a_number_that_is_badly_written(rt: HostRuntime) -> Result<(), Fail> {
             description: b"Pstruct p { 007",
             input: b"",
         },
-        &Wanted {
+        &Outcome {
             status: Status::Refused,
             out: b"",
             notes: b"pads: refused: description lexical BadNumber at byte 12\n",
@@ -33,7 +33,7 @@ fn a_character_and_an_escape_that_are_badly_written(rt: HostRuntime) -> Result<(
             description: b"'ab'",
             input: b"",
         },
-        &Wanted {
+        &Outcome {
             status: Status::Refused,
             out: b"",
             notes: b"pads: refused: description lexical BadChar at byte 0\n",
@@ -47,7 +47,7 @@ fn a_character_and_an_escape_that_are_badly_written(rt: HostRuntime) -> Result<(
             description: b"\"a\\q\"",
             input: b"",
         },
-        &Wanted {
+        &Outcome {
             status: Status::Refused,
             out: b"",
             notes: b"pads: refused: description lexical BadEscape at byte 2\n",
@@ -65,7 +65,7 @@ fn a_description_that_ends_too_early(rt: HostRuntime) -> Result<(), Fail> {
             description: b"Precord",
             input: b"",
         },
-        &Wanted {
+        &Outcome {
             status: Status::Refused,
             out: b"",
             notes: b"pads: refused: description syntax at token 1 byte 7\n",
@@ -79,7 +79,7 @@ fn a_description_that_ends_too_early(rt: HostRuntime) -> Result<(), Fail> {
             description: b"Pstruct p {",
             input: b"",
         },
-        &Wanted {
+        &Outcome {
             status: Status::Refused,
             out: b"",
             notes: b"pads: refused: description syntax at token 3 byte 11\n",
@@ -97,7 +97,7 @@ fn a_name_that_comes_later(rt: HostRuntime) -> Result<(), Fail> {
             description: b"Precord Pstruct r { Pstring_FW(:n:) s; Puint8 n; };",
             input: b"",
         },
-        &Wanted {
+        &Outcome {
             status: Status::Refused,
             out: b"",
             notes: b"pads: refused: description rule 6 at byte 32\n",
@@ -115,7 +115,7 @@ fn a_type_that_is_not_there(rt: HostRuntime) -> Result<(), Fail> {
             description: b"Precord Pstruct r { Pfoo a; Puint8 a; };",
             input: b"",
         },
-        &Wanted {
+        &Outcome {
             status: Status::Refused,
             out: b"",
             notes: b"pads: refused: description rule 2 at byte 20\n",
@@ -133,7 +133,7 @@ fn a_spelling_that_comes_again(rt: HostRuntime) -> Result<(), Fail> {
             description: b"Penum e { A Pfrom(\"x\"), B Pfrom(\"x\") }; Precord Pstruct r { e v; };",
             input: b"",
         },
-        &Wanted {
+        &Outcome {
             status: Status::Refused,
             out: b"",
             notes: b"pads: refused: description rule 15 at byte 32\n",
@@ -151,7 +151,7 @@ fn a_byte_that_begins_no_token(rt: HostRuntime) -> Result<(), Fail> {
             description: b"Precord Pstruct r { Puint8 @x; };",
             input: b"",
         },
-        &Wanted {
+        &Outcome {
             status: Status::Refused,
             out: b"",
             notes: b"pads: refused: description lexical BadByte at byte 27\n",
@@ -169,7 +169,7 @@ fn the_same_under_parse(rt: HostRuntime) -> Result<(), Fail> {
             description: b"Pstruct p {",
             input: b"",
         },
-        &Wanted {
+        &Outcome {
             status: Status::Refused,
             out: b"",
             notes: b"pads: refused: description syntax at token 3 byte 11\n",
@@ -183,7 +183,7 @@ fn the_same_under_parse(rt: HostRuntime) -> Result<(), Fail> {
             description: b"Precord Pstruct r { Pstring_FW(:n:) s; Puint8 n; };",
             input: b"",
         },
-        &Wanted {
+        &Outcome {
             status: Status::Refused,
             out: b"",
             notes: b"pads: refused: description rule 6 at byte 32\n",
@@ -202,7 +202,7 @@ fn a_text_of_a_byte_too_many(rt: HostRuntime) -> Result<(), Fail> {
             description: text.as_slice(),
             input: b"",
         },
-        &Wanted {
+        &Outcome {
             status: Status::Refused,
             out: b"",
             notes: b"pads: refused: description too long\n",
@@ -220,7 +220,7 @@ fn no_declaration_at_all(rt: HostRuntime) -> Result<(), Fail> {
             description: b"",
             input: b"",
         },
-        &Wanted {
+        &Outcome {
             status: Status::Refused,
             out: b"",
             notes: b"pads: refused: description rule 23 at byte 0\n",

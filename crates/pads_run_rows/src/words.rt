@@ -1,7 +1,7 @@
 //! Words that are no order.
 
 use crate::gives::gives;
-use pads_runs::{Run, Wanted};
+use pads_runs::{Outcome, Run};
 use pads_tool::Status;
 use std::test::Fail;
 
@@ -15,7 +15,7 @@ fn too_few_words_and_too_many(rt: HostRuntime) -> Result<(), Fail> {
             description: b"",
             input: b"",
         },
-        &Wanted {
+        &Outcome {
             status: Status::Usage,
             out: b"",
             notes: b"pads: usage: pads check|parse|print|summary|query|selftest WORDS OPTIONS\n",
@@ -29,7 +29,7 @@ fn too_few_words_and_too_many(rt: HostRuntime) -> Result<(), Fail> {
             description: b"",
             input: b"",
         },
-        &Wanted {
+        &Outcome {
             status: Status::Usage,
             out: b"",
             notes: b"pads: usage: pads check|parse|print|summary|query|selftest WORDS OPTIONS\n",
@@ -47,7 +47,7 @@ fn a_block_that_is_longer_than_the_limit(rt: HostRuntime) -> Result<(), Fail> {
             description: b"",
             input: b"",
         },
-        &Wanted {
+        &Outcome {
             status: Status::Usage,
             out: b"",
             notes: b"pads: usage: pads check|parse|print|summary|query|selftest WORDS OPTIONS\n",
@@ -65,7 +65,7 @@ fn an_option_that_comes_twice(rt: HostRuntime) -> Result<(), Fail> {
             description: b"",
             input: b"",
         },
-        &Wanted {
+        &Outcome {
             status: Status::Usage,
             out: b"",
             notes: b"pads: usage: pads check|parse|print|summary|query|selftest WORDS OPTIONS\n",
@@ -83,7 +83,7 @@ fn an_option_of_another_command(rt: HostRuntime) -> Result<(), Fail> {
             description: b"",
             input: b"",
         },
-        &Wanted {
+        &Outcome {
             status: Status::Usage,
             out: b"",
             notes: b"pads: usage: pads check|parse|print|summary|query|selftest WORDS OPTIONS\n",
@@ -101,7 +101,7 @@ fn no_words(rt: HostRuntime) -> Result<(), Fail> {
             description: b"",
             input: b"",
         },
-        &Wanted {
+        &Outcome {
             status: Status::Usage,
             out: b"",
             notes: b"pads: usage: pads check|parse|print|summary|query|selftest WORDS OPTIONS\n",
@@ -119,7 +119,7 @@ fn more_than_a_record_may_have(rt: HostRuntime) -> Result<(), Fail> {
             description: b"",
             input: b"",
         },
-        &Wanted {
+        &Outcome {
             status: Status::Usage,
             out: b"",
             notes: b"pads: usage: pads check|parse|print|summary|query|selftest WORDS OPTIONS\n",

@@ -3,4 +3,4 @@
 
 mod run_over;
 
-pub use run_over::{Left, Moves, Run, Wanted, files_of, left_by, words_of};
+pub use run_over::{Left, Moves, Outcome, Run, files_of, left_by, words_of};

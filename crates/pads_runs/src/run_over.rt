@@ -17,7 +17,7 @@ pub struct Run<'a> {
 
 /// How a run ends, and what stands on its sinks.
 #[derive(Clone, Copy, Debug, PartialEq, Eq)]
-pub struct Wanted<'a> {
+pub struct Outcome<'a> {
     pub status: Status,
     pub out: &'a [u8],
     pub notes: &'a [u8],
@@ -56,8 +56,8 @@ pub struct Left {
 
 impl Left {
     /// How the run ended, and what stands on its sinks.
-    pub fn told(&self) -> Wanted<'_> {
-        Wanted {
+    pub fn told(&self) -> Outcome<'_> {
+        Outcome {
             status: self.status,
             out: self.out.bytes(),
             notes: self.notes.bytes(),

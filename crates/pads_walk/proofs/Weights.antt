@@ -20,3 +20,7 @@ weight-call decls n decl (suc depth) some there =
     let less : suc depth - 1 ≡ depth = omega arith in
     let one : body_size decl < most body_size decls + 1 = omega (arith, most-there body_size decls n decl there) in
     rw less (omega (arith, one))
+
+-- what is smaller than a term weighs less, on the way to it too
+pub under : (calls part whole t way : ℕ) → way < 4 → calls + 4 * whole ≡ t → part < whole → calls + (4 * part + way) < t
+under calls part whole t way few is smaller = omega (arith, few, is, smaller)

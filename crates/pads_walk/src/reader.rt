@@ -40,6 +40,7 @@ fn item<T>(items: &[T], at: usize) -> Option<&T>
 impl Reader<'_> {
     /// A term in an environment at a place, where calls may be nested so deep.
     #[cycle(reader)]
+    #[tactic(auto, using(pads_calc::proofs::Rolls::read_rules))]
     pub(crate) fn read(
         &self,
         term: &Term,
@@ -80,6 +81,7 @@ impl Reader<'_> {
 
     /// A term as `read` reads it, with a shorter way to the forms that most parts of a struct have.
     #[cycle(reader)]
+    #[tactic(auto, using(pads_calc::proofs::Rolls::read_rules))]
     fn read_part(
         &self,
         term: &Term,

@@ -3,9 +3,7 @@ use Rattle.std.proofs.lemmas.List.{take_more, take_all}
 use Rattle.pads_calc.specs.declared.term.Part.{Part}
 use Rattle.pads_calc.specs.declared.term.Term.TheVariants as term
 use denote.Param.Weighed.{most}
-use Rattle.pads_calc.specs.declared.term.Arm.{size-Arm}
 use Rattle.pads_calc.specs.declared.term.Case.{size-Case}
-use Rattle.pads_calc.specs.declared.term.Part.{size-Part}
 use Rattle.pads_calc.specs.declared.term.Seq.{size-Seq}
 use Rattle.pads_calc.specs.declared.term.Term.{size-Term}
 use Rattle.pads_calc.proofs.Sizes.{size-Struct, size-Alt, size-Switch, size-Guard, size-of_Seq, size-Absorb, size-Scan, size-in_Case, most-there}
@@ -19,7 +17,6 @@ use Rattle.pads_calc.specs.Counts.{counts_fit}
 use Rattle.pads_calc.specs.Readings.{Reader, is_ok}
 use Rattle.pads_calc.specs.Structs.{bind, in_turn}
 use Rattle.pads_calc.specs.Wrappers.{scan}
-use Rattle.pads_calc.proofs.Rolls.{read-Unit, read-Base, read-Lit, read-Eor, read-Struct, read-Alt, read-Switch, read-Guard, read-Seq, read-Call, read-Compute, read-Absorb, read-Scan}
 use Rattle.pads_calc.proofs.CountRolls.{counts-Base, counts-Guard, counts-Absorb, counts-Scan, fit-parts, few-arms, fit-arms, few-cases, fit-cases, fit-elem, fit-sep, fit-stop, fit-body, all-there}
 use Rattle.pads_calc.proofs.Calls.{call-deep, call-unargued, call-undeclared, call-found}
 use Rattle.pads_calc.proofs.Scans.{scan-here, scan-on, scan-found, scan-next, scan-over}
@@ -31,7 +28,7 @@ use Rattle.pads_calc.proofs.Turns.{turn-without, turn-with, turns-room, ending-f
 use Rattle.pads_walk.specs.Fields.{kept, parts_of, values_of, AreDone}
 use Rattle.pads_walk.specs.Reads.{calls, reads, reads_part, reads_seq}
 use Rattle.pads_walk.proofs.Searches.{literal-reads}
-use Rattle.pads_walk.proofs.Weights.{weight, weight-call}
+use Rattle.pads_walk.proofs.Weights.{weight, weight-call, under}
 use Rattle.pads_walk.proofs.reader.Reader.+reader.Goals as goal
 
 pub read-base-requires : goal.read-base-requires
@@ -41,27 +38,18 @@ read-base-requires t c =
 
 pub read-read_struct-requires : goal.read-read_struct-requires
 read-read_struct-requires t c =
-    let is : c.args.depth * weight c.args.self.now.decls.now + 4 * size-Term c.args.term.now ≡ t = c.decreases in
-    let smaller : most size-Part c.as_slice-in-Struct.result.now < size-Term c.args.term.now = rw (c.in-Struct.is, c.as_slice-in-Struct.ensures.items) (size-Struct c.in-Struct.parts) in
-    let less : c.args.depth * weight c.args.self.now.decls.now + (4 * most size-Part c.as_slice-in-Struct.result.now + 2) < t = omega arith in
     let fits : counts_fit (term.Struct c.in-Struct.parts) ≡ true = rw c.in-Struct.is at c.requires.counted in
-    (less, (c.requires.within, rw c.as_slice-in-Struct.ensures.items (fit-parts c.in-Struct.parts fits)))
+    (under _ _ _ _ 2 (omega arith) c.decreases (rw (c.in-Struct.is, c.as_slice-in-Struct.ensures.items) (size-Struct c.in-Struct.parts)), (c.requires.within, rw c.as_slice-in-Struct.ensures.items (fit-parts c.in-Struct.parts fits)))
 
 pub read-read_alt-requires : goal.read-read_alt-requires
 read-read_alt-requires t c =
-    let is : c.args.depth * weight c.args.self.now.decls.now + 4 * size-Term c.args.term.now ≡ t = c.decreases in
-    let smaller : most size-Arm c.as_slice-in-Alt.result.now < size-Term c.args.term.now = rw (c.in-Alt.is, c.as_slice-in-Alt.ensures.items) (size-Alt c.in-Alt.arms) in
-    let less : c.args.depth * weight c.args.self.now.decls.now + (4 * most size-Arm c.as_slice-in-Alt.result.now + 1) < t = omega arith in
     let fits : counts_fit (term.Alt c.in-Alt.arms) ≡ true = rw c.in-Alt.is at c.requires.counted in
-    (less, (c.requires.within, (rw c.as_slice-in-Alt.ensures.items (few-arms c.in-Alt.arms fits), rw c.as_slice-in-Alt.ensures.items (fit-arms c.in-Alt.arms fits))))
+    (under _ _ _ _ 1 (omega arith) c.decreases (rw (c.in-Alt.is, c.as_slice-in-Alt.ensures.items) (size-Alt c.in-Alt.arms)), (c.requires.within, (rw c.as_slice-in-Alt.ensures.items (few-arms c.in-Alt.arms fits), rw c.as_slice-in-Alt.ensures.items (fit-arms c.in-Alt.arms fits))))
 
 pub read-read_switch-requires : goal.read-read_switch-requires
 read-read_switch-requires t c =
-    let is : c.args.depth * weight c.args.self.now.decls.now + 4 * size-Term c.args.term.now ≡ t = c.decreases in
-    let smaller : most size-Case c.as_slice-in-Switch.result.now < size-Term c.args.term.now = rw (c.in-Switch.is, c.as_slice-in-Switch.ensures.items) (size-Switch c.in-Switch.e c.in-Switch.cases) in
-    let less : c.args.depth * weight c.args.self.now.decls.now + (4 * most size-Case c.as_slice-in-Switch.result.now + 1) < t = omega arith in
     let fits : counts_fit (term.Switch c.in-Switch.e c.in-Switch.cases) ≡ true = rw c.in-Switch.is at c.requires.counted in
-    (less, (c.requires.within, (rw c.as_slice-in-Switch.ensures.items (few-cases c.in-Switch.e c.in-Switch.cases fits), rw c.as_slice-in-Switch.ensures.items (fit-cases c.in-Switch.e c.in-Switch.cases fits))))
+    (under _ _ _ _ 1 (omega arith) c.decreases (rw (c.in-Switch.is, c.as_slice-in-Switch.ensures.items) (size-Switch c.in-Switch.e c.in-Switch.cases)), (c.requires.within, (rw c.as_slice-in-Switch.ensures.items (few-cases c.in-Switch.e c.in-Switch.cases fits), rw c.as_slice-in-Switch.ensures.items (fit-cases c.in-Switch.e c.in-Switch.cases fits))))
 
 pub read-read-requires : goal.read-read-requires
 read-read-requires t c =
@@ -73,11 +61,8 @@ read-read-requires t c =
 
 pub read-read_seq-requires : goal.read-read_seq-requires
 read-read_seq-requires t c =
-    let is : c.args.depth * weight c.args.self.now.decls.now + 4 * size-Term c.args.term.now ≡ t = c.decreases in
-    let smaller : size-Seq c.get-in-Seq.result.now < size-Term c.args.term.now = rw (c.in-Seq.is, c.get-in-Seq.ensures.value) (size-of_Seq c.in-Seq.seq) in
-    let less : c.args.depth * weight c.args.self.now.decls.now + (4 * size-Seq c.get-in-Seq.result.now + 3) < t = omega arith in
     let fits : counts_fit (term.Seq c.in-Seq.seq) ≡ true = rw c.in-Seq.is at c.requires.counted in
-    (less, (c.requires.within, (rw c.get-in-Seq.ensures.value (fit-elem c.in-Seq.seq fits), (rw c.get-in-Seq.ensures.value (fit-sep c.in-Seq.seq fits), rw c.get-in-Seq.ensures.value (fit-stop c.in-Seq.seq fits)))))
+    (under _ _ _ _ 3 (omega arith) c.decreases (rw (c.in-Seq.is, c.get-in-Seq.ensures.value) (size-of_Seq c.in-Seq.seq)), (c.requires.within, (rw c.get-in-Seq.ensures.value (fit-elem c.in-Seq.seq fits), (rw c.get-in-Seq.ensures.value (fit-sep c.in-Seq.seq fits), rw c.get-in-Seq.ensures.value (fit-stop c.in-Seq.seq fits)))))
 
 pub read-read-requires-in-Absorb : goal.read-read-requires-in-Absorb
 read-read-requires-in-Absorb t c =
@@ -89,52 +74,8 @@ read-read-requires-in-Absorb t c =
 
 pub read-read_scan-requires : goal.read-read_scan-requires
 read-read_scan-requires t c =
-    let is : c.args.depth * weight c.args.self.now.decls.now + 4 * size-Term c.args.term.now ≡ t = c.decreases in
-    let smaller : size-Term c.get-in-Scan.result.now < size-Term c.args.term.now = rw (c.in-Scan.is, c.get-in-Scan.ensures.value) (size-Scan c.in-Scan.inner) in
-    let less : c.args.depth * weight c.args.self.now.decls.now + (4 * size-Term c.get-in-Scan.result.now + 2) < t = omega arith in
     let fits : counts_fit (term.Scan c.in-Scan.inner) ≡ true = rw c.in-Scan.is at c.requires.counted in
-    (less, (c.requires.within, ap counts_fit c.get-in-Scan.ensures.value ∙ sym (counts-Scan c.in-Scan.inner) ∙ fits))
-
-pub read-returns-in-Unit-clause-value : goal.read-returns-in-Unit-clause-value
-read-returns-in-Unit-clause-value t c = rw (c.in-Unit.is, read-Unit) c.unit.ensures.unit
-
-pub read-returns-in-Base-clause-value : goal.read-returns-in-Base-clause-value
-read-returns-in-Base-clause-value t c = rw (c.in-Base.is, read-Base) c.base.ensures.base
-
-pub read-returns-in-Lit-clause-value : goal.read-returns-in-Lit-clause-value
-read-returns-in-Lit-clause-value t c = rw (c.in-Lit.is, read-Lit, ← c.as_slice.ensures.items) c.literal.ensures.literal
-
-pub read-returns-in-Eor-clause-value : goal.read-returns-in-Eor-clause-value
-read-returns-in-Eor-clause-value t c = rw (c.in-Eor.is, read-Eor) c.end.ensures.end
-
-pub read-returns-in-Struct-clause-value : goal.read-returns-in-Struct-clause-value
-read-returns-in-Struct-clause-value t c = rw (c.in-Struct.is, read-Struct, ← c.as_slice-in-Struct.ensures.items) c.read_struct.ensures.value
-
-pub read-returns-in-Alt-clause-value : goal.read-returns-in-Alt-clause-value
-read-returns-in-Alt-clause-value t c = rw (c.in-Alt.is, read-Alt, ← c.as_slice-in-Alt.ensures.items) c.read_alt.ensures.value
-
-pub read-returns-in-Switch-clause-value : goal.read-returns-in-Switch-clause-value
-read-returns-in-Switch-clause-value t c = rw (c.in-Switch.is, read-Switch, ← c.as_slice-in-Switch.ensures.items) c.read_switch.ensures.value
-
-pub read-returns-in_ok-reading-in-Guard-clause-value : goal.read-returns-in_ok-reading-in-Guard-clause-value
-read-returns-in_ok-reading-in-Guard-clause-value t c =
-    rw (c.in-Guard.is, read-Guard, ← c.get.ensures.value, ← c.in_ok-reading-in-Guard.ensures.value, ← c.in_ok-reading-in-Guard.ensures.env)
-    c.guarded.ensures.guarded
-
-pub read-returns-in-Seq-clause-value : goal.read-returns-in-Seq-clause-value
-read-returns-in-Seq-clause-value t c = rw (c.in-Seq.is, read-Seq, ← c.get-in-Seq.ensures.value) c.read_seq.ensures.value
-
-pub read-returns-in-Call-clause-value : goal.read-returns-in-Call-clause-value
-read-returns-in-Call-clause-value t c = rw (c.in-Call.is, read-Call, ← c.as_slice-in-Call.ensures.items) c.read_call.ensures.value
-
-pub read-returns-in-Compute-clause-value : goal.read-returns-in-Compute-clause-value
-read-returns-in-Compute-clause-value t c = rw (c.in-Compute.is, read-Compute) c.computed.ensures.computed
-
-pub read-returns-in_ok-read-in-Absorb-clause-value : goal.read-returns-in_ok-read-in-Absorb-clause-value
-read-returns-in_ok-read-in-Absorb-clause-value t c = rw (c.in-Absorb.is, read-Absorb, ← c.get-in-Absorb.ensures.value, ← c.in_ok-read-in-Absorb.ensures.value) c.absorbed.ensures.absorbed
-
-pub read-returns-in-Scan-clause-value : goal.read-returns-in-Scan-clause-value
-read-returns-in-Scan-clause-value t c = rw (c.in-Scan.is, read-Scan, ← c.get-in-Scan.ensures.value) c.read_scan.ensures.value
+    (under _ _ _ _ 2 (omega arith) c.decreases (rw (c.in-Scan.is, c.get-in-Scan.ensures.value) (size-Scan c.in-Scan.inner)), (c.requires.within, ap counts_fit c.get-in-Scan.ensures.value ∙ sym (counts-Scan c.in-Scan.inner) ∙ fits))
 
 pub read_call-returns-then-depth-eq0-clause-value : goal.read_call-returns-then-depth-eq0-clause-value
 read_call-returns-then-depth-eq0-clause-value t c = c.fails.ensures.fails ∙ sym (call-deep c.args.self.now.record.origin c.args.self.now.record.bytes.now c.args.self.now.decls.now c.args.number c.args.args.now c.args.env.now.pairs c.args.place c.args.depth c.if-depth-eq0.true)
@@ -205,15 +146,6 @@ read_part-read_scan-requires t c =
     let less : c.args.depth * weight c.args.self.now.decls.now + (4 * size-Term c.get.result.now + 2) < t = omega arith in
     let fits : counts_fit (term.Scan c.in-Scan.inner) ≡ true = rw c.in-Scan.is at c.requires.counted in
     (less, (c.requires.within, ap counts_fit c.get.ensures.value ∙ sym (counts-Scan c.in-Scan.inner) ∙ fits))
-
-pub read_part-returns-in-Base-clause-value : goal.read_part-returns-in-Base-clause-value
-read_part-returns-in-Base-clause-value t c = rw (c.in-Base.is, read-Base) c.base.ensures.base
-
-pub read_part-returns-in-Call-clause-value : goal.read_part-returns-in-Call-clause-value
-read_part-returns-in-Call-clause-value t c = rw (c.in-Call.is, read-Call, ← c.as_slice.ensures.items) c.read_call.ensures.value
-
-pub read_part-returns-in-Scan-clause-value : goal.read_part-returns-in-Scan-clause-value
-read_part-returns-in-Scan-clause-value t c = rw (c.in-Scan.is, read-Scan, ← c.get.ensures.value) c.read_scan.ensures.value
 
 pub read_struct-loop-part-init : goal.read_struct-loop-part-init
 read_struct-loop-part-init t c =
