@@ -15,8 +15,9 @@ use Rattle.pads_ast.specs.declared.types.Branch.{Branch}
 use Rattle.pads_rules.specs.Trees.{listed}
 use Rattle.pads_rules.specs.NameTokens.{names_in_expr, names_in_type, names_in_branch, names_in_part, names_in_array_option, names_in_union, names_in_constraint}
 use Rattle.pads_syntax_expr.specs.Leaves.{mark, word}
+use Rattle.pads_syntax_expr.specs.Expressions.{opened}
 use Rattle.pads_syntax_parts.specs.Types.{literal}
-use Rattle.pads_syntax_parts.specs.Parts.{literal_part, computed_name, computed_part, part, condition, opened, separator, terminator, last_test, array_option, or_none, array_options, spelling, label, labels, refined_names, refinement}
+use Rattle.pads_syntax_parts.specs.Parts.{literal_part, computed_name, computed_part, part, condition, separator, terminator, last_test, array_option, or_none, array_options, spelling, label, labels, refined_names, refinement}
 use Rattle.pads_syntax_decl.specs.Switches.{case_key, case_rule, switch_value, switch}
 use Rattle.pads_well_sorted.specs.WellSorted.{Each, IfThere}
 use Rattle.pads_accepted.specs.Described.{IsSpelled, AreSpelled}

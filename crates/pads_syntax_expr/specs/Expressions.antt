@@ -102,7 +102,7 @@ plain = apply (λ found. expr_form.Number found.0 found.1) number
 abbrev pub paren : Grammar Expr → Grammar Expr
 paren inner = apply (λ both. expr_form.Paren both.0 both.1) ((mark kind.OpenParen & inner) <* mark kind.CloseParen)
 
--- A keyword and the bracket behind it.
+-- A keyword and the bracket behind it, by the place of the keyword.
 abbrev pub opened : Kind → Grammar ℕ
 opened keyword = mark keyword <* mark kind.OpenParen
 

@@ -8,4 +8,4 @@ mod operator;
 
 pub use leaf::{name, number, word};
 pub use level::Level;
-pub use nested::{begins_expr, expr};
+pub use nested::{begins_expr, expr, opened};

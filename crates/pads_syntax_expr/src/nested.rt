@@ -247,7 +247,7 @@ fn body(alloc: Global, cursor: &mut Cursor<'_>, inner: u64) -> Reading<Expr>
 }
 
 /// A keyword and the bracket behind it, by the place of the keyword.
-fn opened(cursor: &mut Cursor<'_>, keyword: Kind) -> Reading<u64>
+pub fn opened(cursor: &mut Cursor<'_>, keyword: Kind) -> Reading<u64>
     ensures reads { Reads (reads (opened keyword) cursor.old) result cursor.new }
 {
     let at = cursor.mark(keyword)?;

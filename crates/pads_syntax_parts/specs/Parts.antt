@@ -5,8 +5,7 @@
 --   option = "Psep" "(" word ")" | "Pterm" "(" literal ")" | "Plast" "(" expr ")"
 --   label  = Name [ "Pfrom" "(" word ")" ]
 --   constraint of a typedef = ":" Name Name "=>" "{" expr "}"
-use Rattle.std.specs.Prelude.{ℕ, Option, Some, None, List, [], ◌∷◌}
-use Rattle.pads_grammar.specs.declared.kind.Kind.{Kind}
+use Rattle.std.specs.Prelude.{Option, Some, None, List, [], ◌∷◌}
 use Rattle.pads_grammar.specs.declared.kind.Kind.TheVariants as kind
 use Rattle.pads_grammar.specs.Grammar.{Grammar, apply, optional, rest_of, ◌&◌, ◌<*◌, ◌*>◌, ◌or◌}
 use Rattle.pads_grammar.specs.Lists.{listed}
@@ -21,6 +20,7 @@ use Rattle.pads_ast.specs.declared.name.Name.{Name}
 use Rattle.pads_ast.specs.declared.name.Word.{Word}
 use Rattle.pads_ast.specs.declared.types.«Type».{«Type»}
 use Rattle.pads_syntax_expr.specs.Leaves.{mark, name, word}
+use Rattle.pads_syntax_expr.specs.Expressions.{opened}
 use Rattle.pads_syntax_parts.specs.Types.{expression, type_use, branch, literal}
 
 abbrev pub literal_part : Grammar Part
@@ -39,10 +39,6 @@ part = literal_part or computed_part or apply part_form.Field branch
 -- What must be true of a whole struct or array.
 unfoldable pub condition : Grammar Expr
 condition = (((mark kind.Pwhere *> mark kind.OpenBrace) *> expression) <* optional (mark kind.Semicolon)) <* mark kind.CloseBrace
-
--- A keyword and the bracket behind it, by the place of the keyword.
-abbrev pub opened : Kind → Grammar ℕ
-opened keyword = mark keyword <* mark kind.OpenParen
 
 abbrev pub separator : Grammar ArrayOption
 separator = apply (λ both. option_form.Psep both.0 both.1) ((opened kind.Psep & word) <* mark kind.CloseParen)

@@ -8,10 +8,10 @@ ghost use Rattle.pads_syntax_parts.specs.Parts.{separator, terminator, last_test
 
 use crate::expressions::expression;
 use crate::literals::literal;
-use crate::marks::{opened, with_mark};
+use crate::marks::with_mark;
 use pads_ast::ArrayOption;
 use pads_grammar::{Cursor, Kind, Reading};
-use pads_syntax_expr::word;
+use pads_syntax_expr::{opened, word};
 use pads_value::Items;
 use std::alloc::Global;
 

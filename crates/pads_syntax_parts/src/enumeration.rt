@@ -4,10 +4,9 @@ ghost use Rattle.pads_grammar.specs.Grammar.{reads, begins, optional};
 ghost use Rattle.pads_grammar.specs.Reads.{Reads};
 ghost use Rattle.pads_syntax_parts.specs.Parts.{spelling, label, labels};
 
-use crate::marks::opened;
 use pads_ast::{Label, Word};
 use pads_grammar::{Cursor, Kind, Reading};
-use pads_syntax_expr::{name, word};
+use pads_syntax_expr::{name, opened, word};
 use pads_value::Items;
 use std::alloc::Global;
 

@@ -3,7 +3,6 @@ ghost use Rattle.pads_grammar.specs.declared.kind.Kind.TheVariants as kind;
 ghost use Rattle.pads_grammar.specs.Grammar.{reads, begins, optional, token, then_read};
 ghost use Rattle.pads_grammar.specs.Reads.{Reads};
 ghost use Rattle.pads_syntax_expr.specs.Leaves.{mark};
-ghost use Rattle.pads_syntax_parts.specs.Parts.{opened};
 
 use pads_grammar::{Cursor, Kind, Reading};
 
@@ -23,13 +22,4 @@ pub fn with_mark<T: Drop>(read: T, cursor: &mut Cursor<'_>, kind: Kind) -> Readi
 {
     let at = cursor.mark(kind)?;
     Ok((read, at))
-}
-
-/// A keyword and the bracket behind it, by the place of the keyword.
-pub fn opened(cursor: &mut Cursor<'_>, keyword: Kind) -> Reading<u64>
-    ensures reads { Reads (reads (opened keyword) cursor.old) result cursor.new }
-{
-    let at = cursor.mark(keyword)?;
-    let _open = cursor.mark(Kind::OpenParen)?;
-    Ok(at)
 }
