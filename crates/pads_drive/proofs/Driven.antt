@@ -3,6 +3,7 @@ use Rattle.std.proofs.Common.{◌≡◌, ℕ, ◌+◌, ◌^◌, ◌<◌, ◌≤�
 use Rattle.std.proofs.lemmas.Bool.{true≢false}
 use Rattle.std.proofs.lemmas.List.{take_min, take-append-le, take_at}
 use Rattle.std.specs.Io.KnownBytes.{Appends, Consumes, IsAtEnd}
+use Rattle.std.proofs.KnownBytes.{Appends-nil}
 use Rattle.pads_io.specs.Transfer.{AppendsPrefix}
 use Rattle.pads_value.specs.Cuts.{Cut}
 use Rattle.pads_frame.specs.Cutting.{cuts}
@@ -115,16 +116,18 @@ module _ (out notes : ℕ → Cut → List ℕ) (clean : ℕ → Cut → Bool) (
       → 0 < length beyond → reach mid.framer ≡ 2 ^ 62 → mid.framer.ended ≡ false → Progresses out notes clean o' o'' n' n'' mid new [] → new.waiting ≡ [] → IsWaiting new.framer
       → new.framer.ended ≡ mid.framer.ended → IfSome left (λ input. DriveGives out notes clean d max input left' o o'' n n'' (Ok ended.TooLong))
   driven-too-long None left' o o' o'' n n' n'' old mid new beyond start r some full still p none waits same = tt
-  driven-too-long (Some input) None o o' o'' n n' n'' old mid new beyond start r some full still p none waits same = absurd r.consumed
-  driven-too-long (Some input) (Some xs) o o' o'' n n' n'' old mid new beyond start r some full still p none waits same =
+  driven-too-long (Some input) left' o o' o'' n n' n'' old mid new beyond start r some full still p none waits same =
       let whole = subst (Progresses out notes clean o o'' n n'' old new) (append-nil r.bytes) (progresses-trans out notes clean o o' o'' n n' n'' old mid new r.bytes [] r.progress p) in
       let is_open : new.framer.ended ≡ false = same ∙ still in
       let waits_now : rest false new.framer [] ≡ [] = ap (λ e. rest e new.framer []) (sym is_open) ∙ waits.none in
       let count : length r.bytes ≡ 2 ^ 62 = omega (arith, r.progress.reaches, start.reaches, full) in
-      let input_is : input ≡ r.bytes ++ (beyond ++ xs) = r.consumed ∙ append_assoc r.bytes beyond xs in
-      let front : take (2 ^ 62) input ≡ r.bytes = ap (take (2 ^ 62)) input_is ∙ take_at r.bytes (beyond ++ xs) (2 ^ 62) count in
-      let long : length input ≡ length r.bytes + (length beyond + length xs) = ap length input_is ∙ length-append r.bytes (beyond ++ xs) ∙ ap (λ k. length r.bytes + k) (length-append beyond xs) in
-      (omega (arith, long, count, some), rw front (grows-all o o'' n n'' old new r.bytes false start whole none waits_now is_open))
+      let front : take (2 ^ 62) (r.bytes ++ beyond) ≡ r.bytes = take_at r.bytes beyond (2 ^ 62) count in
+      let long : length (r.bytes ++ beyond) ≡ length r.bytes + length beyond = length-append r.bytes beyond in (
+        r.bytes ++ beyond,
+        r.consumed,
+        omega (arith, long, count, some),
+        rw front (grows-all o o'' n n'' old new r.bytes false start whole none waits_now is_open),
+      )
 
   stops-input : (o o' n n' : Option (List ℕ)) (old : Moment) (bytes more input : List ℕ) (F : Bool → List ℕ → Type 0) → Starts d max old → Stops out notes clean o o' n n' old bytes F
       → F true more → input ≡ bytes ++ more → GrowsPrefix o o' n n' (output_of out notes clean 0 (cuts d max true 0 0 input))
@@ -139,7 +142,8 @@ module _ (out notes : ℕ → Cut → List ℕ) (clean : ℕ → Cut → Bool) (
       → IfSome left (λ input. DriveGives out notes clean d max input left' o o' n n' (Err stop))
   driven-stopped None left' o o' n n' old stop start s = tt
   driven-stopped (Some input) None o o' n n' old stop start s = absurd s.consumed
-  driven-stopped (Some input) (Some xs) o o' n n' old stop start s = stops-input o o' n n' old s.bytes xs input Anything start s.stops tt s.consumed
+  driven-stopped (Some input) (Some xs) o o' n n' old stop start s =
+      (s.bytes, s.consumed, stops-input o o' n n' old s.bytes xs input Anything start s.stops tt s.consumed)
 
   reads-then-stops : (input xs beyond : List ℕ) (o o' o'' n n' n'' : Option (List ℕ)) (old mid : Moment) → Starts d max old → Reads out notes clean (Some input) (Some xs) o o' n n' old mid beyond
       → Stops out notes clean o' o'' n' n'' mid [] (MayCome mid.framer) → MayCome mid.framer true (beyond ++ xs) → GrowsPrefix o o'' n n'' (output_of out notes clean 0 (cuts d max true 0 0 input))
@@ -158,8 +162,13 @@ module _ (out notes : ℕ → Cut → List ℕ) (clean : ℕ → Cut → Bool) (
   driven-finish-stopped (Some input) None o o' o'' n n' n'' f f' old mid refill.ReadFault stop start r s = absurd r.0.consumed
   driven-finish-stopped (Some input) None o o' o'' n n' n'' f f' old mid refill.TooLong stop start r s = absurd r.1.consumed
   driven-finish-stopped (Some input) (Some xs) o o' o'' n n' n'' f f' old mid refill.End stop start r s =
-      reads-then-stops input xs [] o o' o'' n n' n'' old mid start r.0 s (λ e. (refl, r.1))
+      (r.0.bytes ++ [], r.0.consumed, reads-then-stops input xs [] o o' o'' n n' n'' old mid start r.0 s (λ e. (refl, r.1)))
   driven-finish-stopped (Some input) (Some xs) o o' o'' n n' n'' f f' old mid refill.ReadFault stop start r s =
-      reads-then-stops input xs [] o o' o'' n n' n'' old mid start r.0 s (λ e. absurd (true≢false (sym e ∙ r.2)))
+      (r.0.bytes ++ [], r.0.consumed, reads-then-stops input xs [] o o' o'' n n' n'' old mid start r.0 s (λ e. absurd (true≢false (sym e ∙ r.2))))
   driven-finish-stopped (Some input) (Some xs) o o' o'' n n' n'' f f' old mid refill.TooLong stop start r s =
-      reads-then-stops input xs r.0 o o' o'' n n' n'' old mid start r.1 s (λ e. absurd (true≢false (sym e ∙ r.4)))
+      (r.1.bytes ++ r.0, r.1.consumed, reads-then-stops input xs r.0 o o' o'' n n' n'' old mid start r.1 s (λ e. absurd (true≢false (sym e ∙ r.4))))
+
+  -- there was no memory to begin
+  pub driven-nothing : (left o n : Option (List ℕ)) (stop : Stop) → IfSome left (λ input. DriveGives out notes clean d max input left o o n n (Err stop))
+  driven-nothing None o n stop = tt
+  driven-nothing (Some input) o n stop = ([], refl, record { out_grows = (0, Appends-nil o); notes_grow = (0, Appends-nil n) })

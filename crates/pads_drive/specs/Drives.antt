@@ -19,8 +19,10 @@ module _ (out notes : ℕ → Cut → List ℕ) (clean : ℕ → Cut → Bool) (
   -- the output for the records that the bytes read complete
   DriveGives input left' o o' n n' (Ok ended.ReadFault) =
       (bytes : List ℕ) × Consumes (Some input) left' bytes × Grows o o' n n' (output_of out notes clean 0 (closed discipline max bytes))
-  -- the same, over the bytes before the one whose offset is 2^62
+  -- the same, over the first 2^62 of the bytes read, of which there are more
   DriveGives input left' o o' n n' (Ok ended.TooLong) =
-      (2 ^ 62 < length input) × Grows o o' n n' (output_of out notes clean 0 (closed discipline max (take (2 ^ 62) input)))
-  -- a prefix of the output for all records
-  DriveGives input left' o o' n n' (Err stop) = GrowsPrefix o o' n n' (output_of out notes clean 0 (records discipline max input))
+      (bytes : List ℕ) × Consumes (Some input) left' bytes × (2 ^ 62 < length bytes)
+      × Grows o o' n n' (output_of out notes clean 0 (closed discipline max (take (2 ^ 62) bytes)))
+  -- some bytes were read, and a prefix of the output for all records was written
+  DriveGives input left' o o' n n' (Err stop) =
+      (bytes : List ℕ) × Consumes (Some input) left' bytes × GrowsPrefix o o' n n' (output_of out notes clean 0 (records discipline max input))

@@ -32,10 +32,10 @@ module _ (d : Description) (left left' o o' n n' : Option (List ℕ)) (source so
   lines-give (Ok (ended.Finished true)) h near read cause = if-known _ _ left (λ input p. (p.0.out_grows, sym p.1, p.2, p.3)) h
   lines-give (Ok (ended.Finished false)) h near read cause = if-known _ _ left (λ input p. (p.0.out_grows, sym p.1, p.2, p.3)) h
   lines-give (Ok ended.ReadFault) h near read cause = (read refl, if-known _ _ left (λ input p. (p.0, p.1, p.2.out_grows)) h)
-  lines-give (Ok ended.TooLong) h near read cause = if-known _ _ left (λ input p. (p.0, p.1.out_grows)) h
-  lines-give (Err stop.Out) h near read cause = (cause.out_failed refl, if-both _ _ _ left (λ input p q. (p.out_grows, q)) h (near refl))
+  lines-give (Ok ended.TooLong) h near read cause = if-known _ _ left (λ input p. (p.0, p.1, p.2, p.3.out_grows)) h
+  lines-give (Err stop.Out) h near read cause = (cause.out_failed refl, if-both _ _ _ left (λ input p q. ((p.0, p.1, p.2.out_grows), q)) h (near refl))
   lines-give (Err stop.Notes) h near read cause = absurd (cause.notes_wanted (λ number cut. refl) refl)
-  lines-give (Err stop.Memory) h near read cause = if-known _ _ left (λ input p. p.out_grows) h
+  lines-give (Err stop.Memory) h near read cause = if-known _ _ left (λ input p. (p.0, p.1, p.2.out_grows)) h
 
 -- a failure of `out` is told
 pub out-kept : (out out' notes notes' : ℕ) (Nothing : Type 0) (r : Result Ended Stop) → HasSinkCause out out' notes notes' Nothing r → (ending_of r ≢ ending.WriteFault) → out' ≡ out
@@ -70,14 +70,14 @@ parse-read content coding cutting left left' o o' files files' source source' ou
 parse-read content coding cutting left left' o o' files files' source source' out out' made ending.FileFault h p = absurd p
 
 -- There is no description.
-pub parse-stopped : (content : Option (List ℕ)) (coding : Coding) (cutting : Cutting) (left left' o : Option (List ℕ)) (files files' source source' out out' : ℕ) (e : Ending)
-    → StopsBefore (IsRefusedIn content) files files' e → ParseGives content coding cutting left left' o o files files' source source' out out' e
-parse-stopped content coding cutting left left' o files files' source source' out out' (ending.Refused verdict) h = (h, refl)
-parse-stopped content coding cutting left left' o files files' source source' out out' ending.FileFault h = (h, refl)
-parse-stopped content coding cutting left left' o files files' source source' out out' ending.Memory h = inl refl
-parse-stopped content coding cutting left left' o files files' source source' out out' ending.Done h = absurd h
-parse-stopped content coding cutting left left' o files files' source source' out out' ending.Dirty h = absurd h
-parse-stopped content coding cutting left left' o files files' source source' out out' ending.Usage h = absurd h
-parse-stopped content coding cutting left left' o files files' source source' out out' ending.ReadFault h = absurd h
-parse-stopped content coding cutting left left' o files files' source source' out out' ending.WriteFault h = absurd h
-parse-stopped content coding cutting left left' o files files' source source' out out' ending.TooLong h = absurd h
+pub parse-stopped : (content : Option (List ℕ)) (coding : Coding) (cutting : Cutting) (left o : Option (List ℕ)) (files files' source source' out out' : ℕ) (e : Ending)
+    → StopsBefore (IsRefusedIn content) files files' e → ParseGives content coding cutting left left o o files files' source source' out out' e
+parse-stopped content coding cutting left o files files' source source' out out' (ending.Refused verdict) h = (h, refl)
+parse-stopped content coding cutting left o files files' source source' out out' ending.FileFault h = (h, refl)
+parse-stopped content coding cutting left o files files' source source' out out' ending.Memory h = inl (refl, refl)
+parse-stopped content coding cutting left o files files' source source' out out' ending.Done h = absurd h
+parse-stopped content coding cutting left o files files' source source' out out' ending.Dirty h = absurd h
+parse-stopped content coding cutting left o files files' source source' out out' ending.Usage h = absurd h
+parse-stopped content coding cutting left o files files' source source' out out' ending.ReadFault h = absurd h
+parse-stopped content coding cutting left o files files' source source' out out' ending.WriteFault h = absurd h
+parse-stopped content coding cutting left o files files' source source' out out' ending.TooLong h = absurd h

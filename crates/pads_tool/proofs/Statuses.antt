@@ -1,5 +1,6 @@
 -- From what an order gives to what a run says of its status.
-use Rattle.std.proofs.Common.{◌≡◌, ◌≢◌, ◌↔◌, ◌∙◌, inl, inr, sym, subst, refl, ℕ, true, false, List, Option, None, Some, IfSome, arith}
+use Rattle.std.proofs.Common.{◌≡◌, ◌≢◌, ◌↔◌, ◌∙◌, ◌+◌, ◌≤◌, inl, inr, ap, sym, subst, refl, ℕ, true, false, List, length, length-append, Option, None, Some, IfSome, arith}
+use Rattle.std.specs.Io.KnownBytes.{Consumes}
 use Rattle.pads_describe.proofs.AnswerLaws.{not_both}
 use Rattle.pads_describe.specs.Verdicts.{IsRefused}
 use Rattle.pads_io.specs.Faults.{Rose}
@@ -57,7 +58,7 @@ module _ (words : List (List ℕ)) (content : List ℕ → Option (List ℕ)) (l
   by-order (order.Check name coding) ending.FileFault is p = (none-some _ _ is, p.0, p.1)
   by-order (order.Check name coding) ending.ReadFault is p = absurd p
   by-order (order.Check name coding) ending.WriteFault is p = (p.0, (order.Check name coding, is, p.1), (order.Check name coding, is, tt))
-  by-order (order.Check name coding) ending.Memory is p = (order.Check name coding, is, inl p)
+  by-order (order.Check name coding) ending.Memory is p = (order.Check name coding, is, p)
   by-order (order.Check name coding) ending.TooLong is p = absurd p
   by-order (order.Parse name coding cutting) ending.Done is p = (order.Parse name coding cutting, is, p)
   by-order (order.Parse name coding cutting) ending.Dirty is p = (order.Parse name coding cutting, is, p)
@@ -118,11 +119,15 @@ module _ (words : List (List ℕ)) (content : List ℕ → Option (List ℕ)) (l
   not-refused (order.Check name coding) v f p = not_both f.0 f.1 v f.3 (known-at (λ text. IsRefused text v) (content name) f.0 f.2 p.0)
   not-refused (order.Parse name coding cutting) v f p = not_both f.0 f.1 v f.4 (known-at (λ text. IsRefused text v) (content name) f.0 f.3 p.0)
 
+  within : (input : List ℕ) (left' : Option (List ℕ)) (bytes : List ℕ) → Consumes (Some input) left' bytes → length bytes ≤ length input
+  within input None bytes c = absurd c
+  within input (Some xs) bytes c = let whole : length input ≡ length bytes + length xs = ap length c ∙ length-append bytes xs in omega (arith, whole)
+
   not-too-long : (asked : Order) → CanFinish content left asked → Gives asked ending.TooLong → ⊥
   not-too-long (order.Check name coding) f p = p
   not-too-long (order.Parse name coding cutting) f p =
       let long = known-at (WroteMost left' o o' (described p.0 cutting)) left f.2 f.5 p.2 in
-      omega (arith, f.6, long.0)
+      omega (arith, f.6, long.2, within f.2 left' long.0 long.1)
 
   fair-order : IsFair words content left files files' source source' out out' → (asked : Order) (e : Ending) → CanFinish content left asked → Gives asked e
       → order_of words ≡ Some asked → EndsOrWantsMemory (status_of e)
@@ -170,12 +175,6 @@ module _ (words : List (List ℕ)) (content : List ℕ → Option (List ℕ)) (l
   reason ending.WriteFault h = tt
   reason ending.Memory h = tt
   reason ending.TooLong h = tt
-
--- An order that was given up for want of memory before anything was done.
-pub wants-memory : (content : List ℕ → Option (List ℕ)) (left left' o : Option (List ℕ)) (files files' source source' out out' : ℕ) (asked : Order)
-    → OrderGives content left left' o o files files' source source' out out' asked ending.Memory
-wants-memory content left left' o files files' source source' out out' (order.Check name coding) = refl
-wants-memory content left left' o files files' source source' out out' (order.Parse name coding cutting) = inl refl
 
 -- An order that was done.
 pub obeyed : (words : List (List ℕ)) (content : List ℕ → Option (List ℕ)) (left left' o o' : Option (List ℕ)) (files files' source source' out out' : ℕ) (asked : Order) (e : Ending)

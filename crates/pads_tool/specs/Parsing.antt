@@ -28,13 +28,13 @@ module _ (left' o o' : Option (List ℕ)) where
   abbrev pub WroteComplete : Description → List ℕ → Type 0
   WroteComplete d input = (bytes : List ℕ) × Consumes (Some input) left' bytes × Appends o o' (lines_for d (complete_frames_of d bytes))
 
-  -- a line for each record that the first 2^62 bytes of a longer input complete
+  -- a line for each record that the first 2^62 of the bytes read complete, of which there are more
   abbrev pub WroteMost : Description → List ℕ → Type 0
-  WroteMost d input = (2 ^ 62 < length input) × Appends o o' (lines_for d (complete_frames_of d (take (2 ^ 62) input)))
+  WroteMost d input = (bytes : List ℕ) × Consumes (Some input) left' bytes × (2 ^ 62 < length bytes) × Appends o o' (lines_for d (complete_frames_of d (take (2 ^ 62) bytes)))
 
-  -- a prefix of the lines for all records
+  -- a prefix of the lines for all records, of which some bytes were read
   abbrev pub WrotePrefix : Description → List ℕ → Type 0
-  WrotePrefix d input = AppendsPrefix o o' (lines_for d (frames_of d input))
+  WrotePrefix d input = (bytes : List ℕ) × Consumes (Some input) left' bytes × AppendsPrefix o o' (lines_for d (frames_of d input))
 
   -- and where no frame is too long or broken, little more was read than was written for
   abbrev pub ReadLittleAhead : Description → List ℕ → Type 0
@@ -83,5 +83,5 @@ module _ (content : Option (List ℕ)) (coding : Coding) (cutting : Cutting) (le
     ParseGives ending.ReadFault = Rose source source' × Reads (WroteComplete left' o o')
     ParseGives ending.WriteFault = Rose out out' × Reads (WroteSome left' o o')
     ParseGives ending.TooLong = Reads (WroteMost left' o o')
-    ParseGives ending.Memory = (o' ≡ o) ⊎ Reads (WrotePrefix left' o o')
+    ParseGives ending.Memory = ((o' ≡ o) × (left' ≡ left)) ⊎ Reads (WrotePrefix left' o o')
     ParseGives ending.Usage = ⊥

@@ -54,9 +54,10 @@ module _ (content : List ℕ → Option (List ℕ)) (left left' o o' : Option (L
   StaysNear (order.Check name coding) = Unit {0}
   StaysNear (order.Parse name coding cutting) = Reads (content name) coding cutting left (ReadLittleAhead left' o o')
 
-  -- Nothing was written, or a prefix.
+  -- Nothing was written. Or, under `parse`, records were read, and a prefix was written.
   abbrev pub StopsEarly : Order → Type 0
-  StopsEarly asked = (o' ≡ o) ⊎ StopsWriting asked
+  StopsEarly (order.Check name coding) = o' ≡ o
+  StopsEarly (order.Parse name coding cutting) = ((o' ≡ o) × (left' ≡ left)) ⊎ StopsWriting (order.Parse name coding cutting)
 
   -- The order by the ending, with the counts of failures of files, source and `out`.
   abbrev pub OrderGives : (files files' source source' out out' : ℕ) → Order → Ending → Type 0

@@ -1,9 +1,13 @@
 use Rattle.std.proofs.Common.{refl, ap, map, Err}
 use Rattle.pads_value.specs.Cuts.{cut_of_kept}
 use Rattle.pads_frame.specs.State.{reach}
-use Rattle.pads_drive.proofs.Driven.{starts, driven-finished, driven-fault, driven-too-long, driven-stopped, driven-finish-stopped}
+use Rattle.pads_drive.specs.declared.stop.Stop.TheVariants as stop
+use Rattle.pads_drive.proofs.Driven.{starts, driven-finished, driven-fault, driven-too-long, driven-nothing, driven-stopped, driven-finish-stopped}
 use Rattle.pads_drive.proofs.Halting.{ahead-finishing, ahead-reading, fresh, same_stop}
 use Rattle.pads_drive.proofs.input.drive.Goals as goal
+
+pub returns-in_default-clause-gives : goal.returns-in_default-clause-gives
+returns-in_default-clause-gives g c = driven-nothing _ _ _ _ _ _ _ _ stop.Memory
 
 pub returns-in-Err-clause-gives : goal.returns-in-Err-clause-gives
 returns-in-Err-clause-gives g c =

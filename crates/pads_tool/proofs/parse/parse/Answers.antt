@@ -21,7 +21,7 @@ returns-in-Ok g c = record {
 
 pub returns-in-Err : goal.returns-in-Err
 returns-in-Err g c = record {
-  gives = parse-stopped _ _ _ _ _ _ _ _ _ _ _ _ c.in-Err.ending c.in-Err.ensures.stops;
+  gives = parse-stopped _ _ _ _ _ _ _ _ _ _ _ c.in-Err.ending c.in-Err.ensures.stops;
   untouched = λ before. refl;
   files_kept = c.in-Err.ensures.untold;
   out_kept = λ other. refl;
