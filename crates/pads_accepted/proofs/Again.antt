@@ -3,7 +3,6 @@ use Rattle.std.proofs.Common.{◌≡◌, ◌∙◌, sym, ap, refl, subst, arith,
 use Rattle.std.specs.List.{list_any}
 use Rattle.std.proofs.lemmas.List.{length-map, map-append}
 use Rattle.std.proofs.lemmas.List.Folds.{list_any-append}
-use lib.Pointwise.{bytes_decides}
 use Rattle.pads_ast.specs.declared.decl.Label.{Label as WrittenLabel}
 use Rattle.pads_ast.specs.declared.name.Name.{Name}
 use Rattle.pads_ast.specs.declared.name.Word.{Word}
@@ -17,10 +16,11 @@ use Rattle.pads_rules.specs.NameTokens.{Names as Texts, with_name, with_names}
 use Rattle.pads_rules.specs.Texts.{same_text, is_among}
 use Rattle.pads_rules.specs.Trees.{points_of}
 use Rattle.pads_rules.specs.declared.fault.CheckFault.{CheckFault}
+use Rattle.pads_rules.proofs.SameTexts.{is-same}
 use Rattle.pads_trans.specs.Terms as trans
 use Rattle.pads_trans.specs.Terms.{label_of}
 use Rattle.pads_well_sorted.proofs.Lists.{mapped-there}
-use Rattle.pads_accepted.proofs.Faultless.{none-left, none-right, not-when}
+use Rattle.pads_rules.proofs.Faultless.{none-left, none-right, not-when}
 use Rattle.pads_accepted.proofs.Types.{or-false}
 
 module _ {A : Type 0} (same : A → A → Bool) (fault : A → CheckFault) where
@@ -54,12 +54,8 @@ spelled-is : (l : WrittenLabel) → (label_of (made_label l)).spelling ≡ (spel
 unfolding made_label
 spelled-is l = spelled-by l.name l.spelling
 
-equal-text : (a b : List ℕ) → a ≡ b → same_text a b ≡ true
-unfolding same_text
-equal-text a b is = (bytes_decides a b).1 is
-
 never-same : (a b : WrittenLabel) → same_spelling a b ≡ false → (spelling_of a).0 ≡ (spelling_of b).0 → ⊥
-never-same a b h is = let e = sym (equal-text (spelling_of a).0 (spelling_of b).0 is) ∙ h in cc
+never-same a b h is = let e = sym (is-same (spelling_of a).0 (spelling_of b).0 is) ∙ h in cc
 
 pub spellings-differ : (labels : List WrittenLabel) (fault : WrittenLabel → CheckFault) → again same_spelling fault [] labels ≡ [] → SpellingsDiffer (map label_of (map made_label labels))
 spellings-differ labels fault free j k one other there also same =

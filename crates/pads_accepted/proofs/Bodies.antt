@@ -16,6 +16,7 @@ use Rattle.pads_resolution.specs.declared.visible.Known.{Known}
 use Rattle.pads_resolution.specs.Bodies.{option_at, branch_at, part_at, parts_at}
 use Rattle.pads_resolution.specs.Scopes.{Scope as Names, variable, names_after}
 use Rattle.pads_resolution.specs.Types.{computed_of, type_at}
+use Rattle.pads_resolution.specs.JudgedNames.{judging_scope}
 use Rattle.pads_rules.specs.Judging.{Scope as Judging, judged}
 use Rattle.pads_rules.specs.NameTokens.{names_in_expr, names_in_option, names_in_type, names_in_branch, names_in_part}
 use Rattle.pads_rules.specs.Pieces.{Site, Piece, Used, Computed, conditions, part_pieces, parts_pieces, names_after as rule_names_after, texts_of_parts, branch_pieces}
@@ -31,7 +32,7 @@ use Rattle.pads_well_sorted.specs.Expressions.{Scope}
 use Rattle.pads_well_sorted.specs.Sorts as sorts_of
 use Rattle.pads_well_sorted.specs.WellSorted.{Each, IfThere, IsTruth, IsBranch, AreParts}
 use Rattle.pads_well_sorted.proofs.Lists.{each-left, each-right}
-use Rattle.pads_accepted.specs.Described.{judging_scope, IsSpelled, AreSpelled, IsProper, Sees}
+use Rattle.pads_accepted.specs.Described.{IsSpelled, AreSpelled, IsProper, Sees}
 use Rattle.pads_accepted.proofs.DescribedTypes.{used-sort, used-proper, computed-sort, computed-proper}
 use Rattle.pads_accepted.proofs.Environment.{site_of}
 use Rattle.pads_accepted.proofs.Free.{FreePiece}

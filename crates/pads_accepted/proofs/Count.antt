@@ -3,7 +3,8 @@ use Rattle.std.proofs.Common.{◌≡◌, ◌∙◌, sym, ap, refl, subst, arith,
 use Rattle.std.specs.List.{enumerate_from, position_or_len}
 use Rattle.std.proofs.lemmas.List.{take_all}
 use Rattle.std.proofs.lemmas.List.Folds.{list_any-append}
-use lib.Pointwise.{pointwise, bytes_decides}
+use Rattle.std.proofs.lemmas.Bool.{or_left, or_right}
+use lib.Pointwise.{pointwise}
 use Rattle.pads_ast.specs.declared.decl.Ast.{Ast}
 use Rattle.pads_ast.specs.declared.decl.Decl.{Decl as WrittenDecl}
 use Rattle.pads_resolution.specs.Resolution.{decl_at, resolved}
@@ -18,32 +19,23 @@ use Rattle.pads_rules.specs.Violations.{violations}
 use Rattle.pads_trans_expr.specs.Met.{in_decl, names_of}
 use Rattle.pads_trans_expr.specs.Names.{Name, at_sign, some_name, none_name, names_at, with_name, with_names}
 use Rattle.pads_well_sorted.specs.WellSorted.{Each}
-use Rattle.pads_well_sorted.proofs.Lists.{each-left, each-right, each-weaker, either-true}
-use Rattle.pads_well_sorted.proofs.Names.{is_among, first-there}
+use Rattle.pads_well_sorted.proofs.Lists.{each-left, each-right, each-weaker}
+use Rattle.pads_well_sorted.proofs.Names.{is_among, first-there, same-name, own-name}
 use Rattle.pads_accepted.proofs.Environment.{site_of}
-use Rattle.pads_accepted.proofs.Faultless.{not-when}
+use Rattle.pads_rules.proofs.Faultless.{not-when}
 use Rattle.pads_accepted.proofs.Given.{each-both, decl-given}
 use Rattle.pads_accepted.proofs.Lists.{get-there}
 use Rattle.pads_accepted.proofs.Source.{some-decl}
 use Rattle.pads_accepted.proofs.Types.{or-false, free as free-site}
 
-left-true : (a b : Bool) → a ≡ true → (a || b) ≡ true
-left-true a b h = ap (λ a. a || b) h
-
-same-name : (a b : Name) → pointwise nat_eq a b ≡ true → a ≡ b
-same-name a b is = (bytes_decides a b).0 is
-
-own-name : (name : Name) → pointwise nat_eq name name ≡ true
-own-name name = (bytes_decides name name).1 refl
-
 kept-last : (names : List Name) (name other : Name) → is_among names other ≡ true → is_among (names ++ name ∷ []) other ≡ true
 kept-last names name other among =
-    list_any-append (pointwise nat_eq other) names (name ∷ []) ∙ left-true (is_among names other) (is_among (name ∷ []) other) among
+    list_any-append (pointwise nat_eq other) names (name ∷ []) ∙ or_left (is_among names other) (is_among (name ∷ []) other) among
 
 there-last : (names : List Name) (name other : Name) → pointwise nat_eq other name ≡ true → is_among (names ++ name ∷ []) other ≡ true
 there-last names name other is =
     list_any-append (pointwise nat_eq other) names (name ∷ [])
-    ∙ either-true (is_among names other) (is_among (name ∷ []) other) (ap (λ b. b || false) is)
+    ∙ or_right (is_among names other) (is_among (name ∷ []) other) (ap (λ b. b || false) is)
 
 -- some names but for one
 without : Name → List Name → List Name
@@ -91,13 +83,13 @@ moved : (names : List Name) (x : Name) (bound : List Name) (name : Name) → Wit
 moved names x bound name within = by (pointwise nat_eq name x) refl
   where
     other : (b : Bool) → is_among names name ≡ b → pointwise nat_eq name x ≡ false → Within (names ++ x ∷ []) (without x bound) name
-    other true met differ = left-true (is_among (names ++ x ∷ []) name) (is_among (without x bound) name) (kept-last names x name met)
+    other true met differ = or_left (is_among (names ++ x ∷ []) name) (is_among (without x bound) name) (kept-last names x name met)
     other false met differ =
         let among : is_among bound name ≡ true = sym (ap (λ b. b || is_among bound name) met) ∙ within in
-        either-true (is_among (names ++ x ∷ []) name) (is_among (without x bound) name) (still-there x name differ bound among)
+        or_right (is_among (names ++ x ∷ []) name) (is_among (without x bound) name) (still-there x name differ bound among)
 
     by : (b : Bool) → pointwise nat_eq name x ≡ b → Within (names ++ x ∷ []) (without x bound) name
-    by true is = left-true (is_among (names ++ x ∷ []) name) (is_among (without x bound) name) (there-last names x name is)
+    by true is = or_left (is_among (names ++ x ∷ []) name) (is_among (without x bound) name) (there-last names x name is)
     by false is = other (is_among names name) refl is
 
 -- there are no more different names than those that may be met
@@ -149,7 +141,7 @@ module _ (found : List Name) where
 
   bound-found : (name : Name) → is_among found name ≡ true → IsBound name
   bound-found name among =
-      either-true (pointwise nat_eq name at_sign) _ (either-true (pointwise nat_eq name some_name) _ (either-true (pointwise nat_eq name none_name) (is_among found name) among))
+      or_right (pointwise nat_eq name at_sign) _ (or_right (pointwise nat_eq name some_name) _ (or_right (pointwise nat_eq name none_name) (is_among found name) among))
 
   sites-given : (decls xs : List WrittenDecl) (from : ℕ) → Each IsBound (flat_map (λ (d : WrittenDecl). names_in_decl d.body) xs)
       → Each IsBound (flat_map in_decl (map decl_at (map (λ (numbered : ℕ × WrittenDecl). site_of decls numbered.0 numbered.1) (enumerate_from from xs))))

@@ -1,6 +1,7 @@
 -- The bodies of the declarations that a description without violations resolves to.
 use Rattle.std.proofs.Common.{◌≡◌, ◌∙◌, sym, ap, refl, subst, arith, inl, inr, ℕ, ◌+◌, ◌≤◌, Bool, true, false, not, ◌||◌, nat_le, List, [], ◌∷◌, ◌++◌, map, flat_map, length, take, Option, Some, None, option_map, slice_get, le-leb}
 use Rattle.std.proofs.lemmas.List.{length-map}
+use Rattle.std.proofs.lemmas.Bool.{not-false}
 use Rattle.pads_ast.specs.declared.decl.Array.{Array as WrittenArray}
 use Rattle.pads_ast.specs.declared.decl.ArrayOption.{ArrayOption as WrittenOption}
 use Rattle.pads_ast.specs.declared.decl.ArrayOption.TheVariants as written_option
@@ -26,6 +27,7 @@ use Rattle.pads_resolution.specs.declared.visible.Stands.TheVariants as stands
 use Rattle.pads_resolution.specs.Bodies.{expr_at, option_at, branch_at, case_at, switch_at, union_at, array_option_at, array_at, constraint_at, typedef_at}
 use Rattle.pads_resolution.specs.Scopes.{Scope as Names, hiding, array_scope}
 use Rattle.pads_resolution.specs.Types.{const_of, type_at}
+use Rattle.pads_resolution.specs.JudgedNames.{as_named, judging_scope}
 use Rattle.pads_rules.specs.DeclRules.{part_count}
 use Rattle.pads_rules.specs.Faults.{breaks, when, each}
 use Rattle.pads_rules.specs.Judging.{Scope as Judging, judged}
@@ -46,12 +48,12 @@ use Rattle.pads_well_sorted.specs.Expressions.{Scope, sort_in, union_branches}
 use Rattle.pads_well_sorted.specs.Sorts as sorts_of
 use Rattle.pads_well_sorted.specs.WellSorted.{Each, IfThere, IsTruth, IsNumber, IsNumberKey, IsTextKey, IsBranch, Chooses, IsChosen, IsUnion, IsOption, IsArray, IsTypedef}
 use Rattle.pads_well_sorted.proofs.Lists.{each-left, each-right}
-use Rattle.pads_accepted.specs.Described.{as_named, judging_scope, IsSpelled, AreSpelled, IsProper}
+use Rattle.pads_accepted.specs.Described.{IsSpelled, AreSpelled, IsProper}
 use Rattle.pads_accepted.proofs.Bodies.{condition-typed, type-known, used-here, branches-typed}
 use Rattle.pads_accepted.proofs.Described.{described, branches-are, branch-pieces}
 use Rattle.pads_accepted.proofs.DescribedTypes.{few-parts}
 use Rattle.pads_accepted.proofs.Environment.{site_of}
-use Rattle.pads_accepted.proofs.Faultless.{none-left, none-right, not-when, is-not-false}
+use Rattle.pads_rules.proofs.Faultless.{none-left, none-right, not-when}
 use Rattle.pads_accepted.proofs.Forms.{num-form}
 use Rattle.pads_accepted.proofs.Free.{FreePiece}
 use Rattle.pads_accepted.proofs.Lists.{each-none}
@@ -160,7 +162,7 @@ module _ (tree : Ast) (none : violations tree ≡ []) (n : ℕ) (d : WrittenDecl
   Agreed sort c = when (not (agree sort (const_sort c))) (breaks 12 (const_place c)) ≡ []
 
   agreed : (sort : ExprSort) (c : WrittenConst) → Agreed sort c → agree sort (const_sort c) ≡ true
-  agreed sort c h = is-not-false (agree sort (const_sort c)) (not-when (not (agree sort (const_sort c))) (breaks 12 (const_place c)) h)
+  agreed sort c h = not-false (agree sort (const_sort c)) (not-when (not (agree sort (const_sort c))) (breaks 12 (const_place c)) h)
 
   number-keys : (cases : List WrittenCase) (sort : ExprSort) → sort ≡ rules.num → Each (Agreed sort) (map (λ (c : WrittenCase). c.key) cases) → Each (λ case. IsNumberKey case.key) (map (case_at site names) cases)
   unfolding case_at
@@ -180,7 +182,7 @@ module _ (tree : Ast) (none : violations tree ≡ []) (n : ℕ) (d : WrittenDecl
       let j = judged (env tree none) s.value (judging_scope names []) in
       let wrong = when (not (accepts is_num_or_text j.sort)) (breaks 12 j.first) in
       let others = each (λ constant. when (not (agree j.sort (const_sort constant))) (breaks 12 (const_place constant))) keys in
-      let taken = is-not-false (accepts is_num_or_text j.sort) (not-when (not (accepts is_num_or_text j.sort)) (breaks 12 j.first) (none-left wrong others piece.cases)) in
+      let taken = not-false (accepts is_num_or_text j.sort) (not-when (not (accepts is_num_or_text j.sort)) (breaks 12 j.first) (none-left wrong others piece.cases)) in
       let all = each-none (λ constant. when (not (agree j.sort (const_sort constant))) (breaks 12 (const_place constant))) keys (none-right wrong others piece.cases) in
       let x = expr-typed tree none n d s.value names [] w state.sees spelled piece.expressions in
       let k = known-operand tree.decls (env tree none) (made tree none) (sorts tree none) (described tree none) is_num_or_text x.0 e w x.2 (ap (accepts is_num_or_text) x.1 ∙ taken) in

@@ -48,10 +48,10 @@ use Rattle.pads_well_sorted.proofs.Names.{first-there}
 use Rattle.pads_accepted.specs.Described.{Describes}
 use Rattle.pads_accepted.specs.Known.{known_sorts}
 use Rattle.pads_accepted.proofs.Free.{FreePiece}
-use Rattle.pads_accepted.proofs.Lists.{get-below}
 use Rattle.pads_accepted.proofs.Types.{IsReadAt, is-read, body-pieces, content-here}
 use Rattle.pads_accepted.proofs.DescribedTypes as of_types
 use Rattle.pads_accepted.proofs.DescribedTypes.{found-sort, place-number, swapped-any}
+use Rattle.pads_sorted.proofs.Bases.{there-below}
 
 module _ (tree : Ast) (none : violations tree ≡ []) where
   abbrev made_here : List Decl
@@ -187,7 +187,7 @@ module _ (tree : Ast) (none : violations tree ≡ []) where
         let k = position_or_len p (map (branch_named types) bs) in
         let x = found-sort (map (branch_named types) bs) name sort found in
         let f = mapped-there (branch_named types) bs k x.0 x.1 in
-        let less : k < length bs = get-below bs k f.0 f.1 in
+        let less : k < length bs = there-below bs k f.0 f.1 in
         let many : length (map (branch_named types) bs) ≡ length bs = length-map bs (branch_named types) in
         let within : length bs ≤ 4096 = subst (λ inner. part_count inner ≤ 4096) is (of_types.few-parts tree none n d there) in
         let number : number_of (position p (map (branch_named types) bs)) ≡ k =

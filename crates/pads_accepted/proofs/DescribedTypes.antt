@@ -2,6 +2,7 @@
 use Rattle.std.proofs.Common.{◌≡◌, ◌∙◌, sym, ap, refl, subst, arith, ℕ, ◌<◌, ◌≤◌, Bool, true, false, not, cond, ◌||◌, nat_le, nat_lt, List, [], ◌∷◌, length, take, find, position, Option, Some, None, slice_get, ltb-false, lt-ltb}
 use Rattle.std.specs.List.{list_any, position_or_len}
 use Rattle.std.proofs.lemmas.List.Folds.{find_at}
+use Rattle.std.proofs.lemmas.Bool.{not-false, and_parts}
 use Rattle.pads_ast.specs.declared.decl.Ast.{Ast}
 use Rattle.pads_ast.specs.declared.decl.Decl.{Decl as WrittenDecl}
 use Rattle.pads_ast.specs.declared.expr.Expr.{Expr as Tree}
@@ -39,13 +40,13 @@ use Rattle.pads_rules.specs.declared.expr_sort.ExprSort.TheVariants as expr_sort
 use Rattle.pads_well_sorted.specs.Expressions.{if_read}
 use Rattle.pads_well_sorted.specs.Sorts as sorts_of
 use Rattle.pads_well_sorted.proofs.Lists.{some-map}
-use Rattle.pads_well_sorted.proofs.Trees.{and_then-is}
 use Rattle.pads_accepted.specs.Described.{IsRead, IsProper, IsKnown}
 use Rattle.pads_accepted.proofs.Environment.{site_of, site-back}
-use Rattle.pads_accepted.proofs.Faultless.{not-when, is-not-false, both-left}
+use Rattle.pads_rules.proofs.Faultless.{not-when}
 use Rattle.pads_accepted.proofs.Free.{FreePiece}
 use Rattle.pads_accepted.proofs.TypedOperators.{same-swapped}
 use Rattle.pads_accepted.proofs.Types.{or-false, IsReadRole, IsReadAt, shape-off, Named, base-named, earlier-named, named-at, meaning-base, meaning-earlier, used-known, computed-known, no-list, env, made, sorts, free, decl-settled, used-settled, type-same}
+use Rattle.pads_sorted.proofs.Expressions.{and_then-is}
 
 read-role : (r : Role) (inner found : DeclBody) → if_read r inner ≡ Some found → IsReadRole r
 read-role role.Part inner found is = tt
@@ -168,14 +169,14 @@ module _ (tree : Ast) (none : violations tree ≡ []) where
       let bare = is_bare is_computable_base (site_at n d) t in
       let same = agree (type_sort (take n env_here) t) (judged env_here value scope).sort in
       let both = or-false (not bare) (not same) (not-when (not bare || not same) (breaks 18 t.name.at) piece.computed) in
-      (is-not-false bare both.0, is-not-false same both.1)
+      (not-false bare both.0, not-false same both.1)
 
   pub computed-sort : (n : ℕ) (d : WrittenDecl) (scope : Judging) (t : «Type») (value : Tree) → FreePiece (site_at n d) (Computed scope t value)
       → (type_sort (take n env_here) t ≡ expr_sort.Known (sorts_of.computed_sort (computed_of t))) × (agree (type_sort (take n env_here) t) (judged env_here value scope).sort ≡ true)
   computed-sort n d scope t value piece =
       let rule = computed-rule n d scope t value piece in (
         computed-by n t (named-at tree.decls n t.name.text (computed-known (site_at n d) scope t value piece))
-            (both-left (is_base is_computable_base (plain_meaning (take n env_here) t)) (is_empty (args_of t)) rule.0),
+            (and_parts (is_base is_computable_base (plain_meaning (take n env_here) t)) (is_empty (args_of t)) rule.0).0,
         rule.1,
       )
 

@@ -8,7 +8,7 @@ use Rattle.pads_rules.specs.Pieces.{Site, Piece, sites, pieces}
 use Rattle.pads_rules.specs.Violations.{in_pieces, no_record_type, violations}
 use Rattle.pads_rules.specs.declared.fault.CheckFault.{CheckFault}
 use Rattle.pads_well_sorted.specs.WellSorted.{Each}
-use Rattle.pads_accepted.proofs.Faultless.{none-left, none-right}
+use Rattle.pads_rules.proofs.Faultless.{none-left, none-right}
 use Rattle.pads_accepted.proofs.Lists.{each-none, none-at}
 
 -- the rules at a piece that resolving rests on

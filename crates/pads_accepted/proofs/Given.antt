@@ -50,7 +50,7 @@ use Rattle.pads_rules.specs.Pieces.{Site, earlier}
 use Rattle.pads_rules.specs.Sorts as rules
 use Rattle.pads_rules.specs.Trees.{args_of, params_of, listed, points_of}
 use Rattle.pads_rules.specs.declared.declared.Declared.{Declared}
-use Rattle.pads_rules.proofs.Judgements.{names_in_expr-roll}
+use Rattle.pads_rules.proofs.ExprNames.{names_in_expr-roll}
 use Rattle.pads_trans_expr.specs.Met.{in_expr, in_option, in_type, in_branch, in_part, in_where, in_struct, in_case, in_default, in_switch, in_union, in_array_option, in_array, in_constraint, in_typedef, in_body, in_read_body, in_decl}
 use Rattle.pads_trans_expr.specs.Names.{Name, at_sign, some_name, none_name}
 use Rattle.pads_trans_expr.proofs.MetRolls.{met-Number, met-Word, met-Truth, met-Name, met-Part, met-Branch, met-Index, met-Pis, met-Plen, met-Minus, met-Not, met-Binary, met-Pforall}

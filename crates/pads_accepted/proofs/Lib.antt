@@ -5,7 +5,6 @@ pub mod Decls
 pub mod Described
 pub mod DescribedTypes
 pub mod Environment
-pub mod Faultless
 pub mod Forms
 pub mod Free
 pub mod Given

@@ -5,7 +5,8 @@ use Rattle.std.proofs.lemmas.List.Folds.{find_at}
 use Rattle.pads_rules.specs.Faults.{each}
 use Rattle.pads_rules.specs.declared.fault.CheckFault.{CheckFault}
 use Rattle.pads_well_sorted.specs.WellSorted.{Each}
-use Rattle.pads_accepted.proofs.Faultless.{none-left, none-right}
+use Rattle.pads_rules.proofs.Faultless.{none-left, none-right}
+use Rattle.pads_sorted.proofs.Bases.{there-below}
 
 pub get-behind : {A : Type 0} (xs : List A) (x : A) (ys : List A) → slice_get (xs ++ x ∷ ys) (length xs) ≡ Some x
 get-behind [] x ys = refl
@@ -14,11 +15,6 @@ get-behind (first ∷ xs) x ys = get-behind xs x ys
 pub take-front : {A : Type 0} (xs ys : List A) → take (length xs) (xs ++ ys) ≡ xs
 take-front [] ys = refl
 take-front (x ∷ xs) ys = ap (λ rest. x ∷ rest) (take-front xs ys)
-
-pub get-below : {A : Type 0} (xs : List A) (n : ℕ) (x : A) → slice_get xs n ≡ Some x → n < length xs
-get-below [] n x there = cc
-get-below (first ∷ xs) zero x there = omega arith
-get-below (first ∷ xs) (suc n) x there = let h = get-below xs n x there in omega arith
 
 pub get-there : {A : Type 0} (xs : List A) (n : ℕ) → n < length xs → (x : A) × (slice_get xs n ≡ Some x)
 get-there [] n less = absurd (omega arith)
@@ -42,7 +38,7 @@ pub found-place : {A : Type 0} (p : A → Bool) (xs : List A) (x : A) → find p
 found-place p xs x found =
     let k = position_or_len p xs in
     let there : slice_get xs k ≡ Some x = sym (find_at p xs) ∙ found in
-    (k, ap (λ b. cond b (Some k) None) (lt-ltb k (length xs) (get-below xs k x there)), there)
+    (k, ap (λ b. cond b (Some k) None) (lt-ltb k (length xs) (there-below xs k x there)), there)
 
 -- items by number
 pub numbered-there : {A : Type 0} (xs : List A) (from n : ℕ) (x : A) → slice_get xs n ≡ Some x → slice_get (enumerate_from from xs) n ≡ Some (from + n, x)

@@ -16,6 +16,7 @@ use Rattle.pads_resolution.specs.declared.visible.Visible.{Visible}
 use Rattle.pads_resolution.specs.Expressions.{meaning_of, sort_known}
 use Rattle.pads_resolution.specs.Scopes.{Scope as Names, known_in, name_as, variable, array_scope}
 use Rattle.pads_resolution.specs.Types.{param_of}
+use Rattle.pads_resolution.specs.JudgedNames.{as_named}
 use Rattle.pads_rules.specs.DeclRules.{same_name}
 use Rattle.pads_rules.specs.Faults.{breaks, when, again}
 use Rattle.pads_rules.specs.Pieces.{OfParam}
@@ -27,17 +28,18 @@ use Rattle.pads_rules.specs.declared.declared.Declared.{Declared}
 use Rattle.pads_rules.specs.declared.declared.Named.{Named as RuleNamed}
 use Rattle.pads_rules.specs.declared.expr_sort.ExprSort.{ExprSort}
 use Rattle.pads_rules.specs.declared.expr_sort.ExprSort.TheVariants as expr_sort
+use Rattle.pads_rules.proofs.SameTexts.{same-is}
 use Rattle.pads_trans_expr.specs.Names.{at_sign}
 use Rattle.pads_well_sorted.specs.Expressions.{Scope, meaning_sort}
 use Rattle.pads_well_sorted.specs.Sorts as sorts_of
 use Rattle.pads_well_sorted.specs.WellSorted.{Each, params_scope}
-use Rattle.pads_accepted.specs.Described.{as_named, IsSpelled, AreSpelled, IsProper, IsKnown, Sees}
+use Rattle.pads_accepted.specs.Described.{IsSpelled, AreSpelled, IsProper, IsKnown, Sees}
 use Rattle.pads_accepted.proofs.Described.{described}
 use Rattle.pads_accepted.proofs.Environment.{site_of}
-use Rattle.pads_accepted.proofs.Faultless.{none-left, none-right, not-when}
+use Rattle.pads_rules.proofs.Faultless.{none-left, none-right, not-when}
 use Rattle.pads_accepted.proofs.Free.{FreePiece}
 use Rattle.pads_accepted.proofs.Typed.{other-meaning}
-use Rattle.pads_accepted.proofs.TypedOperators.{same-is, own-text, same-swapped}
+use Rattle.pads_accepted.proofs.TypedOperators.{own-text, same-swapped}
 use Rattle.pads_accepted.proofs.Types.{or-false, env, made, sorts}
 use Rattle.pads_accepted.proofs.Uses.{param-sort}
 

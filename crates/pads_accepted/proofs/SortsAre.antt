@@ -25,7 +25,7 @@ use Rattle.pads_well_sorted.specs.WellSorted.{Each, AreSorts}
 use Rattle.pads_accepted.specs.Known.{known_sorts}
 use Rattle.pads_accepted.proofs.DescribedTypes.{used-sort}
 use Rattle.pads_accepted.proofs.Environment.{site_of, site-back}
-use Rattle.pads_accepted.proofs.Faultless.{not-when}
+use Rattle.pads_rules.proofs.Faultless.{not-when}
 use Rattle.pads_accepted.proofs.Free.{FreePiece}
 use Rattle.pads_accepted.proofs.Types.{unless, IsReadAt, reads-at, env, made, sorts, free, few, body-pieces, earlier-length, sort-here, used-settled, decl-settled, optional-same}
 

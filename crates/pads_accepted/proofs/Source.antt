@@ -2,6 +2,7 @@
 use Rattle.std.proofs.Common.{◌≡◌, ◌∙◌, sym, ap, refl, subst, arith, ℕ, zero, suc, ◌+◌, ◌<◌, ◌≤◌, Bool, true, false, not, cond, nat_lt, List, [], ◌∷◌, map, fold, length, take, position, Option, Some, None, slice_get, le-leb, ltb-true}
 use Rattle.std.specs.List.{list_any, enumerate_from, position_or_len}
 use Rattle.std.proofs.lemmas.List.{length-map}
+use Rattle.std.proofs.lemmas.Bool.{not-false}
 use Rattle.pads_calc.specs.Counts.{few}
 use Rattle.pads_ast.specs.declared.decl.Ast.{Ast}
 use Rattle.pads_ast.specs.declared.decl.Decl.{Decl as WrittenDecl}
@@ -24,7 +25,7 @@ use Rattle.pads_rules.specs.Violations.{violations}
 use Rattle.pads_rules.specs.declared.declared.Declared.{Declared}
 use Rattle.pads_well_sorted.specs.WellSorted.{Each, IfThere}
 use Rattle.pads_accepted.proofs.Environment.{env-length}
-use Rattle.pads_accepted.proofs.Faultless.{not-when, is-not-false}
+use Rattle.pads_rules.proofs.Faultless.{not-when}
 use Rattle.pads_accepted.proofs.Free.{some_record_type}
 use Rattle.pads_accepted.proofs.Lists.{get-there}
 use Rattle.pads_accepted.proofs.Types.{few as few-here}
@@ -115,7 +116,7 @@ module _ (tree : Ast) (none : violations tree ≡ []) where
   pub some-decl : 0 < length tree.decls
   some-decl =
       let marked = list_any (λ (d : WrittenDecl). is_precord d.mark) tree.decls in
-      any-there (λ (d : WrittenDecl). is_precord d.mark) tree.decls (is-not-false marked (not-when (not marked) (breaks 23 tree.end) (some_record_type tree none)))
+      any-there (λ (d : WrittenDecl). is_precord d.mark) tree.decls (not-false marked (not-when (not marked) (breaks 23 tree.end) (some_record_type tree none)))
 
   source-there : IsThere (length tree.decls) some-decl (source_of (sites tree.decls))
   unfolding source_of

@@ -19,6 +19,7 @@ use Rattle.pads_resolution.specs.Numbers.{short}
 use Rattle.pads_resolution.specs.Resolution.{params_scope as made_params}
 use Rattle.pads_resolution.specs.Scopes.{Scope as Names, field, fields_after, names_after}
 use Rattle.pads_resolution.specs.Types.{computed_of}
+use Rattle.pads_resolution.specs.JudgedNames.{as_named}
 use Rattle.pads_rules.specs.DeclRules.{part_count}
 use Rattle.pads_rules.specs.NameTokens.{names_in_option, names_in_part}
 use Rattle.pads_rules.specs.Pieces.{Site, Piece, conditions, part_pieces, parts_pieces, names_after as rule_names_after, names_after_all, texts_of_parts, struct_pieces, scope_of}
@@ -34,14 +35,14 @@ use Rattle.pads_well_sorted.specs.Expressions.{Scope, body_at, value_of, part_so
 use Rattle.pads_well_sorted.specs.Sorts as sorts_of
 use Rattle.pads_well_sorted.specs.WellSorted.{Each, IsStruct}
 use Rattle.pads_well_sorted.proofs.Lists.{each-left, each-right}
-use Rattle.pads_accepted.specs.Described.{as_named, IsSpelled, AreSpelled, IsKnown, Sees}
+use Rattle.pads_accepted.specs.Described.{IsSpelled, AreSpelled, IsKnown, Sees}
 use Rattle.pads_accepted.proofs.Bodies.{condition-typed, parts-typed}
 use Rattle.pads_accepted.proofs.DescribedTypes.{used-proper, computed-sort, computed-proper, few-parts}
 use Rattle.pads_accepted.proofs.Environment.{site_of}
 use Rattle.pads_accepted.proofs.Free.{FreePiece}
-use Rattle.pads_accepted.proofs.Lists.{get-below}
 use Rattle.pads_accepted.proofs.Scopes.{State, Again, behind, alone, sees-at}
 use Rattle.pads_accepted.proofs.Types.{IsReadAt, env, made, sorts, is-read}
+use Rattle.pads_sorted.proofs.Bases.{there-below}
 
 module _ (tree : Ast) (none : violations tree ≡ []) (n : ℕ) (d : WrittenDecl) (there : slice_get tree.decls n ≡ Some d) (reads : IsReadAt tree.decls n d) where
   abbrev site : Site
@@ -105,7 +106,7 @@ module _ (tree : Ast) (none : violations tree ≡ []) (n : ℕ) (d : WrittenDecl
     field-sort number p both at own =
         let x = part-at sd.parts params (map as_named params) pieces number p at in
         let v = x.2 both own in
-        let less = get-below sd.parts number p at in
+        let less = there-below sd.parts number p at in
         let within : length sd.parts ≤ 4096 = subst (λ inner. part_count inner ≤ 4096) is (few-parts tree none n d there) in
         let m : short number ≡ number = omega arith in
         let body : body_at (made tree none) n ≡ Some (made_body site params (written_body.Struct sd)) = is-read tree none n d there reads ∙ ap (λ inner. Some (made_body site params inner)) is in (

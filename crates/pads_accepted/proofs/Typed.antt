@@ -19,6 +19,7 @@ use Rattle.pads_resolution.specs.declared.visible.Visible.{Visible}
 use Rattle.pads_resolution.specs.Expressions as made
 use Rattle.pads_resolution.specs.Expressions.{meaning_of, expression, resolve_form}
 use Rattle.pads_resolution.specs.Scopes.{Scope as Names, known_in, hiding}
+use Rattle.pads_resolution.specs.JudgedNames.{judging_scope}
 use Rattle.pads_rules.specs.Faults.{breaks}
 use Rattle.pads_rules.specs.Judging as judging
 use Rattle.pads_rules.specs.Judging.{Judged, judged, judge_form, too_high, takes, wrong_sort, no_truth, unary_takes, is_text_or_array}
@@ -31,14 +32,15 @@ use Rattle.pads_rules.specs.Trees.{points_of}
 use Rattle.pads_rules.specs.declared.declared.Declared.{Declared}
 use Rattle.pads_rules.specs.declared.expr_sort.ExprSort.{ExprSort}
 use Rattle.pads_rules.specs.declared.expr_sort.ExprSort.TheVariants as expr_sort
-use Rattle.pads_rules.proofs.Judgements.{judged-roll, names_in_expr-roll}
+use Rattle.pads_rules.proofs.Judgements.{judged-roll}
 use Rattle.pads_trans_expr.specs.Names.{at_sign}
 use Rattle.pads_well_sorted.specs.Expressions.{Scope, sort_in_scope, plainly, number_alone, truth_alone, length_sort, forall_sort, part_sort, meaning_sort, sort_in}
 use Rattle.pads_well_sorted.specs.Sorts.{num, text, truth}
 use Rattle.pads_well_sorted.specs.WellSorted.{Each}
 use Rattle.pads_well_sorted.proofs.Lists.{each-left, each-right}
-use Rattle.pads_accepted.specs.Described.{judging_scope, IsSpelled, AreSpelled, IsProper, IsKnown, Describes, Sees}
-use Rattle.pads_accepted.proofs.Faultless.{none-left, none-right, not-one, is-taken, is-truth, own-sort, inner-faults}
+use Rattle.pads_accepted.specs.Described.{IsSpelled, AreSpelled, IsProper, IsKnown, Describes, Sees}
+use Rattle.pads_rules.proofs.Faultless.{none-left, none-right, not-one, is-taken, is-truth, own-sort, inner-faults}
+use Rattle.pads_rules.proofs.ExprNames.{names_in_expr-roll}
 use Rattle.pads_accepted.proofs.Forms.{sort-Number, sort-Word, sort-Truth, sort-Pforall, num-form, truth-form}
 use Rattle.pads_accepted.proofs.Trees.{InLink, InStep, Inside, all-layers}
 use Rattle.pads_accepted.proofs.TypedOperators as operators

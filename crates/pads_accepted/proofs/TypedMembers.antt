@@ -1,5 +1,6 @@
 -- Members, elements, choices and lengths: an expression without violations resolves to a well-sorted one of the judged sort.
 use Rattle.std.proofs.Common.{◌≡◌, ◌∙◌, sym, ap, refl, subst, arith, ℕ, zero, suc, ◌-◌, Bool, true, false, not, ◌&&◌, ◌==◌, if◌then◌else◌, nat_lt, List, [], ◌++◌, codes, Option, Some, None, is_some, option_and_then, ne_eqb}
+use Rattle.std.proofs.lemmas.Bool.{not-false}
 use Rattle.pads_ast.specs.declared.decl.Decl.{Decl as WrittenDecl}
 use Rattle.pads_ast.specs.declared.name.Name.{Name}
 use Rattle.pads_sorts.specs.declared.sort.Form.{Form}
@@ -23,13 +24,14 @@ use Rattle.pads_rules.specs.declared.declared.Declared.{Declared}
 use Rattle.pads_rules.specs.declared.declared.Named.{Named}
 use Rattle.pads_rules.specs.declared.expr_sort.ExprSort.{ExprSort}
 use Rattle.pads_rules.specs.declared.expr_sort.ExprSort.TheVariants as expr_sort
+use Rattle.pads_rules.proofs.SameTexts.{same-is}
 use Rattle.pads_well_sorted.specs.Expressions.{Scope, plainly, number_alone, length_sort, part_sort, union_branch, branch_sort, plain_choice, choice_sort, of_elements, element_sort, sort_in}
 use Rattle.pads_well_sorted.specs.Sorts.{num, truth}
 use Rattle.pads_accepted.specs.Described.{IsRead, IsProper, IsKnown, Describes}
-use Rattle.pads_accepted.proofs.Faultless.{none-left, none-right, not-one, not-when, is-not-false, is-taken, own-sort}
+use Rattle.pads_rules.proofs.Faultless.{none-left, none-right, not-one, not-when, is-taken, own-sort}
 use Rattle.pads_accepted.proofs.Forms.{sort-Part, sort-Branch, sort-Index, sort-Pis, sort-Plen, num-form}
 use Rattle.pads_accepted.proofs.TypedOperators as operators
-use Rattle.pads_accepted.proofs.TypedOperators.{same-is, some_is_not_none, told-found, told-known, and_then, at-plain}
+use Rattle.pads_accepted.proofs.TypedOperators.{some_is_not_none, told-found, told-known, and_then, at-plain}
 
 module _ (written : List WrittenDecl) (env : List Declared) (decls : List Decl) (sorts : List Sort) (describes : Describes written env decls sorts) where
   abbrev TypedIn : Scope → Expr → ExprSort → Type 0
@@ -206,7 +208,7 @@ module _ (written : List WrittenDecl) (env : List Declared) (decls : List Decl) 
   choice-typed scope e (expr_sort.Known s) name typed may chosen = choice-by scope e s.optional s.form name typed.0 typed.1 chosen
 
   and-not : (a b : Bool) → a ≡ true → (a && not b) ≡ false → b ≡ true
-  and-not true b one h = is-not-false b h
+  and-not true b one h = not-false b h
   and-not false b one h = cc
 
   pub pis-fits : (at : ℕ) (r : ResolvedExpr) (value : Judged) (name : Name) (scope : Scope) → Fits r value scope → (judging.pis env at value name).faults ≡ []
@@ -217,7 +219,7 @@ module _ (written : List WrittenDecl) (env : List Declared) (decls : List Decl) 
       let no_value = not (may_choose value.sort) in
       let no_name = may_choose value.sort && not (has_choice env value.sort name.text) in
       let wrong = none-right value.faults (judging.no_choice env value name) says.1 in
-      let may = is-not-false (may_choose value.sort) (not-when no_value (breaks 17 value.first) (none-left (when no_value (breaks 17 value.first)) (when no_name (breaks 17 name.at)) wrong)) in
+      let may = not-false (may_choose value.sort) (not-when no_value (breaks 17 value.first) (none-left (when no_value (breaks 17 value.first)) (when no_name (breaks 17 name.at)) wrong)) in
       let chosen = and-not (may_choose value.sort) (has_choice env value.sort name.text) may (not-when no_name (breaks 17 name.at) (none-right (when no_value (breaks 17 value.first)) (when no_name (breaks 17 name.at)) wrong)) in (
         says.0,
         choice-typed scope r.expr r.sort name.text fits.1 (ap may_choose fits.0 ∙ may) (ap (λ s. has_choice env s name.text) fits.0 ∙ chosen),

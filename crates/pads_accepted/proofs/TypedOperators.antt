@@ -1,5 +1,6 @@
 -- Names and operators: an expression without violations resolves to a well-sorted one of the judged sort.
-use Rattle.std.proofs.Common.{◌≡◌, ◌∙◌, sym, ap, refl, subst, ⊎_elim, ℕ, suc, max, ◌-◌, Bool, true, false, not, ◌&&◌, ◌==◌, if◌then◌else◌, nat_eq, List, [], ◌∷◌, ◌++◌, map, find, codes, Option, Some, None, option_map, option_and_then, eqb-true}
+use Rattle.std.proofs.Common.{◌≡◌, ◌∙◌, sym, ap, refl, subst, ⊎_elim, ℕ, suc, max, ◌-◌, Bool, true, false, not, ◌&&◌, ◌==◌, if◌then◌else◌, nat_eq, List, [], ◌++◌, codes, Option, Some, None, option_map, option_and_then, eqb-true}
+use Rattle.std.proofs.lemmas.Bool.{not-false, and_parts}
 use lib.Pointwise.{pointwise, bytes_decides}
 use Rattle.pads_ast.specs.declared.decl.Decl.{Decl as WrittenDecl}
 use Rattle.pads_ast.specs.declared.expr.BinaryOperator.{BinaryOperator}
@@ -13,41 +14,27 @@ use Rattle.pads_resolved.specs.declared.expr.Expr.{Expr}
 use Rattle.pads_resolved.specs.declared.expr.Expr.TheVariants as expr
 use Rattle.pads_resolution.specs.declared.visible.Known.{Known}
 use Rattle.pads_resolution.specs.declared.visible.ResolvedExpr.{ResolvedExpr}
-use Rattle.pads_resolution.specs.declared.visible.Visible.{Visible}
 use Rattle.pads_resolution.specs.Expressions as made
 use Rattle.pads_resolution.specs.Expressions.{sort_known, as_sort, operator_of, meaning_of, name_in, name_found}
 use Rattle.pads_resolution.specs.Scopes.{Scope as Names, known_in}
+use Rattle.pads_resolution.specs.JudgedNames.{judging_scope}
+use Rattle.pads_resolution.proofs.JudgedNames.{sort-known}
 use Rattle.pads_rules.specs.Faults.{breaks, when}
 use Rattle.pads_rules.specs.Judging as judging
 use Rattle.pads_rules.specs.Judging.{Judged, judgement, takes, wrong_sort, no_truth, unary_takes, unary_gives, is_text_or_array}
 use Rattle.pads_rules.specs.Members.{element}
 use Rattle.pads_rules.specs.Sorts as rules
 use Rattle.pads_rules.specs.Sorts.{accepts, agree, is_num_form, is_array_form}
-use Rattle.pads_rules.specs.Texts.{same_text, sort_of}
+use Rattle.pads_rules.specs.Texts.{same_text}
 use Rattle.pads_rules.specs.declared.declared.Declared.{Declared}
 use Rattle.pads_rules.specs.declared.expr_sort.ExprSort.{ExprSort}
 use Rattle.pads_rules.specs.declared.expr_sort.ExprSort.TheVariants as expr_sort
 use Rattle.pads_rules.specs.declared.fault.CheckFault.{CheckFault}
 use Rattle.pads_well_sorted.specs.Expressions.{Scope, if_told, as_told, of_plain, plainly, of_forms, binary_sort, number_alone, truth_alone, sort_in}
 use Rattle.pads_well_sorted.specs.Sorts.{num, text, truth}
-use Rattle.pads_accepted.specs.Described.{as_named, judging_scope, IsProper, Describes, Typed, Sees}
-use Rattle.pads_accepted.proofs.Faultless.{none-left, none-right, not-when, is-not-false, both-left, both-right, is-taken, own-sort, inner-faults}
+use Rattle.pads_accepted.specs.Described.{IsProper, Describes, Typed, Sees}
+use Rattle.pads_rules.proofs.Faultless.{none-left, none-right, not-when, is-taken, own-sort, inner-faults}
 use Rattle.pads_accepted.proofs.Forms.{told-self, sort-Name, sort-Minus, sort-Not, sort-Binary, num-form, truth-form, IsPlainSort, forms-sort}
-
--- names
-sort-known : (names : Names) (name : List ℕ) → sort_of (map as_named names) name ≡ option_map (λ (k : Known). k.sort) (known_in names name)
-sort-known [] name = refl
-sort-known (visible ∷ names) name = by_text (same_text visible.text name) (sort-known names name)
-  where
-    by_text : (t : Bool) → sort_of (map as_named names) name ≡ option_map (λ (k : Known). k.sort) (known_in names name) →
-        option_map (λ named. named.sort) (if t then Some (as_named visible) else find (λ named. same_text named.text name) (map as_named names))
-        ≡ option_map (λ (k : Known). k.sort) (option_map (λ (v : Visible). v.known) (if t then Some visible else find (λ v. same_text v.text name) names))
-    by_text true e = refl
-    by_text false e = e
-
-pub same-is : (a b : List ℕ) → same_text a b ≡ true → a ≡ b
-unfolding same_text
-same-is a b h = (bytes_decides a b).0 h
 
 pub own-text : (a : List ℕ) → pointwise nat_eq a a ≡ true
 own-text a = (bytes_decides a a).1 refl
@@ -92,7 +79,7 @@ module _ (written : List WrittenDecl) (env : List Declared) (decls : List Decl) 
   known-operand test expr_sort.Unknown e scope typed h = absurd typed
   known-operand test expr_sort.Nothing e scope typed h = cc
   known-operand test (expr_sort.Known s) e scope typed h =
-      (s, refl, eqb-true s.optional 0 (both-left (s.optional == 0) (test s.form) h), both-right (s.optional == 0) (test s.form) h, typed.0, typed.1)
+      (s, refl, eqb-true s.optional 0 (and_parts (s.optional == 0) (test s.form) h).0, (and_parts (s.optional == 0) (test s.form) h).1, typed.0, typed.1)
 
   pub operand : (test : Form → Bool) (r : ResolvedExpr) (j : Judged) (scope : Scope) → Fits r j scope → accepts test j.sort ≡ true
       → (s : Sort) × (r.sort ≡ expr_sort.Known s) × (s.optional ≡ 0) × (test s.form ≡ true) × IsProper env decls s.form × (sort_in decls sorts r.expr scope ≡ Some s)
@@ -165,7 +152,7 @@ module _ (written : List WrittenDecl) (env : List Declared) (decls : List Decl) 
   plain-proper s h = ⊎_elim (λ is. subst (λ (s : Sort). IsProper env decls s.form) (sym is) tt) (λ is. subst (λ (s : Sort). IsProper env decls s.form) (sym is) tt) h
 
   agree-forms : (a b : Sort) → ((a.optional == b.optional) && rules.same_form a.form b.form) ≡ true → rules.same_form a.form b.form ≡ true
-  agree-forms a b h = both-right (a.optional == b.optional) (rules.same_form a.form b.form) h
+  agree-forms a b h = (and_parts (a.optional == b.optional) (rules.same_form a.form b.form) h).1
 
   binary-typed : (op : BinaryOperator) (left right : Expr) (scope : Scope) (a b : Sort) → sort_in decls sorts left scope ≡ Some a → sort_in decls sorts right scope ≡ Some b → a.optional ≡ 0 → b.optional ≡ 0
       → takes op a.form ≡ true → rules.same_form a.form b.form ≡ true → TypedIn scope (expr.Binary (operator_of op) left right) (judging.result_of op)
@@ -178,7 +165,7 @@ module _ (written : List WrittenDecl) (env : List Declared) (decls : List Decl) 
       (at-plain (λ f. plainly (of_forms (operator_of op) f) b) a plain_a ∙ at-plain (of_forms (operator_of op) a.form) b plain_b ∙ x.1)))
 
   agreed : (l r : Bool) (both : Bool) → l ≡ true → r ≡ true → (l && r && not both) ≡ false → both ≡ true
-  agreed true true both one other h = is-not-false both h
+  agreed true true both one other h = not-false both h
   agreed true false both one other h = cc
   agreed false r both one other h = cc
 

@@ -43,9 +43,10 @@ use Rattle.pads_well_sorted.specs.WellSorted.{Each}
 use Rattle.pads_well_sorted.proofs.Lists.{each-right, there-mapped}
 use Rattle.pads_accepted.specs.Described.{IsProper}
 use Rattle.pads_accepted.proofs.Environment.{site_of, env-at, env-length, site-there}
-use Rattle.pads_accepted.proofs.Faultless.{not-when}
+use Rattle.pads_rules.proofs.Faultless.{not-when}
 use Rattle.pads_accepted.proofs.Free.{Free, FreePiece, free-at}
-use Rattle.pads_accepted.proofs.Lists.{get-below, get-there, taken-there, length-taken, found-place}
+use Rattle.pads_accepted.proofs.Lists.{get-there, taken-there, length-taken, found-place}
+use Rattle.pads_sorted.proofs.Bases.{there-below}
 
 -- what two tests together tell
 pub or-false : (a b : Bool) → (a || b) ≡ false → (a ≡ false) × (b ≡ false)
@@ -125,7 +126,7 @@ named-by decls n name None (Some x) is found known =
     let place = found-place (λ declared. same_text declared.name name) (take n (declared decls)) x found in
     let k = place.0 in
     let there = taken-there (declared decls) n k x place.2 in
-    let within : k < length decls = let h = get-below (declared decls) k x there.1 in omega (arith, env-length decls, h) in
+    let within : k < length decls = let h = there-below (declared decls) k x there.1 in omega (arith, env-length decls, h) in
     let d = get-there decls k within in
     let same : x ≡ declare (take k (declared decls)) d.0 = let e = env-at decls k d.0 d.1 in let f = there.1 in cc in
     earlier-named k d.0 is there.0 d.1 (found ∙ ap (λ x. Some x) same) place.1
@@ -203,7 +204,7 @@ module _ (tree : Ast) (none : violations tree ≡ []) where
       (no-end (suc k == length decls) (is_source_shape (site_of decls k d)) refl)
     where
       no-end : (last shape : Bool) → (suc k == length decls) ≡ last → (last && shape) ≡ false
-      no-end true shape is = let e = eqb-true (suc k) (length decls) is in let h = get-below decls n later behind in absurd (omega arith)
+      no-end true shape is = let e = eqb-true (suc k) (length decls) is in let h = there-below decls n later behind in absurd (omega arith)
       no-end false shape is = refl
 
   -- an earlier declaration that a declaration that is read names is read
@@ -275,7 +276,7 @@ module _ (tree : Ast) (none : violations tree ≡ []) where
       (no-list (site_of decls n d) t piece.records (shape-off decls n d reads))
 
   pub earlier-length : (n : ℕ) (d : WrittenDecl) → slice_get decls n ≡ Some d → length (take n env) ≡ n
-  earlier-length n d there = length-taken env n (let h = get-below decls n d there in omega (arith, env-length decls, h))
+  earlier-length n d there = length-taken env n (let h = there-below decls n d there in omega (arith, env-length decls, h))
 
   pub content-here : (n : ℕ) (d : WrittenDecl) → slice_get decls n ≡ Some d → content_of env n ≡ content_in (take n env) d.body
   content-here n d there = content-at env n (declare (take n env) d) (env-at decls n d there)

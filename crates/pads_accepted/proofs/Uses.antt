@@ -2,6 +2,7 @@
 use Rattle.std.proofs.Common.{◌≡◌, ◌∙◌, sym, ap, ap₂, refl, subst, arith, ◌⊎◌, inl, inr, ℕ, zero, suc, ◌+◌, Bool, true, false, not, ◌&&◌, ◌||◌, ◌==◌, List, [], ◌∷◌, map, flat_map, length, take, Option, Some, None, slice_get, eqb-true}
 use Rattle.std.specs.List.{enumerate_from}
 use Rattle.std.proofs.lemmas.List.{length-map}
+use Rattle.std.proofs.lemmas.Bool.{not-false, and_parts}
 use Rattle.pads_ast.specs.declared.decl.Ast.{Ast}
 use Rattle.pads_ast.specs.declared.decl.Decl.{Decl as WrittenDecl}
 use Rattle.pads_ast.specs.declared.expr.Expr.{Expr as Tree}
@@ -24,6 +25,7 @@ use Rattle.pads_resolution.specs.Numbers.{declared_number}
 use Rattle.pads_resolution.specs.Resolution.{role_of, params_scope as made_params, decl_at}
 use Rattle.pads_resolution.specs.Scopes.{Scope as Names}
 use Rattle.pads_resolution.specs.Types.{is_end, base_type_of, declared_type, type_name_of, named_type, args, type_at, param_of}
+use Rattle.pads_resolution.specs.JudgedNames.{judging_scope}
 use Rattle.pads_rules.specs.Faults.{breaks, when, each}
 use Rattle.pads_rules.specs.Judging.{Judged, judged, wrong_sort, no_truth}
 use Rattle.pads_rules.specs.NameTokens.{names_in_expr, names_in_arg}
@@ -41,11 +43,11 @@ use Rattle.pads_well_sorted.specs.Expressions.{Scope, sort_in}
 use Rattle.pads_well_sorted.specs.Sorts as sorts_of
 use Rattle.pads_well_sorted.specs.WellSorted.{Takes, HaveSorts, IsCall, IsNamed, IsType, param_sorts}
 use Rattle.pads_well_sorted.proofs.Lists.{each-left, each-right, each-there, there-mapped, mapped-there}
-use Rattle.pads_accepted.specs.Described.{judging_scope, AreSpelled, IsSpelled, Typed, Sees}
+use Rattle.pads_accepted.specs.Described.{AreSpelled, IsSpelled, Typed, Sees}
 use Rattle.pads_accepted.proofs.Described.{described}
 use Rattle.pads_accepted.proofs.DescribedTypes.{unless_popt, plain-is}
 use Rattle.pads_accepted.proofs.Environment.{site_of}
-use Rattle.pads_accepted.proofs.Faultless.{none-left, none-right, not-when, is-not-false, both-left, both-right, is-taken, is-truth}
+use Rattle.pads_rules.proofs.Faultless.{none-left, none-right, not-when, is-taken, is-truth}
 use Rattle.pads_accepted.proofs.Forms.{num-form, truth-form}
 use Rattle.pads_accepted.proofs.Free.{FreePiece}
 use Rattle.pads_accepted.proofs.Typed.{lawful}
@@ -68,8 +70,8 @@ same-form-is _ _ h = cc
 
 agree-is : (a b : Sort) → ((a.optional == b.optional) && rules.same_form a.form b.form) ≡ true → a ≡ b
 agree-is a b h =
-    ap₂ (λ (o : ℕ) (f : Form). record { optional = o; form = f }) (eqb-true a.optional b.optional (both-left (a.optional == b.optional) (rules.same_form a.form b.form) h))
-    (same-form-is a.form b.form (both-right (a.optional == b.optional) (rules.same_form a.form b.form) h))
+    ap₂ (λ (o : ℕ) (f : Form). record { optional = o; form = f }) (eqb-true a.optional b.optional (and_parts (a.optional == b.optional) (rules.same_form a.form b.form) h).0)
+    (same-form-is a.form b.form (and_parts (a.optional == b.optional) (rules.same_form a.form b.form) h).1)
 
 pub text-form : (f : Form) → is_text_form f ≡ true → f ≡ form.Text
 text-form form.Text h = refl
@@ -125,7 +127,7 @@ module _ (tree : Ast) (none : violations tree ≡ []) where
       let m = meaning types t.name.text in
       let plain : is_base is_param_base (unless_popt t.optional m) ≡ true =
       sym (ap (is_base is_param_base) (plain-is types t))
-      ∙ both-left (is_base is_param_base (plain_meaning types t)) (is_empty (args_of t)) (is-not-false (is_bare is_param_base site t) (not-when (not (is_bare is_param_base site t)) (breaks 19 t.name.at) piece.params)) in
+      ∙ (and_parts (is_base is_param_base (plain_meaning types t)) (is_empty (args_of t)) (not-false (is_bare is_param_base site t) (not-when (not (is_bare is_param_base site t)) (breaks 19 t.name.at) piece.params))).0 in
       by t m plain (named-at tree.decls n t.name.text (param-known site t piece))
     where
       by : (t : «Type») (m : Meaning) → is_base is_param_base (unless_popt t.optional (meaning (take n (env tree none)) t.name.text)) ≡ true → Named tree.decls n t.name.text
@@ -192,7 +194,7 @@ module _ (tree : Ast) (none : violations tree ≡ []) where
         let number : i + 0 ≡ i = omega arith in
         let param : slice_get (params_in m) i ≡ Some (expr_sort.Known p) = subst (λ i. slice_get (params_in m) i ≡ Some (expr_sort.Known p)) number (params 0 p refl) in
         let rule = none-left (argument_sort (env tree none) (judging_scope names later) m count (i, arg.Expr e)) (each (argument_sort (env tree none) (judging_scope names later) m count) (enumerate_from (i + 1) written)) sorted in
-        let agreed = is-not-false (agrees_with (slice_get (params_in m) i) j.sort) (not-when (not (agrees_with (slice_get (params_in m) i) j.sort)) (breaks 8 j.first) rule) in (
+        let agreed = not-false (agrees_with (slice_get (params_in m) i) j.sort) (not-when (not (agrees_with (slice_get (params_in m) i) j.sort)) (breaks 8 j.first) rule) in (
           agreed-typed n d e names later w p sees (each-left IsSpelled (names_in_expr e) (flat_map names_in_arg written) spelled) (none-left j.faults (each (argument_faults site (judging_scope names later)) written) free)
               (sym (ap (λ o. agrees_with o j.sort) param) ∙ agreed),
           arguments-typed m count written (i + 1) wanted no_end (λ k q there. subst (λ m'. slice_get (params_in m) m' ≡ Some (expr_sort.Known q)) (one-on i k) (params (suc k) q there)) (omega arith)
@@ -204,7 +206,7 @@ module _ (tree : Ast) (none : violations tree ≡ []) where
         one-on i k = omega arith
     arguments-typed m count (arg.Peor at ∷ written) i (p ∷ wanted) no_end params long spelled free sorted =
         let rule = none-left (when (not (takes_end m && (count == 1))) (breaks 8 at)) (each (argument_sort (env tree none) (judging_scope names later) m count) (enumerate_from (i + 1) written)) sorted in
-        let ends = both-left (takes_end m) (count == 1) (is-not-false (takes_end m && (count == 1)) (not-when (not (takes_end m && (count == 1))) (breaks 8 at) rule)) in
+        let ends = (and_parts (takes_end m) (count == 1) (not-false (takes_end m && (count == 1)) (not-when (not (takes_end m && (count == 1))) (breaks 8 at) rule))).0 in
         let never : true ≡ false = sym ends ∙ no_end in cc
 
     one-param : (p : Sort) (k : ℕ) (q : Sort) → slice_get (p ∷ []) k ≡ Some q → slice_get (expr_sort.Known p ∷ []) (0 + k) ≡ Some (expr_sort.Known q)
@@ -241,7 +243,7 @@ module _ (tree : Ast) (none : violations tree ≡ []) where
         let j = judged_here e names later in
         let m = Base (base.Until c) in
         let rule = none-left (argument_sort (env tree none) (judging_scope names later) m 1 (0, arg.Expr e)) [] sorted in
-        let agreed = is-not-false (agree rules.text j.sort) (not-when (not (agree rules.text j.sort)) (breaks 8 j.first) rule) in
+        let agreed = not-false (agree rules.text j.sort) (not-when (not (agree rules.text j.sort)) (breaks 8 j.first) rule) in
         (agreed-typed n d e names later w sorts_of.text sees (each-left IsSpelled (names_in_expr e) [] spelled) (none-left j.faults [] free) agreed, tt)
     stop-typed c (a ∷ b ∷ rest) long spelled free sorted = let e = eqb-true (suc (suc (length rest))) 1 long in absurd (omega arith)
 
@@ -288,7 +290,7 @@ module _ (tree : Ast) (none : violations tree ≡ []) where
 
     count-rule : (t : «Type») → UsedHere t → is_count_of (meaning (take n (env tree none)) t.name.text) (length (args_of t)) ≡ true
     count-rule t piece =
-        let ok = is_count_of (meaning (take n (env tree none)) t.name.text) (length (args_of t)) in is-not-false ok (not-when (not ok) (breaks 7 t.name.at) piece.counts)
+        let ok = is_count_of (meaning (take n (env tree none)) t.name.text) (length (args_of t)) in not-false ok (not-when (not ok) (breaks 7 t.name.at) piece.counts)
 
     named-typed : slice_get tree.decls n ≡ Some d → IsReadAt tree.decls n d → (t : «Type») → UsedHere t → Spelled (args_of t) → Named tree.decls n t.name.text
         → IsNamed (made tree none) (sorts tree none) n w (made_args (args_of t)) (named_type (take n (env tree none)) t)

@@ -33,7 +33,7 @@ use Rattle.pads_accepted.proofs.Again.{spellings-differ, counted-names}
 use Rattle.pads_accepted.proofs.Decls.{typedef-typed, array-typed, union-typed, used}
 use Rattle.pads_accepted.proofs.DescribedTypes.{few-parts}
 use Rattle.pads_accepted.proofs.Environment.{site_of, site-back}
-use Rattle.pads_accepted.proofs.Faultless.{none-left, not-when}
+use Rattle.pads_rules.proofs.Faultless.{none-left, not-when}
 use Rattle.pads_accepted.proofs.Free.{FreePiece}
 use Rattle.pads_accepted.proofs.Scopes.{State, start, Again, params-state}
 use Rattle.pads_accepted.proofs.Structs.{struct-typed}

@@ -1,13 +1,12 @@
 -- What resolved declarations are for the rules' declared types: each field, branch, label and element that the rules
 -- know of is there, by its number and of its sort.
-use Rattle.std.specs.Prelude.{◌≡◌, ⊤, ℕ, true, false, nat_eq, List, map, Some}
+use Rattle.std.specs.Prelude.{◌≡◌, ⊤, ℕ, true, false, nat_eq, List, Some}
 use lib.Pointwise.{pointwise}
 use Rattle.pads_ast.specs.declared.decl.Decl.{Decl as WrittenDecl}
 use Rattle.pads_resolved.specs.declared.decl.Decl.{Decl}
 use Rattle.pads_resolved.specs.declared.decl.DeclBody.{DeclBody}
 use Rattle.pads_resolved.specs.declared.expr.Expr.{Expr}
 use Rattle.pads_resolution.specs.declared.visible.Known.{Known}
-use Rattle.pads_resolution.specs.declared.visible.Visible.{Visible}
 use Rattle.pads_resolution.specs.Expressions.{meaning_of}
 use Rattle.pads_resolution.specs.Numbers.{field_number, branch_number, label_number}
 use Rattle.pads_resolution.specs.Scopes.{Scope as Names, known_in}
@@ -26,13 +25,6 @@ use Rattle.pads_trans_expr.specs.Names.{at_sign}
 use Rattle.pads_well_sorted.specs.Expressions.{Scope, body_at, part_sort, union_branch, plain_choice, of_elements, meaning_sort, sort_in}
 use Rattle.pads_well_sorted.specs.Sorts.{truth}
 use Rattle.pads_well_sorted.specs.WellSorted.{Each}
-
--- The names in scope of resolving as the rules see them, with the names of this and the later fields of a struct.
-abbrev pub as_named : Visible → Named
-as_named visible = record { text = visible.text; sort = visible.known.sort }
-
-abbrev pub judging_scope : Names → List (List ℕ) → judging.Scope
-judging_scope names later = record { visible = map as_named names; later = later }
 
 -- No text of a description spells `@`.
 abbrev pub IsSpelled : List ℕ → Type 0

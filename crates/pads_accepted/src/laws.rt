@@ -19,7 +19,8 @@ ghost use Rattle.pads_sorts.specs.declared.sort.Sort.{Sort};
 ghost use Rattle.pads_trans.specs.Modules.{is_module, module_of};
 ghost use Rattle.pads_well_sorted.specs.Expressions.{Scope};
 ghost use Rattle.pads_well_sorted.specs.WellSorted.{AreSorts, IsDecl, WellSorted};
-ghost use Rattle.pads_accepted.specs.Described.{judging_scope, AreSpelled, Describes, Sees, Typed};
+ghost use Rattle.pads_resolution.specs.JudgedNames.{judging_scope};
+ghost use Rattle.pads_accepted.specs.Described.{AreSpelled, Describes, Sees, Typed};
 ghost use Rattle.pads_accepted.specs.Known.{known_sorts, IsSpelledTree};
 
 /// The law of expressions, among declarations that are what the rules know of them and names that stand for what

@@ -8,15 +8,14 @@ use Rattle.std.proofs.Math.Seq.{take-append_seam, drop-append_seam}
 use Rattle.std.proofs.lemmas.List.{take-append-drop}
 use Rattle.std.proofs.lemmas.List.Folds.{prefix_len-append, length-prefix_len}
 use Rattle.std.proofs.lemmas.Fmt.{length-decimal-le}
-use Rattle.std.proofs.lemmas.Bool.{eqb-true, eq-eqb, ltb-true, lt-ltb, leb-true, le-leb}
+use Rattle.std.proofs.lemmas.Bool.{eqb-true, eq-eqb, ltb-true, lt-ltb, leb-true, le-leb, and_parts}
 use Rattle.pads_value.specs.declared.reading.Read.TheVariants.{Good}
 use Rattle.pads_code.specs.declared.Coding.{Coding}
 use Rattle.pads_code.specs.CodePage.{points_of, bytes_of}
 use Rattle.pads_code.specs.Numerals.{is_numeral, number}
 use Rattle.pads_code.proofs.TextLemmas.{length-points, length-bytes, points-take, points-bytes}
-use Rattle.pads_code.proofs.NumeralLemmas.{both_true, numeral_parts, digits_run, decimal-numeral, number-decimal, length-decimal-number}
+use Rattle.pads_code.proofs.NumeralLemmas.{numeral_parts, digits_run, decimal-numeral, number-decimal, length-decimal-number, spelled_if}
 use Rattle.pads_bases.specs.Addresses.{dot, is_octet, Numbered, octet, behind_dot, joined, next_octet, address, address_read, ip_reading, dotted, ip_spelling, IsAddress, SpellsIp}
-use Rattle.pads_bases.proofs.StringLaws.{spelled_if}
 
 -- an octet in front, by its parts
 pub record OctetIn (points digits : List ℕ) (o : Numbered) : Type 0 where
@@ -119,8 +118,8 @@ address_in points o e =
 -- read back
 octet_digits : (digits : List ℕ) → is_octet digits ≡ true → (is_numeral digits ≡ true) × (length digits ≤ 3) × (number digits ≤ 255)
 octet_digits digits h =
-    let numeral = both_true (is_numeral digits) (nat_le (length digits) 3 && nat_le (number digits) 255) h in
-    let bounds = both_true (nat_le (length digits) 3) (nat_le (number digits) 255) numeral.1 in
+    let numeral = and_parts (is_numeral digits) (nat_le (length digits) 3 && nat_le (number digits) 255) h in
+    let bounds = and_parts (nat_le (length digits) 3) (nat_le (number digits) 255) numeral.1 in
     (numeral.0, leb-true _ _ bounds.0, leb-true _ _ bounds.1)
 
 octet_at : (digits rest : List ℕ) → is_octet digits ≡ true → prefix_len is_ascii_digit rest ≡ 0 → octet (digits ++ rest) ≡ Some (record { number = number digits; rest = rest })

@@ -1,8 +1,9 @@
 -- What the code finds in the bytes is the address of their points.
-use Rattle.std.proofs.Common.{◌≡◌, ℕ, pos, ◌-◌, ◌<◌, ◌≤◌, Bool, true, false, ◌||◌, ◌&&◌, cond, length-take-le, min, nat_eq, nat_le, List, [], ◌∷◌, length, take, drop, Option, Some, None, refl, ◌∙◌, arith}
+use Rattle.std.proofs.Common.{◌≡◌, ℕ, pos, ◌-◌, ◌<◌, ◌≤◌, Bool, true, false, ◌||◌, cond, length-take-le, min, nat_eq, nat_le, List, [], ◌∷◌, length, take, drop, Option, Some, None, refl, ◌∙◌, arith}
 use Rattle.std.specs.Char.{is_ascii_digit}
 use Rattle.std.specs.List.{prefix_len, list_all}
 use Rattle.std.proofs.lemmas.Bool.{lt-leb, le-leb}
+use Rattle.std.proofs.Math.Bool.{and-false}
 use Rattle.pads_value.specs.declared.reading.Read.TheVariants.{Good, Hard}
 use Rattle.pads_value.specs.declared.cause.Cause.TheVariants as cause
 use Rattle.pads_code.specs.declared.Coding.{Coding}
@@ -24,10 +25,6 @@ prefix_same f g same (x ∷ xs) = rw (same x, prefix_same f g same xs) refl
 -- the class `0-9` has the digits
 pub digits_class : (xs : List ℕ) → prefix_len (has_point (48 ∷ 45 ∷ 57 ∷ [])) xs ≡ prefix_len is_ascii_digit xs
 digits_class xs = prefix_same (has_point (48 ∷ 45 ∷ 57 ∷ [])) is_ascii_digit (λ p. or_false (is_ascii_digit p)) xs
-
-and_false : (b : Bool) → (b && false) ≡ false
-and_false true = refl
-and_false false = refl
 
 -- what the code finds at the octet in front
 pub record FindsRun (coding : Coding) (bytes digits rest : List ℕ) (n : ℕ) : Type 0 where
@@ -51,12 +48,12 @@ octet_missing coding bytes digits rest n f none =
 pub octet_too_long : (coding : Coding) (bytes digits rest : List ℕ) (n : ℕ) → FindsRun coding bytes digits rest n → 3 < length digits → None ≡ octet (points_of coding bytes)
 octet_too_long coding bytes digits rest n f long =
     let more : nat_le (length digits) 3 ≡ false = lt-leb (length digits) 3 long in
-    rw (octet_found coding bytes digits rest n f, length-points coding digits, more, and_false) refl
+    rw (octet_found coding bytes digits rest n f, length-points coding digits, more, and-false) refl
 
 pub octet_too_large : (coding : Coding) (bytes digits rest : List ℕ) (n : ℕ) → FindsRun coding bytes digits rest n → 255 < min (number (points_of coding digits)) 256 → None ≡ octet (points_of coding bytes)
 octet_too_large coding bytes digits rest n f large =
     let more : nat_le (number (points_of coding digits)) 255 ≡ false = lt-leb (number (points_of coding digits)) 255 (omega arith) in
-    rw (octet_found coding bytes digits rest n f, more, and_false (nat_le (length (points_of coding digits)) 3), and_false) refl
+    rw (octet_found coding bytes digits rest n f, more, and-false (nat_le (length (points_of coding digits)) 3), and-false) refl
 
 pub octet_there : (coding : Coding) (bytes digits rest : List ℕ) (n : ℕ) → FindsRun coding bytes digits rest n → nat_eq (length digits) 0 ≡ false → length digits ≤ 3 → min (number (points_of coding digits)) 256 ≤ 255
     → Some (record { number = min (number (points_of coding digits)) 256; rest = points_of coding rest }) ≡ octet (points_of coding bytes)

@@ -4,27 +4,20 @@ use Rattle.std.specs.Option.{IsSomeAnd}
 use Rattle.std.proofs.Math.Seq.{take-length}
 use Rattle.std.proofs.Math.Nat.{mod-eq_of_lt, mod-lt, one-le-pow}
 use Rattle.std.proofs.lemmas.Int.{ints}
-use Rattle.std.proofs.lemmas.Bool.{cases_lt, lt-ltb, le-ltb, ltb-true, ltb-false, leb-true}
+use Rattle.std.proofs.lemmas.Bool.{cases_lt, lt-ltb, le-ltb, ltb-true, ltb-false, leb-true, and_parts, not-false}
 use Rattle.byteorder.specs.Endian.{big_number, little_number, twos_complement}
 use Rattle.byteorder.specs.Numbers.{big_number-reads_back, little_number-reads_back, length-bytes_high_first, length-bytes_low_first}
 use Rattle.byteorder.proofs.Bytes.{pow256}
-use Rattle.pads_value.specs.declared.reading.Read.TheVariants.{Good, Soft, Hard}
+use Rattle.pads_value.specs.declared.reading.Read.TheVariants.{Good, Hard}
 use Rattle.pads_value.specs.declared.cause.Cause.TheVariants as cause
-use Rattle.pads_code.proofs.NumeralLemmas.{both_true}
+use Rattle.pads_value.proofs.ReadLemmas.{good_in_range}
 use Rattle.pads_bases.specs.declared.binary.Range.{Range}
 use Rattle.pads_bases.specs.declared.binary.Order.{Order}
 use Rattle.pads_bases.specs.declared.binary.Order.TheVariants.{Low, High}
 use Rattle.pads_bases.specs.Binaries.{unsigned, is_signed, has_number, bin_number, is_size, ranged, bin_reading, fits, residue, bytes_in, bin_spelling, SpellsBin}
 use Rattle.pads_bases.proofs.BinaryLemmas.{twice_half, fits-pos, fits-neg}
-use Rattle.pads_bases.proofs.StringLaws.{not_hard, spelled_if}
-
-good_in_range : (b : Bool) (size : ℕ) (w : ℤ) (n : ℕ) (v : ℤ) → cond b (Good size w) (Soft size cause.Range) ≡ Good n v → (b ≡ true) × (n ≡ size) × (v ≡ w)
-good_in_range true size w n v e = (refl, cc, cc)
-good_in_range false size w n v e = cc
-
-not_false : (b : Bool) → not b ≡ false → b ≡ true
-not_false true h = refl
-not_false false h = cc
+use Rattle.pads_bases.proofs.StringLaws.{not_hard}
+use Rattle.pads_code.proofs.NumeralLemmas.{spelled_if}
 
 -- what a good reading says
 record BinRead (range : Range) (order : Order) (size : ℤ) (bytes : List ℕ) (n : ℕ) (v : ℤ) : Type 0 where
@@ -44,7 +37,7 @@ bin_read range order (pos s) bytes n v e =
     let good = good_in_range (has_number range w) s w n v long.1 in
     record {
       is = ap pos (sym good.1);
-      sized = rw good.1 (not_false (is_size s) sized.0);
+      sized = rw good.1 (not-false (is_size s) sized.0);
       there = omega (arith, good.1, ltb-false _ _ long.0);
       number = rw good.1 good.2;
       within = rw good.2 good.0;
@@ -65,7 +58,7 @@ unsigned-lt Low bytes = rw (← pow256 (length bytes)) (mod-lt (little_number (l
 unsigned-lt High bytes = rw (← pow256 (length bytes)) (mod-lt (big_number (length bytes) bytes) (one-le-pow (length bytes) 256 (omega arith)))
 
 size_bounds : (n : ℕ) → is_size n ≡ true → (1 ≤ n) × (n ≤ 8)
-size_bounds n h = let both = both_true (nat_le 1 n) (nat_le n 8) h in (leb-true _ _ both.0, leb-true _ _ both.1)
+size_bounds n h = let both = and_parts (nat_le 1 n) (nat_le n 8) h in (leb-true _ _ both.0, leb-true _ _ both.1)
 
 -- in two's complement a number of the bytes fits them
 complement_fits : (n u : ℕ) → 1 ≤ n → n ≤ 8 → u < 2 ^ (8 * n) → fits true n (twos_complement n u) ≡ true
@@ -138,8 +131,8 @@ unfolding bin_spelling
 bin_spells range order (negsuc k) v s e = cc
 bin_spells range order (pos n) v s e =
     let parts = spelled_if (is_size n && (has_number range v && fits (is_signed range) n v)) (bytes_in order n (residue n v)) s e in
-    let sized = both_true (is_size n) (has_number range v && fits (is_signed range) n v) parts.0 in
-    let place = both_true (has_number range v) (fits (is_signed range) n v) sized.1 in
+    let sized = and_parts (is_size n) (has_number range v && fits (is_signed range) n v) parts.0 in
+    let place = and_parts (has_number range v) (fits (is_signed range) n v) sized.1 in
     let bounds = size_bounds n sized.0 in
     let long : length s ≡ n = ap length parts.1 ∙ length-bytes_in order n (residue n v) in
     let same : unsigned order s ≡ residue n v = ap (unsigned order) parts.1 ∙ unsigned-bytes_in order n (residue n v) (residue-lt (is_signed range) n v bounds.0 bounds.1 place.1) in

@@ -1,5 +1,5 @@
 -- The numbers of bytes, and the bytes of numbers.
-use Rattle.std.proofs.Common.{◌≡◌, ℕ, suc, ◌+◌, ◌-◌, ◌*◌, ◌%◌, ◌^◌, ◌<◌, ◌≤◌, Bool, true, false, List, length, take, get_or, pos, negsuc, ℤ, int_lt, nat_le, nat_lt, ◌&&◌, length-take-le, Some, None, refl, sym, ap, ◌∙◌, arith}
+use Rattle.std.proofs.Common.{◌≡◌, ℕ, suc, ◌+◌, ◌-◌, ◌*◌, ◌%◌, ◌^◌, ◌<◌, ◌≤◌, Bool, true, false, List, length, take, get_or, pos, negsuc, ℤ, int_lt, nat_le, nat_lt, length-take-le, Some, None, refl, sym, ap, ◌∙◌, arith}
 use Rattle.std.specs.Int.{w128}
 use Rattle.std.proofs.Math.Nat.{mod-eq_of_lt, one-le-pow}
 use Rattle.std.proofs.Math.Arith.{digits_mod}
@@ -7,6 +7,7 @@ use Rattle.std.proofs.lemmas.Nat.{pow-add}
 use Rattle.byteorder.proofs.Bytes.{pow256, sign_bit}
 use Rattle.std.proofs.lemmas.Int.{ints}
 use Rattle.std.proofs.lemmas.Bool.{le-leb, le-ltb, ltb-true}
+use Rattle.std.proofs.Math.Bool.{and-false}
 use Rattle.byteorder.specs.Endian.{big_number, little_number, low_bytes}
 use Rattle.byteorder.specs.Numbers.{big_from-lt, little_from-lt}
 use Rattle.pads_value.specs.declared.reading.Read.TheVariants.{Hard}
@@ -26,10 +27,6 @@ unsigned_low bytes are = sym (mod-eq_of_lt (little_from-lt 0 (length bytes) byte
 pub unsigned_high : (bytes : List ℕ) → AreBytes bytes → big_number (length bytes) bytes ≡ unsigned High bytes
 unsigned_high bytes are = sym (mod-eq_of_lt (big_from-lt 0 (length bytes) bytes are.small))
 
-and_false : (b : Bool) → (b && false) ≡ false
-and_false true = refl
-and_false false = refl
-
 -- the size as the code tests it
 pub size_too_small : (range : Range) (order : Order) (size : ℤ) (bytes : List ℕ) → int_lt size (pos 1) ≡ true → Hard cause.BadParam ≡ bin_reading range order size bytes
 unfolding bin_reading
@@ -40,7 +37,7 @@ pub size_too_large : (range : Range) (order : Order) (size : ℤ) (bytes : List 
 unfolding bin_reading
 size_too_large range order (negsuc s) bytes h = refl
 size_too_large range order (pos s) bytes h =
-    let more : nat_le s 8 ≡ false = grind (arith, ints) in rw (more, and_false (nat_le 1 s)) refl
+    let more : nat_le s 8 ≡ false = grind (arith, ints) in rw (more, and-false (nat_le 1 s)) refl
 
 pub sized : (s : ℕ) → 1 ≤ s → s ≤ 8 → is_size s ≡ true
 sized s low high = rw (le-leb 1 s low, le-leb s 8 high) refl
@@ -68,15 +65,15 @@ pub no_size_above : (range : Range) (order : Order) (size v : ℤ) → int_lt (p
 unfolding bin_spelling
 no_size_above range order (negsuc s) v h = refl
 no_size_above range order (pos s) v h =
-    let more : nat_le s 8 ≡ false = grind (arith, ints) in rw (more, and_false (nat_le 1 s)) refl
+    let more : nat_le s 8 ≡ false = grind (arith, ints) in rw (more, and-false (nat_le 1 s)) refl
 
 pub not_of_kind : (range : Range) (order : Order) (size v : ℤ) (s : ℕ) → size ≡ pos s → has_number range v ≡ false → None ≡ bin_spelling range order size v
 unfolding bin_spelling
-not_of_kind range order size v s is out = rw (is, out, and_false (is_size s)) refl
+not_of_kind range order size v s is out = rw (is, out, and-false (is_size s)) refl
 
 pub no_place : (range : Range) (order : Order) (size v : ℤ) (s : ℕ) → size ≡ pos s → fits (is_signed range) s v ≡ false → None ≡ bin_spelling range order size v
 unfolding bin_spelling
-no_place range order size v s is out = rw (is, out, and_false (has_number range v), and_false (is_size s)) refl
+no_place range order size v s is out = rw (is, out, and-false (has_number range v), and-false (is_size s)) refl
 
 -- the lowest bytes of a number that fits them are those of its residue
 pub twice_half : (s : ℕ) → 1 ≤ s → s ≤ 8 → 2 ^ (8 * s) ≡ 2 * 2 ^ (8 * s - 1)

@@ -3,12 +3,11 @@ use Rattle.std.proofs.Common.{◌≡◌, ℕ, zero, suc, ◌+◌, ◌≤◌, Boo
 use Rattle.std.specs.Option.{IsSomeAnd}
 use Rattle.std.specs.List.{slice_get}
 use Rattle.std.proofs.Math.Seq.{take-length}
-use Rattle.std.proofs.lemmas.Bool.{cases_lt, cases_Bool, lt-ltb, le-ltb, eqb-true, eq-eqb}
+use Rattle.std.proofs.lemmas.Bool.{cases_lt, cases_Bool, lt-ltb, le-ltb, eqb-true, eq-eqb, and_parts}
 use Rattle.pads_value.specs.declared.reading.Read.TheVariants.{Good}
 use Rattle.pads_code.specs.declared.Coding.{Coding}
 use Rattle.pads_code.specs.CodePage.{points_of, bytes_of}
 use Rattle.pads_code.proofs.TextLemmas.{length-points, length-bytes, points-take, points-bytes}
-use Rattle.pads_code.proofs.NumeralLemmas.{both_true}
 use Rattle.pads_bases.specs.declared.enums.Label.{Label}
 use Rattle.pads_bases.specs.declared.enums.Choice.{Choice}
 use Rattle.pads_bases.specs.Enums.{begins, longer, choice, choice_read, enum_reading, enum_spelling, SpellsEnum, SpellingsDiffer}
@@ -18,7 +17,7 @@ pub begins_front : (spelling points : List ℕ) → begins spelling points ≡ t
 begins_front [] points h = (refl, omega arith)
 begins_front (s ∷ ss) [] h = cc
 begins_front (s ∷ ss) (p ∷ ps) h =
-    let both = both_true (nat_eq p s) (begins ss ps) h in
+    let both = and_parts (nat_eq p s) (begins ss ps) h in
     let rest = begins_front ss ps both.1 in
     (rw (rest.0, eqb-true p s both.0) refl, omega (arith, rest.1))
 

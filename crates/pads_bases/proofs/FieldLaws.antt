@@ -1,26 +1,18 @@
 -- Texts of a fixed width, characters and class texts read what they spell.
-use Rattle.std.proofs.Common.{◌≡◌, ℕ, ◌≤◌, ◌&&◌, Bool, true, false, not, cond, ℤ, pos, negsuc, nat_eq, nat_lt, nat_le, List, [], ◌∷◌, length, take, Some, refl, sym, ap, ◌∙◌, arith, length-take-le}
+use Rattle.std.proofs.Common.{◌≡◌, ℕ, ◌≤◌, ◌&&◌, true, false, not, cond, ℤ, pos, negsuc, nat_eq, nat_lt, nat_le, List, [], ◌∷◌, length, take, Some, refl, sym, ap, ◌∙◌, arith, length-take-le}
 use Rattle.std.specs.Option.{IsSomeAnd}
 use Rattle.std.specs.List.{take_while, list_all}
 use Rattle.std.proofs.Math.Seq.{take-length}
-use Rattle.std.proofs.lemmas.Bool.{eq-eqb, eqb-true, ltb-false, le-ltb, le-leb}
+use Rattle.std.proofs.lemmas.Bool.{eq-eqb, eqb-true, ltb-false, le-ltb, le-leb, and_parts, not-false, not-true}
 use Rattle.pads_value.specs.declared.reading.Read.TheVariants.{Good, Hard}
 use Rattle.pads_value.specs.declared.cause.Cause.TheVariants as cause
 use Rattle.pads_code.specs.declared.Coding.{Coding}
 use Rattle.pads_code.specs.CodePage.{point, points_of, bytes_of}
 use Rattle.pads_code.proofs.TextLemmas.{length-points, length-bytes, points-bytes}
-use Rattle.pads_code.proofs.NumeralLemmas.{both_true, run_passes, whole_run}
+use Rattle.pads_code.proofs.NumeralLemmas.{run_passes, whole_run, spelled_if}
 use Rattle.pads_bases.specs.Strings.{fixed_reading, char_reading, fixed_spelling, char_spelling, SpellsFixed, SpellsChar, widest}
 use Rattle.pads_bases.specs.Classes.{is_class, has_point, is_class_text, class_reading, class_spelling, SpellsClass}
-use Rattle.pads_bases.proofs.StringLaws.{good_parts, not_hard, spelled_if, TakesRun, takes_run}
-
-not_false : (b : Bool) → not b ≡ false → b ≡ true
-not_false true h = refl
-not_false false h = cc
-
-not_true : (b : Bool) → not b ≡ true → b ≡ false
-not_true true h = cc
-not_true false h = refl
+use Rattle.pads_bases.proofs.StringLaws.{good_parts, not_hard, TakesRun, takes_run}
 
 -- of a fixed width
 
@@ -69,7 +61,7 @@ unfolding fixed_spelling
 fixed_canonical_reads_back coding (negsuc w) v s e = cc
 fixed_canonical_reads_back coding (pos w) v s e =
     let parts = spelled_if (nat_eq w (length v) && nat_le w widest) (bytes_of coding v) s e in
-    let size : w ≡ length v = eqb-true _ _ (both_true _ _ parts.0).0 in
+    let size : w ≡ length v = eqb-true _ _ (and_parts _ _ parts.0).0 in
     fixed_reads_back coding (pos w) v s (record {
       same = rw parts.1 (points-bytes coding v);
       fills = ap pos (size ∙ sym (length-bytes coding v) ∙ ap length (sym parts.1));
@@ -122,7 +114,7 @@ class_read coding class bytes n v e =
     let formed = not_hard (not (is_class class)) cause.BadParam (cond (nat_eq (length text) 0) (Hard cause.Invalid) (Good (length text) text)) n v e in
     let some = not_hard (nat_eq (length text) 0) cause.Invalid (Good (length text) text) n v formed.1 in
     let good = good_parts (length text) n text v some.1 in
-    let class_is : is_class class ≡ true = not_false (is_class class) formed.0 in
+    let class_is : is_class class ≡ true = not-false (is_class class) formed.0 in
     record {
       run = takes_run coding (has_point class) bytes n v good.0 good.1;
       size = good.0 ∙ ap length (sym good.1);
@@ -149,9 +141,9 @@ class_canonical coding class bytes n v e =
 pub class_reads_back : (coding : Coding) (class v bytes : List ℕ) → SpellsClass coding class v bytes → class_reading coding class bytes ≡ Good (length bytes) v
 unfolding class_reading
 class_reads_back coding class v bytes spells =
-    let formed = both_true (is_class class) (not (nat_eq (length v) 0) && list_all (has_point class) v) spells.of_class in
-    let parts = both_true (not (nat_eq (length v) 0)) (list_all (has_point class) v) formed.1 in
-    let some : nat_eq (length v) 0 ≡ false = not_true (nat_eq (length v) 0) parts.0 in
+    let formed = and_parts (is_class class) (not (nat_eq (length v) 0) && list_all (has_point class) v) spells.of_class in
+    let parts = and_parts (not (nat_eq (length v) 0)) (list_all (has_point class) v) formed.1 in
+    let some : nat_eq (length v) 0 ≡ false = not-true (nat_eq (length v) 0) parts.0 in
     let size : length v ≡ length bytes = ap length (sym spells.same) ∙ length-points coding bytes in
     rw (spells.same, whole_run (has_point class) v parts.1, formed.0, some, size) refl
 

@@ -22,10 +22,6 @@ pub not_hard : {V : Type 0} (b : Bool) (why : Cause) (r : Read V) (n : ℕ) (v :
 not_hard true why r n v e = cc
 not_hard false why r n v e = (refl, e)
 
-pub spelled_if : (b : Bool) (x s : List ℕ) → cond b (Some x) None ≡ Some s → (b ≡ true) × (s ≡ x)
-spelled_if true x s e = (refl, cc)
-spelled_if false x s e = cc
-
 -- a run in front of the points, taken from the bytes
 pub record TakesRun (coding : Coding) (p : ℕ → Bool) (bytes : List ℕ) (n : ℕ) (v : List ℕ) : Type 0 where
   pub within : n ≤ length bytes

@@ -2,7 +2,7 @@
 use Rattle.std.proofs.Common.{◌≡◌, ℕ, ◌<◌, ◌≤◌, Bool, true, false, ℤ, pos, negsuc, int_lt, nat_eq, nat_lt, List, [], ◌∷◌, length, take, get_or, Some, None, refl, sym, ap, ◌∙◌, subst, Result, arith, length-take-le}
 use Rattle.std.specs.Result.{IfOk}
 use Rattle.std.specs.List.{position_or_len}
-use Rattle.std.proofs.lemmas.Bool.{ne_eqb, eqb-true, eqb-false, eq-eqb}
+use Rattle.std.proofs.lemmas.Bool.{ne_eqb, eqb-true, eqb-false, eq-eqb, false_from_ne_true}
 use Rattle.std.proofs.lemmas.Int.{ints}
 use Rattle.std.proofs.lemmas.List.{get_or-map}
 use Rattle.std.proofs.lemmas.List.Sums.{position_or_len_is}
@@ -77,16 +77,12 @@ char_there coding [] text some front = cc
 char_there coding (b ∷ bs) text some front = rw front refl
 
 -- the same of what a search for the stop character's byte answers
-not_true : (b : Bool) → (b ≡ true → ⊥) → b ≡ false
-not_true true h = absurd (h refl)
-not_true false h = refl
-
 pub search_found : (coding : Coding) (stop : ℕ) (bytes : List ℕ) (e k : ℕ) → e ≡ byte_of coding stop → k < length bytes → nat_eq (get_or bytes k 0) e ≡ true
     → ((j : ℕ) → 0 ≤ j → j < k → nat_eq (get_or bytes j 0) e ≡ true → ⊥) → k ≡ position_or_len (λ p. nat_eq p stop) (points_of coding bytes)
 search_found coding stop bytes e k is lt here before =
-    stop_found coding stop bytes k lt (rw is at here) (λ j h. rw (← is) (not_true _ (before j (omega arith) h)))
+    stop_found coding stop bytes k lt (rw is at here) (λ j h. rw (← is) (false_from_ne_true _ (before j (omega arith) h)))
 
 pub search_missing : (coding : Coding) (stop : ℕ) (bytes : List ℕ) (e : ℕ) → e ≡ byte_of coding stop → ((j : ℕ) → 0 ≤ j → j < length bytes → nat_eq (get_or bytes j 0) e ≡ true → ⊥)
     → length bytes ≡ position_or_len (λ p. nat_eq p stop) (points_of coding bytes)
 search_missing coding stop bytes e is nowhere =
-    stop_missing coding stop bytes (λ j h. rw (← is) (not_true _ (nowhere j (omega arith) h)))
+    stop_missing coding stop bytes (λ j h. rw (← is) (false_from_ne_true _ (nowhere j (omega arith) h)))

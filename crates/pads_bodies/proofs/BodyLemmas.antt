@@ -14,26 +14,10 @@ use Rattle.pads_rules.specs.Judging.{hiding}
 use Rattle.pads_rules.specs.Resolving.{type_sort}
 use Rattle.pads_rules.specs.declared.declared.Named.{Named}
 use Rattle.pads_rules.specs.Pieces.{Site, Piece, Used, Condition, constraint_pieces, scope_of, sizes, conditions, option_pieces, array_scope, array_pieces}
-use Rattle.pads_pieces.proofs.Steps.{taken}
 use Rattle.pads_pieces.specs.Told.{piece_told}
 use Rattle.pads_bodies.specs.Walked.{pieces_told, in_elements_told, constraint_told}
 use Rattle.pads_bodies.proofs.WalkLemmas.{told-both, told-one, told-more}
-
-abbrev front : {X : Type 0} → List X → List X
-front [] = []
-front (x ∷ []) = []
-front (x ∷ y ∷ xs) = x ∷ front (y ∷ xs)
-
-front-last : {X : Type 0} (xs : List X) (x : X) → front (xs ++ x ∷ []) ≡ xs
-front-last [] x = refl
-front-last (y ∷ []) x = refl
-front-last (y ∷ z ∷ xs) x = ap (λ zs. y ∷ zs) (front-last (z ∷ xs) x)
-
--- the last item off again
-pub same-front : {X : Type 0} (xs ys : List X) (x y : X) → xs ++ x ∷ [] ≡ ys ++ y ∷ [] → ys ≡ xs
-same-front xs ys x y e = sym (front-last ys y) ∙ sym (ap front e) ∙ front-last xs x
-
-pub ruleset popped = (same-front)
+use Rattle.pads_declared.proofs.Lists.{taken}
 
 pub made-step : {X : Type 0} (site : Site) (made : X → List Piece) (xs : List X) (i : ℕ) (x : X) → i < length xs → x ≡ get_or xs i x →
     lesser (pieces_told site (flat_map made (take i xs))) (pieces_told site (made x)) ≡ pieces_told site (flat_map made (take (i + 1) xs))

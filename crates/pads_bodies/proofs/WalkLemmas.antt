@@ -24,8 +24,9 @@ use Rattle.pads_judge.proofs.ScopeLemmas.{in_hiding}
 use Rattle.pads_parts.specs.Parts.{piece_faults}
 use Rattle.pads_pieces.specs.Told.{piece_told, spelled_told}
 use Rattle.pads_pieces.proofs.PieceLemmas.{told-Spelled}
-use Rattle.pads_pieces.proofs.Steps.{left}
+use Rattle.pads_pieces.proofs.Steps.{none-lesser}
 use Rattle.pads_bodies.specs.Walked.{pieces_told, literal_told, spelling_told, label_told, labels_told, first_pieces, last_pieces}
+use Rattle.pads_declared.proofs.Lists.{left}
 
 pub in-names : (visible : Bor (List Named)) (parts : Bor (List Part)) → names_in_scope (scope.Names visible parts) ≡ record { visible = visible.now; later = texts_of_parts parts.now }
 in-names visible parts = ap names_in_scope (sym (scope.rolls-Names visible parts)) ∙ fold-roll-Scope judging.Scope scope_step (Scope-F.Names visible parts)
@@ -72,10 +73,6 @@ labels-step labels i x best there is = rw (left labels i x there is) (lesser_ass
 pub labels-end : (labels : List Label) (i : ℕ) (best whole : Option CheckFault) → length labels ≤ i → lesser best (labels_told (drop i labels)) ≡ whole → best ≡ whole
 unfolding labels_told
 labels-end labels i best whole over e = sym (lesser-none best) ∙ sym (ap (λ ls. lesser best (labels_told ls)) (drop_all i labels over)) ∙ e
-
-pub none-lesser : (best : Option CheckFault) → lesser None best ≡ best
-unfolding lesser
-none-lesser best = refl
 
 pub ruleset walk_rules = (in-names, in_hiding, told-none, told-one, told-more, told-both, told-word, told-literal, told-labels, none-lesser)
 

@@ -26,7 +26,7 @@ use pads_value::{Items, Memory};
 use std::alloc::Global;
 
 /// The constraint of a branch, which sees the branch.
-#[tactic(auto, using(crate::proofs::WalkLemmas::walk_rules, crate::proofs::BodyLemmas::popped))]
+#[tactic(auto, using(crate::proofs::WalkLemmas::walk_rules, pads_declared::proofs::Lists::popped))]
 fn constraint(
     alloc: Global,
     site: &Site<'_>,

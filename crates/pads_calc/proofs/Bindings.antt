@@ -9,7 +9,7 @@ pub bound-next : (names : List ℕ) (args : List Arg) (env : Pairs) (i : ℕ) (a
     → bound_to (drop i names) (drop i args) env ≡ bound_to (drop (i + 1) names) (drop (i + 1) args) ((get_or names i 0, value_of_arg arg) ∷ env)
 bound-next names args env i arg more there = rw (drop-next names i 0 more, drop-there args i arg there) refl
 
-bound-none : (names : List ℕ) (env : Pairs) → bound_to names [] env ≡ env
+pub bound-none : (names : List ℕ) (env : Pairs) → bound_to names [] env ≡ env
 bound-none [] env = refl
 bound-none (name ∷ names) env = refl
 

@@ -10,7 +10,7 @@ use Rattle.pads_calc.specs.Choices.{branch_of, alt_from, switch_of}
 use Rattle.pads_calc.specs.Readings.{Reader, fails, is_ok}
 use Rattle.pads_calc.proofs.Lists.{drop-next, drop-past'}
 
-slice_get-map : {A B : Type 0} (f : A → B) (xs : List A) (n : ℕ) → slice_get (map f xs) n ≡ option_map f (slice_get xs n)
+pub slice_get-map : {A B : Type 0} (f : A → B) (xs : List A) (n : ℕ) → slice_get (map f xs) n ≡ option_map f (slice_get xs n)
 slice_get-map f [] n = refl
 slice_get-map f (x ∷ xs) zero = refl
 slice_get-map f (x ∷ xs) (suc n) = slice_get-map f xs n

@@ -1,8 +1,9 @@
 -- What the counts of a term say of the terms in it.
-use Rattle.std.proofs.Common.{◌≡◌, ◌∙◌, sym, ap, refl, ℕ, zero, suc, List, [], ◌∷◌, map, length, slice_get, Bool, true, false, ◌&&◌, nat_le, Option, None, Some}
+use Rattle.std.proofs.Common.{◌≡◌, ◌∙◌, sym, ap, refl, ℕ, zero, suc, List, [], ◌∷◌, map, length, slice_get, Bool, true, ◌&&◌, nat_le, Option, None, Some}
 use Rattle.std.specs.List.{list_all}
 use Rattle.std.proofs.lemmas.List.{length-map}
 use Rattle.std.proofs.lemmas.List.Folds.{list_all-map}
+use Rattle.std.proofs.lemmas.Bool.{and_parts}
 use Rattle.pads_expr.specs.declared.expr.Expr.{Expr}
 use Rattle.pads_dispatch.specs.declared.base.Base.{Base}
 use Rattle.pads_dispatch.specs.Labels.{labels_fit}
@@ -82,52 +83,43 @@ counts-Scan inner = ap counts_fit (sym (term.rolls-Scan inner)) ∙ counts-roll 
 pub counts-Seq : (s : Seq) → counts_fit (term.Seq s) ≡ (counts_fit s.elem && option_counts s.sep && option_counts s.stop)
 counts-Seq s = ap counts_fit (sym (term.rolls-Seq s)) ∙ counts-roll (Term-F.Seq s) ∙ of_seq-is s
 
-both-left : (a b : Bool) → (a && b) ≡ true → a ≡ true
-both-left true b h = refl
-both-left false b h = cc
-
-both-right : (a b : Bool) → (a && b) ≡ true → b ≡ true
-both-right true b h = h
-both-right false b h = cc
-
 -- a term that fits has parts that fit
 pub few-parts : (parts : List Part) → counts_fit (term.Struct parts) ≡ true → few parts ≡ true
-few-parts parts h = both-left _ _ (sym (counts-Struct parts) ∙ h)
+few-parts parts h = (and_parts _ _ (sym (counts-Struct parts) ∙ h)).0
 
 pub fit-parts : (parts : List Part) → counts_fit (term.Struct parts) ≡ true → list_all (λ part. counts_fit part.term) parts ≡ true
-fit-parts parts h = both-right (few parts) _ (sym (counts-Struct parts) ∙ h)
+fit-parts parts h = (and_parts (few parts) _ (sym (counts-Struct parts) ∙ h)).1
 
 pub few-arms : (arms : List Arm) → counts_fit (term.Alt arms) ≡ true → few arms ≡ true
-few-arms arms h = both-left _ _ (sym (counts-Alt arms) ∙ h)
+few-arms arms h = (and_parts _ _ (sym (counts-Alt arms) ∙ h)).0
 
 pub fit-arms : (arms : List Arm) → counts_fit (term.Alt arms) ≡ true → list_all (λ arm. counts_fit arm.term) arms ≡ true
-fit-arms arms h = both-right (few arms) _ (sym (counts-Alt arms) ∙ h)
+fit-arms arms h = (and_parts (few arms) _ (sym (counts-Alt arms) ∙ h)).1
 
 pub few-cases : (e : Expr) (cases : List Case) → counts_fit (term.Switch e cases) ≡ true → few cases ≡ true
-few-cases e cases h = both-left _ _ (sym (counts-Switch e cases) ∙ h)
+few-cases e cases h = (and_parts _ _ (sym (counts-Switch e cases) ∙ h)).0
 
 pub fit-cases : (e : Expr) (cases : List Case) → counts_fit (term.Switch e cases) ≡ true → list_all (λ case. counts_fit case.arm.term) cases ≡ true
-fit-cases e cases h = both-right (few cases) _ (sym (counts-Switch e cases) ∙ h)
+fit-cases e cases h = (and_parts (few cases) _ (sym (counts-Switch e cases) ∙ h)).1
 
 pub fit-elem : (s : Seq) → counts_fit (term.Seq s) ≡ true → counts_fit s.elem ≡ true
-fit-elem s h = both-left (counts_fit s.elem) (option_counts s.sep) (both-left (counts_fit s.elem && option_counts s.sep) (option_counts s.stop) (sym (counts-Seq s) ∙ h))
+fit-elem s h = (and_parts (counts_fit s.elem) (option_counts s.sep) (and_parts (counts_fit s.elem && option_counts s.sep) (option_counts s.stop) (sym (counts-Seq s) ∙ h)).0).0
 
 pub fit-sep : (s : Seq) → counts_fit (term.Seq s) ≡ true → option_counts s.sep ≡ true
-fit-sep s h = both-right (counts_fit s.elem) (option_counts s.sep) (both-left (counts_fit s.elem && option_counts s.sep) (option_counts s.stop) (sym (counts-Seq s) ∙ h))
+fit-sep s h = (and_parts (counts_fit s.elem) (option_counts s.sep) (and_parts (counts_fit s.elem && option_counts s.sep) (option_counts s.stop) (sym (counts-Seq s) ∙ h)).0).1
 
 pub fit-stop : (s : Seq) → counts_fit (term.Seq s) ≡ true → option_counts s.stop ≡ true
-fit-stop s h = both-right (counts_fit s.elem && option_counts s.sep) (option_counts s.stop) (sym (counts-Seq s) ∙ h)
+fit-stop s h = (and_parts (counts_fit s.elem && option_counts s.sep) (option_counts s.stop) (sym (counts-Seq s) ∙ h)).1
 
 -- what holds of all items holds of the one that is found
 pub all-there : {A : Type 0} (f : A → Bool) (xs : List A) (n : ℕ) (x : A) → list_all f xs ≡ true → slice_get xs n ≡ Some x → f x ≡ true
 all-there f [] n x all there = cc
-all-there f (y ∷ xs) zero x all there = let e : x ≡ y = cc in ap f e ∙ both-left (f y) (list_all f xs) all
-all-there f (y ∷ xs) (suc n) x all there = all-there f xs n x (both-right (f y) (list_all f xs) all) there
+all-there f (y ∷ xs) zero x all there = let e : x ≡ y = cc in ap f e ∙ (and_parts (f y) (list_all f xs) all).0
+all-there f (y ∷ xs) (suc n) x all there = all-there f xs n x (and_parts (f y) (list_all f xs) all).1 there
 
 pub fit-body : (decls : List Decl) (n : ℕ) (decl : Decl) → module_counts decls ≡ true → slice_get decls n ≡ Some decl → counts_fit decl.body ≡ true
 fit-body decls n decl fits there =
-    both-right (few decl.params) (counts_fit decl.body)
-    (all-there decl_counts decls n decl (both-right (few decls) (list_all decl_counts decls) fits) there)
+    (and_parts (few decl.params) (counts_fit decl.body) (all-there decl_counts decls n decl (and_parts (few decls) (list_all decl_counts decls) fits).1 there)).1
 
 pub counts-Unit : counts_fit term.Unit ≡ true
 counts-Unit = ap counts_fit (sym term.rolls-Unit) ∙ counts-roll Term-F.Unit

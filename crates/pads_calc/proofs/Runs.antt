@@ -1,7 +1,8 @@
 -- Readings that follow one another: what is kept of those so far, and what the rest adds.
-use Rattle.std.proofs.Common.{◌≡◌, ℕ, suc, ◌+◌, ◌-◌, ◌<◌, ◌≤◌, ◌∙◌, List, [], ◌∷◌, ◌++◌, map, length, drop, get_or, Option, None, Some, Bool, true, false, refl, sym, ap, arith, append_assoc}
+use Rattle.std.proofs.Common.{◌≡◌, ℕ, suc, ◌+◌, ◌-◌, ◌<◌, ◌≤◌, ◌∙◌, List, [], ◌∷◌, ◌++◌, map, length, drop, get_or, Option, None, Some, Bool, true, refl, sym, ap, arith, append_assoc}
 use Rattle.std.specs.List.{list_all}
 use Rattle.std.proofs.lemmas.List.Folds.{list_all_at}
+use Rattle.std.proofs.lemmas.Bool.{true_from_ne_false}
 use Rattle.pads_value.specs.declared.descriptor.Pd.{Pd}
 use Rattle.pads_value.specs.declared.value.Val.{Val}
 use Rattle.pads_value.specs.declared.value.Val.TheVariants as val
@@ -65,10 +66,6 @@ module _ (origin : ℕ) (bytes : List ℕ) (call : Caller) where
       ap (λ rest. in_turn (map (part_reader origin bytes call) rest) env place)
       (drop-next parts n part more ∙ ap (λ first. first ∷ drop (n + 1) parts) (sym here))
 
-not_false : (b : Bool) → (b ≡ false → ⊥) → b ≡ true
-not_false true h = refl
-not_false false h = absurd (h refl)
-
 -- what holds of all items holds of each
 pub all-at : {A : Type 0} (f : A → Bool) (xs : List A) (n : ℕ) (x : A) → list_all f xs ≡ true → n < length xs → x ≡ get_or xs n x → f x ≡ true
-all-at f xs n x all more here = not_false (f x) (λ bad. let none = list_all_at f xs n x more (sym (ap f here) ∙ bad) in cc)
+all-at f xs n x all more here = true_from_ne_false (f x) (λ bad. let none = list_all_at f xs n x more (sym (ap f here) ∙ bad) in cc)

@@ -38,3 +38,15 @@ pub most-there : {A : Type 0} (size : A → ℕ) (xs : List A) (n : ℕ) (x : A)
 most-there size [] n x there = cc
 most-there size (y ∷ xs) zero x there = let e : x ≡ y = cc in rw e (omega arith)
 most-there size (y ∷ xs) (suc n) x there = omega (arith, most-there size xs n x there)
+
+pub size-in_Part : (part : Part) → size-Term part.term < size-Part part
+size-in_Part part = grind (arith, the_lemmas)
+
+pub size-in_Arm : (arm : Arm) → size-Term arm.term < size-Arm arm
+size-in_Arm arm = grind (arith, the_lemmas)
+
+pub size-elem : (s : Seq) → size-Term s.elem < size-Seq s
+size-elem s = grind (arith, the_lemmas)
+
+pub size-sep : (s : Seq) (t : Term) → s.sep ≡ Some t → size-Term t < size-Seq s
+size-sep s t there = grind (arith, the_lemmas)

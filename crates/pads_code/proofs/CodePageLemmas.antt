@@ -1,7 +1,7 @@
 -- The two code pages undo each other, and the code's tables are the page: computed once over 256 places.
-use Rattle.std.proofs.Common.{◌≡◌, ℕ, zero, suc, ◌<◌, ◌≤◌, Bool, true, false, ◌&&◌, nat_eq, nat_lt, length, get_or, refl, sym, ap, ◌∙◌, arith, inl, inr}
+use Rattle.std.proofs.Common.{◌≡◌, ℕ, zero, suc, ◌<◌, ◌≤◌, Bool, true, ◌&&◌, nat_eq, nat_lt, length, get_or, refl, sym, ap, ◌∙◌, arith, inl, inr}
 use Rattle.std.specs.List.{list_all, position_or_len}
-use Rattle.std.proofs.lemmas.Bool.{cases_eq, cases_lt, ltb-true, ne_eqb, eqb-true}
+use Rattle.std.proofs.lemmas.Bool.{cases_eq, cases_lt, ltb-true, ne_eqb, eqb-true, and_parts}
 use Rattle.std.proofs.lemmas.List.{get_or_past, get_or_default}
 use Rattle.std.proofs.lemmas.List.Elements.{All-get_or}
 use Rattle.std.proofs.lemmas.List.Sums.{AllPass-from_list_all, position_or_len_is}
@@ -15,16 +15,11 @@ unfoldable same_below : (ℕ → ℕ) → (ℕ → ℕ) → ℕ → Bool
 same_below f g zero = true
 same_below f g (suc n) = nat_eq (f n) (g n) && same_below f g n
 
-both_of : (x y : Bool) → (x && y) ≡ true → (x ≡ true) × (y ≡ true)
-both_of true true h = (refl, refl)
-both_of true false h = cc
-both_of false y h = cc
-
 same_at : (f g : ℕ → ℕ) (n : ℕ) → same_below f g n ≡ true → (k : ℕ) → k < n → f k ≡ g k
 unfolding same_below
 same_at f g zero h k lt = absurd (omega arith)
 same_at f g (suc n) h k lt =
-    let both = both_of (nat_eq (f n) (g n)) (same_below f g n) h in
+    let both = and_parts (nat_eq (f n) (g n)) (same_below f g n) h in
     elim (cases_eq k n) [ inl same ↦ rw same (eqb-true _ _ both.0) | inr other ↦ same_at f g n both.1 k (omega arith) ]
 
 pub point-table : (b : ℕ) → b < 256 → get_or POINTS b 0 ≡ point Ebcdic b

@@ -1,25 +1,25 @@
 -- Runs of digits: their form, their number, and the decimal text of a number.
-use Rattle.std.proofs.Common.{◌≡◌, ℕ, zero, suc, ◌+◌, ◌*◌, ◌-◌, ◌<◌, ◌≤◌, ◌^◌, Bool, true, false, ◌&&◌, List, [], ◌∷◌, ◌++◌, length, replicate, refl, arith, rules}
+use Rattle.std.proofs.Common.{◌≡◌, ℕ, zero, suc, ◌+◌, ◌*◌, ◌-◌, ◌<◌, ◌≤◌, ◌^◌, Bool, true, false, cond, List, [], ◌∷◌, ◌++◌, length, replicate, Option, Some, None, refl, arith, rules}
 use Rattle.std.specs.Char.{is_ascii_digit}
 use Rattle.std.specs.List.{prefix_len, take_while, list_all, fold}
 use Rattle.std.specs.Fmt.{decimal}
 use Rattle.std.proofs.Math.Seq.{take-length}
-use Rattle.std.proofs.lemmas.Bool.{ne_eqb}
+use Rattle.std.proofs.lemmas.Bool.{ne_eqb, and_parts}
 use Rattle.std.proofs.lemmas.List.Sums.{take_while-cons}
 use Rattle.std.proofs.lemmas.Str.Parse.{IsDigitsTest, IsNumeralModel, numerals_by_fold, digits_value_short}
 use Rattle.std.proofs.lemmas.Fmt.{digits_decimal, digits_value-decimal, decimal_nonempty, length-decimal-le}
 use Rattle.pads_code.specs.Numerals.{is_numeral, number}
-
-pub both_true : (x y : Bool) → (x && y) ≡ true → (x ≡ true) × (y ≡ true)
-both_true true true h = (refl, refl)
-both_true true false h = cc
-both_true false y h = cc
 
 tells : IsDigitsTest (λ ds. list_all is_ascii_digit ds ≡ true)
 tells = search rules
 
 own : IsNumeralModel (λ ds. list_all is_ascii_digit ds ≡ true) number
 own = numerals_by_fold _ tells (λ n ds. fold (λ m d. m * 10 + (d - 48)) n ds) (search rules)
+
+-- a text that is spelled where a test lets it
+pub spelled_if : (b : Bool) (x s : List ℕ) → cond b (Some x) None ≡ Some s → (b ≡ true) × (s ≡ x)
+spelled_if true x s e = (refl, cc)
+spelled_if false x s e = cc
 
 -- a numeral has a digit, and digits alone
 pub numeral_parts : (ds : List ℕ) → is_numeral ds ≡ true → (0 < length ds) × (list_all is_ascii_digit ds ≡ true)
@@ -32,7 +32,7 @@ numeral_from (d ∷ ds) some all = rw (ne_eqb (suc (length ds)) 0 (λ e. omega a
 
 pub digits_run : (p : ℕ → Bool) (ds : List ℕ) → list_all p ds ≡ true → prefix_len p ds ≡ length ds
 digits_run p [] h = refl
-digits_run p (d ∷ ds) h = let both = both_true (p d) (list_all p ds) h in rw (both.0, digits_run p ds both.1) (omega arith)
+digits_run p (d ∷ ds) h = let both = and_parts (p d) (list_all p ds) h in rw (both.0, digits_run p ds both.1) (omega arith)
 
 pub whole_run : (p : ℕ → Bool) (ds : List ℕ) → list_all p ds ≡ true → take_while p ds ≡ ds
 whole_run p ds h = rw (digits_run p ds h) (take-length ds)

@@ -1,5 +1,5 @@
 -- How many names are in scope, by the parameters' and the others.
-use Rattle.std.proofs.Common.{◌≡◌, ◌∙◌, sym, ap, refl, ℕ, suc, ◌+◌, nat_lt, Bool, true, List, [], ◌∷◌, ◌++◌, length, not, add-zero, append-nil, arith}
+use Rattle.std.proofs.Common.{◌≡◌, ◌∙◌, sym, ap, refl, ℕ, ◌+◌, nat_lt, Bool, List, [], ◌∷◌, ◌++◌, length, not, add-zero, append-nil}
 use Rattle.std.specs.Prelude.{is_some}
 use Rattle.std.proofs.lemmas.List.{map-append}
 use Rattle.pads_ast.specs.declared.decl.DeclBody.{DeclBody}
@@ -9,6 +9,7 @@ use Rattle.pads_rules.specs.DeclRules.{scope_count, texts, one_if}
 use Rattle.pads_rules.specs.Trees.{is_empty, param_names, inner_names, branches_of}
 use Rattle.pads_counts.specs.Met.{met}
 use Rattle.pads_counts.specs.Counted.{beside_params, one_more}
+use Rattle.pads_declared.proofs.NumberLemmas.{first-less}
 
 pub scope-count : (d : DeclBody) → scope_count d ≡ length (met [] (texts (param_names d) ++ beside_params d)) + one_if (one_more d)
 unfolding met
@@ -25,10 +26,7 @@ scope-told d count more much counted one told =
     told ∙ ap (λ n. nat_lt 4096 (n + one_if more)) counted ∙ ap (λ b. nat_lt 4096 (length (met [] (texts (param_names d) ++ beside_params d)) + one_if b)) one
     ∙ ap (nat_lt 4096) (sym (scope-count d))
 
-above-zero : (n : ℕ) → nat_lt 0 (suc n) ≡ true
-above-zero n = grind arith
-
 -- there are some exactly where their number is above 0
 pub has-some : {X : Type 0} (xs : List X) → nat_lt 0 (length xs) ≡ not (is_empty xs)
 has-some [] = refl
-has-some (x ∷ xs) = above-zero (length xs)
+has-some (x ∷ xs) = first-less (length xs)

@@ -3,11 +3,11 @@ use Rattle.std.proofs.Common.{◌≡◌, ◌∙◌, sym, ap, refl, ℕ, ◌+◌,
 use Rattle.std.proofs.lemmas.List.{map-append, take_all}
 use Rattle.std.proofs.lemmas.Result.{on_ok_weaker}
 use Rattle.std.proofs.lemmas.List.Concat.{flat_map-append, flat_map_single}
-use Rattle.pads_pieces.proofs.Steps.{taken}
 use Rattle.pads_ast.specs.declared.name.Name.{Name}
 use Rattle.pads_rules.specs.DeclRules.{texts}
 use Rattle.pads_rules.specs.NameTokens.{Names, with_name, with_names}
 use Rattle.pads_counts.specs.Met.{met_name, met}
+use Rattle.pads_declared.proofs.Lists.{taken}
 
 with-append : (names xs ys : Names) → with_names names (xs ++ ys) ≡ with_names (with_names names xs) ys
 with-append names [] ys = refl

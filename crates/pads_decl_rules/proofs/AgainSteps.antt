@@ -4,7 +4,7 @@ use Rattle.std.specs.List.{list_any}
 use Rattle.pads_rules.specs.declared.fault.CheckFault.{CheckFault}
 use Rattle.pads_rules.specs.Faults.{when, again, lesser, least}
 use Rattle.pads_rules.proofs.Least.{lesser_assoc, least-append}
-use Rattle.pads_pieces.proofs.Steps.{left, taken}
+use Rattle.pads_declared.proofs.Lists.{taken, left}
 
 pub plain-step : {Y : Type 0} (same : Y → Y → Bool) (violation : Y → CheckFault) (xs : List Y) (i : ℕ) (x : Y) (best : Option CheckFault) → i < length xs → x ≡ get_or xs i x →
     lesser (lesser best (least (when (list_any (same x) (take i xs)) (violation x)))) (least (again same violation (take (i + 1) xs) (drop (i + 1) xs)))

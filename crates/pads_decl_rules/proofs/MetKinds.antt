@@ -5,10 +5,10 @@ use Rattle.std.proofs.lemmas.List.Folds.{list_any-append}
 use Rattle.pads_ast.specs.declared.decl.ArrayOption.{ArrayOption}
 use Rattle.pads_ast.specs.declared.decl.ArrayOption.TheVariants as array_option
 use Rattle.pads_rules.specs.DeclRules.{same_option}
-use Rattle.pads_pieces.proofs.Steps.{taken}
 use Rattle.pads_decl_rules.specs.declared.again.Kinds.{Kinds}
 use Rattle.pads_decl_rules.specs.Kinds.{has_kind, with_kind}
 use Rattle.pads_pieces.proofs.MetNames.{or-false}
+use Rattle.pads_declared.proofs.Lists.{taken}
 
 -- Some kinds are those of some options, and no others.
 abbrev pub HasKinds : Kinds → List ArrayOption → Type 0

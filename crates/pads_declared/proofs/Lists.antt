@@ -1,6 +1,6 @@
 -- Steps of loops over the parts of a tree.
-use Rattle.std.proofs.Common.{◌≡◌, ◌∙◌, sym, ap, ℕ, ◌+◌, ◌<◌, List, [], ◌∷◌, ◌++◌, length, take, drop, map, flat_map, get_or, append_assoc}
-use Rattle.std.proofs.lemmas.List.{take_more, map-append, append-nil, at_drop_more}
+use Rattle.std.proofs.Common.{◌≡◌, ◌∙◌, sym, ap, refl, ℕ, ◌+◌, ◌<◌, List, [], ◌∷◌, ◌++◌, length, take, drop, map, flat_map, get_or, append_assoc}
+use Rattle.std.proofs.lemmas.List.{take_more, drop_more, map-append, append-nil, at_drop_more}
 use Rattle.std.proofs.lemmas.Simd.{map-map}
 use Rattle.std.proofs.lemmas.List.Concat.{flat_map-append}
 use Rattle.pads_ast.specs.declared.decl.Decl.{Decl}
@@ -14,6 +14,25 @@ use Rattle.pads_rules.specs.Trees.{named_part}
 -- one element more
 pub taken : {X : Type 0} (xs : List X) (i : ℕ) (x : X) → i < length xs → x ≡ get_or xs i x → take (i + 1) xs ≡ take i xs ++ x ∷ []
 taken xs i x there is = take_more xs i x there ∙ ap (λ y. take i xs ++ y ∷ []) (sym is)
+
+pub left : {X : Type 0} (xs : List X) (i : ℕ) (x : X) → i < length xs → x ≡ get_or xs i x → drop i xs ≡ x ∷ drop (i + 1) xs
+left xs i x there is = drop_more xs i x there ∙ ap (λ y. y ∷ drop (i + 1) xs) (sym is)
+
+-- the last item off again
+abbrev front : {X : Type 0} → List X → List X
+front [] = []
+front (x ∷ []) = []
+front (x ∷ y ∷ xs) = x ∷ front (y ∷ xs)
+
+front-last : {X : Type 0} (xs : List X) (x : X) → front (xs ++ x ∷ []) ≡ xs
+front-last [] x = refl
+front-last (y ∷ []) x = refl
+front-last (y ∷ z ∷ xs) x = ap (λ zs. y ∷ zs) (front-last (z ∷ xs) x)
+
+pub same-front : {X : Type 0} (xs ys : List X) (x y : X) → xs ++ x ∷ [] ≡ ys ++ y ∷ [] → ys ≡ xs
+same-front xs ys x y e = sym (front-last ys y) ∙ sym (ap front e) ∙ front-last xs x
+
+pub ruleset popped = (same-front)
 
 pub names-more : (types : List Declared) (names : List Named) (parts : List Part) (i : ℕ) (p : Part) → i < length parts → p ≡ get_or parts i p →
     names_after types (names_after_all types names (take i parts)) p ≡ names_after_all types names (take (i + 1) parts)

@@ -3,13 +3,13 @@ use Rattle.std.proofs.Common.{◌≡◌, ◌∙◌, sym, ap, refl, subst, ℕ, z
 use Rattle.std.specs.Map.{lookup}
 use Rattle.std.specs.List.{position_or_len, list_any}
 use Rattle.std.proofs.lemmas.List.{take_all, length-take-le}
-use Rattle.std.proofs.lemmas.Slice.Eq.{bytes_eq-Decides}
 use Rattle.std.specs.declared.alloc.Global.{Global}
 use Rattle.std.specs.declared.vec.Vec.{Vec}
 use Rattle.indexmap.specs.IndexMap.{get, insert_entry}
 use Rattle.indexmap.proofs.CallerLemmas.{insert_entry-new}
 use lib.Pointwise.{pointwise}
 use Rattle.pads_rules.specs.Texts.{same_text}
+use Rattle.pads_rules.proofs.SameTexts.{same-is, is-same}
 use Rattle.pads_declared.specs.declared.first_numbers.FirstNumbers.{FirstNumbers}
 use Rattle.pads_declared.specs.Numbered.{number_in, number_or, is_text, HasNone, IsNumbered, NumbersThing, InPairs}
 use Rattle.pads_declared.proofs.Lists.{taken}
@@ -58,14 +58,6 @@ position-push p (y ∷ ys) x = by (p y) refl (position-push p ys x)
     by false is rest =
         position-first p y (ys ++ x ∷ []) false is ∙ ap (next false) rest ∙ later-or (position p ys) (p x) (length ys)
         ∙ sym (ap (λ o. number_or o (p x) (suc (length ys))) (position-first p y ys false is))
-
-same-is : (a b : List ℕ) → same_text a b ≡ true → a ≡ b
-unfolding same_text
-same-is a b is = (bytes_eq-Decides a b).0 is
-
-is-same : (a b : List ℕ) → a ≡ b → same_text a b ≡ true
-unfolding same_text
-is-same a b is = (bytes_eq-Decides a b).1 is
 
 swapped-by : (a b : List ℕ) (s t : Bool) → same_text a b ≡ s → same_text b a ≡ t → s ≡ t
 swapped-by a b true true x y = refl

@@ -2,6 +2,7 @@
 use Rattle.std.proofs.Common.{zero, suc, nat_lt, ◌≡◌, ◌∙◌, ℕ, ℤ, pos, negsuc, ◌≤ℤ◌, ◌<◌, ◌≤◌, ◌+◌, List, length, take, replicate, Option, Some, None, refl, sym, ap, arith, length-append, ◌++◌, true, nat_eq, not, ◌&&◌}
 use Rattle.std.specs.Option.{IsSomeAnd, option_and_then}
 use Rattle.std.proofs.lemmas.Int.{ints}
+use Rattle.std.proofs.lemmas.Bool.{and_parts}
 use Rattle.pads_value.specs.declared.value.Val.{Val}
 use Rattle.pads_value.specs.declared.value.Val.TheVariants as val
 use Rattle.pads_value.specs.declared.reading.Read.{Read}
@@ -9,7 +10,6 @@ use Rattle.pads_value.specs.declared.reading.Read.TheVariants.{Good, Soft, Hard}
 use Rattle.pads_value.specs.declared.cause.Cause.TheVariants as cause
 use Rattle.pads_code.specs.declared.Coding.{Coding}
 use Rattle.pads_code.specs.CodePage.{points_of}
-use Rattle.pads_code.proofs.NumeralLemmas.{both_true}
 use Rattle.pads_code.proofs.TextLemmas.{length-points}
 use Rattle.pads_int.specs.declared.kind.Kind.{Kind}
 use Rattle.pads_int.specs.Readings.{blank, int_reading, int_fw_reading}
@@ -46,7 +46,7 @@ some_digit (suc n) h = omega arith
 has_digits : (kind : Kind) (coding : Coding) (width v : ℤ) (bytes : List ℕ) → SpellsIntFw kind coding width v bytes → 0 < length bytes
 has_digits kind coding width v bytes spells =
     let text = spells.integer in
-    let some : 0 < length text.digits = some_digit (length text.digits) (both_true _ _ text.numeral).0 in
+    let some : 0 < length text.digits = some_digit (length text.digits) (and_parts _ _ text.numeral).0 in
     omega (arith, some, length-points coding bytes, ap length spells.parts, length-append (replicate spells.blanks blank) spells.text, ap length text.parts, length-append text.sign text.digits)
 
 fixed_width : (coding : Coding) (width : ℤ) (bytes : List ℕ) (n : ℕ) (v : List ℕ) → fixed_reading coding width bytes ≡ Good n v → width ≡ pos n

@@ -2,14 +2,11 @@
 use Rattle.std.proofs.Common.{◌≡◌, ℕ, Bool, true, false, ◌&&◌, not, cond, List, [], ◌∷◌, Option, Some, None, refl, sym, ap, ◌∙◌, nat_eq, length}
 use Rattle.std.specs.Option.{unwrap_or}
 use Rattle.std.specs.List.{list_all}
+use Rattle.std.proofs.Math.Bool.{and-false}
 
 pub has : (well_formed inside : Bool) → unwrap_or (cond well_formed (Some inside) None) false ≡ (well_formed && inside)
 has true inside = refl
 has false inside = refl
-
-and-false : (b : Bool) → (b && false) ≡ false
-and-false true = refl
-and-false false = refl
 
 pub all_has : (p : ℕ → Bool) (well_formed : Bool) (text : List ℕ) → (not (nat_eq (length text) 0) && list_all (λ x. well_formed && p x) text) ≡ (well_formed && (not (nat_eq (length text) 0) && list_all p text))
 all_has p true text = refl

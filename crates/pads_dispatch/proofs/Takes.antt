@@ -17,7 +17,6 @@ use Rattle.pads_code.specs.declared.Coding.{Coding}
 use Rattle.pads_code.specs.CodePage.{point, points_of}
 use Rattle.pads_code.specs.Numerals.{is_numeral, number}
 use Rattle.pads_code.proofs.TextLemmas.{length-points}
-use Rattle.pads_code.proofs.NumeralLemmas.{both_true}
 use Rattle.pads_int.specs.declared.kind.Kind.{Kind}
 use Rattle.pads_int.specs.Kinds.{in_range}
 use Rattle.pads_int.specs.Readings.{sign_size, is_negative, signed_number, ranged, run_reading, field_reading, int_reading, int_fw_reading}

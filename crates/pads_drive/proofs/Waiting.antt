@@ -1,10 +1,11 @@
 -- What a framer owes that wants more bytes.
-use Rattle.std.proofs.Common.{◌≡◌, ℕ, Bool, true, false, nat_lt, List, [], ◌∷◌, length, refl, ap, ◌∙◌, append-nil, arith, sym}
+use Rattle.std.proofs.Common.{◌≡◌, ℕ, Bool, true, false, nat_lt, List, [], ◌∷◌, length, refl, ap, ◌∙◌, arith, sym}
 use borrow.Author.Tests.{ltb-false}
 use Rattle.pads_frame.specs.declared.discipline.Discipline.{Discipline}
 use Rattle.pads_frame.specs.Cutting.{cuts}
 use Rattle.pads_frame.specs.Next.{Waits}
-use Rattle.pads_frame.specs.State.{State, MayCome, closes, closes_in, rest, text_of}
+use Rattle.pads_frame.specs.State.{State, MayCome, closes_in, rest}
+use Rattle.pads_frame.proofs.Passing.{none_owed}
 use Rattle.pads_drive.specs.Driving.{IsWaiting}
 
 some-closes : (b : ℕ) (bytes : List ℕ) → nat_lt 0 (length (b ∷ bytes)) ≡ false → ⊥
@@ -16,12 +17,9 @@ none-closes d max ended at [] h = refl
 none-closes d max true at (b ∷ bytes) h = absurd (some-closes b bytes h)
 none-closes d max false at (b ∷ bytes) h = rw h refl
 
-pub none-owed : (s : State) → closes s ≡ false → rest s.ended s [] ≡ []
-none-owed s h = rw append-nil (none-closes s.discipline s.max s.ended s.first (text_of s) h)
-
 pub waiting : (old new : State) → Waits old new → IsWaiting new
 waiting old new w = record {
-  none = w.owed new.ended [] ∙ ap (λ ended. rest ended old []) w.input.ended ∙ none-owed old w.none;
+  none = w.owed new.ended [] ∙ ap (λ ended. rest ended old []) w.input.ended ∙ none_owed old w.none;
   free = w.free;
 }
 

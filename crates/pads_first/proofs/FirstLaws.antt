@@ -14,12 +14,13 @@ use Rattle.pads_rules.specs.Resolving.{declared}
 use Rattle.pads_rules.specs.Violations.{violations}
 use Rattle.pads_rules.proofs.Least.{each-map}
 use Rattle.pads_parts.proofs.PartLaws.{least-violations}
-use Rattle.pads_pieces.proofs.Steps.{taken, enumerated-step, enumerated-end}
+use Rattle.pads_pieces.proofs.Steps.{enumerated-step, enumerated-end}
 use Rattle.pads_counts.specs.Met.{met}
 use Rattle.pads_counts.proofs.MetLaws.{met-append}
 use Rattle.pads_sites.specs.Joined as joined
 use Rattle.pads_sites.proofs.SiteLemmas.{told-all}
 use Rattle.pads_first.specs.First.{faults_at, site_told, decls_told, record_told, names_up_to}
+use Rattle.pads_declared.proofs.Lists.{taken}
 
 -- A declaration where it stands, by its number.
 abbrev pub site_of : List Decl → ℕ × Decl → Site

@@ -1,5 +1,6 @@
 -- Two sets of kinds are apart where a test over all kinds says so.
 use Rattle.std.proofs.Common.{◌≡◌, Bool, true, false, ◌&&◌, ◌||◌, not, List, [], ◌∷◌, refl}
+use Rattle.std.proofs.lemmas.Bool.{and_parts}
 use Rattle.pads_grammar.specs.declared.kind.Kind.{Kind}
 use Rattle.pads_grammar.specs.declared.kind.Kind.TheVariants as kind
 use Rattle.pads_grammar.specs.Kinds.{all_kinds}
@@ -13,17 +14,9 @@ abbrev Holds : (Kind → Bool) → List Kind → Type 0
 Holds f [] = Unit {0}
 Holds f (k ∷ ks) = (f k ≡ true) × Holds f ks
 
-and_left : (a b : Bool) → (a && b) ≡ true → a ≡ true
-and_left true b h = refl
-and_left false b h = h
-
-and_right : (a b : Bool) → (a && b) ≡ true → b ≡ true
-and_right true b h = h
-and_right false b h = cc
-
 holds : (f : Kind → Bool) (ks : List Kind) → all_of f ks ≡ true → Holds f ks
 holds f [] h = tt
-holds f (k ∷ ks) h = (and_left (f k) (all_of f ks) h, holds f ks (and_right (f k) (all_of f ks) h))
+holds f (k ∷ ks) h = ((and_parts (f k) (all_of f ks) h).0, holds f ks (and_parts (f k) (all_of f ks) h).1)
 
 -- Each kind is one of all kinds.
 each : (f : Kind → Bool) → Holds f all_kinds → (j : Kind) → f j ≡ true

@@ -1,10 +1,11 @@
 -- Each grammar that one token decides: its reader reads what it derives and nothing else.
 use Rattle.std.proofs.Common.{◌≡◌, Bool, true, false, ◌||◌, ◌&&◌, None, [], ◌∷◌, ◌++◌, ◌⊎◌, inl, inr, refl, sym, subst}
+use Rattle.std.proofs.lemmas.Bool.{or_left, or_right}
 use Rattle.pads_grammar.specs.declared.kind.Kind.{Kind}
 use Rattle.pads_grammar.specs.Kinds.{Tokens, is, peek, sample, kind_of_sample}
 use Rattle.pads_grammar.specs.Grammar.{Grammar, token, pair, apply, either, optional, many, rest_of, Rule, Outcome, Derives, nullable, begins, ahead, reads, Decides}
 use Rattle.pads_grammar.specs.Laws.{Lawful, Inhabited}
-use Rattle.pads_grammar.proofs.Parts.{or-left, or-right, or-only, lawful-token}
+use Rattle.pads_grammar.proofs.Parts.{or-only, lawful-token}
 use Rattle.pads_grammar.proofs.Compositions.{NotEmpty, lawful-pair, lawful-apply, lawful-either, lawful-optional}
 use Rattle.pads_grammar.proofs.Repetitions.{lawful-many}
 use Rattle.pads_grammar.proofs.Separated.{lawful-rest}
@@ -78,7 +79,7 @@ marks : {A : Type 0} (g : Grammar A) (F : Kind → Bool) → nullable g ≡ fals
 marks g F n j h = or-only (nullable g) (begins g j) (F j) n h
 
 pub lawful : {A : Type 0} (g : Grammar A) (F : Kind → Bool) → Decides g F → Lawful (reads g) (Derives g) (ahead g F) F
-lawful (token k take) F d = lawful-token k take d (ahead (token k take) F) F (inhabited (token k take)) (λ j h. or-left (is k j) false h)
+lawful (token k take) F d = lawful-token k take d (ahead (token k take) F) F (inhabited (token k take)) (λ j h. or_left (is k j) false h)
 lawful (pair g h) F d =
     let first = wider (reads g) (Derives g) (ahead g (ahead h F)) (ahead (pair g h) F) (ahead h F)
     (λ j e. pair_ahead (begins g j) (nullable g) (begins h j) (nullable h) (F j) e) (lawful g (ahead h F) d.0) in
@@ -90,7 +91,7 @@ lawful (either g h) F d = lawful-either (begins g) (reads g) (Derives g) (reads 
     (λ j e. right_ahead (begins g j) (nullable g) (begins h j) (nullable h) (F j) e)
 lawful (optional g) F d = lawful-optional (begins g) (reads g) (Derives g) (ahead g F) (ahead (optional g) F) F
     (lawful g F d.0) (marks g F d.1) d.2
-    (λ j e. or-left (begins g j) (F j) (marks g F d.1 j e)) (λ j e. or-right (begins g j) (F j) e)
+    (λ j e. or_left (begins g j) (F j) (marks g F d.1 j e)) (λ j e. or_right (begins g j) (F j) e)
 lawful (many g) F d =
     let more = λ (j : Kind). begins g j || F j in
     lawful-many (begins g) (reads g) (Derives g) d.3 (not_empty g d.1) (ahead g more) F (lawful g more d.0) (marks g more d.1) d.2 (ahead (many g) F) (λ j e. e)

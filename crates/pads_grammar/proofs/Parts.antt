@@ -9,14 +9,6 @@ use Rattle.pads_grammar.specs.Kinds.{Tokens, is, peek, kind_of}
 use Rattle.pads_grammar.specs.Grammar.{IsToken, read_token}
 use Rattle.pads_grammar.specs.Laws.{Told, Lawful, Inhabited}
 
-pub or-left : (a b : Bool) → a ≡ true → (a || b) ≡ true
-or-left true b h = refl
-or-left false b h = cc
-
-pub or-right : (a b : Bool) → b ≡ true → (a || b) ≡ true
-or-right true b h = refl
-or-right false b h = h
-
 pub or-cases : (a b : Bool) → (a || b) ≡ true → (a ≡ true) ⊎ (b ≡ true)
 or-cases true b h = inl refl
 or-cases false b h = inr h

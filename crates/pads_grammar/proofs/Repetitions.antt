@@ -1,11 +1,12 @@
 -- The law of what may come any number of times.
 use Rattle.std.proofs.Common.{◌≡◌, ℕ, zero, suc, ◌≤◌, Bool, true, false, ◌||◌, Ok, Err, List, [], ◌∷◌, ◌++◌, length, cond, refl, sym, ◌∙◌, ap, subst, append_assoc, length-append, arith}
+use Rattle.std.proofs.lemmas.Bool.{or_left, or_right}
 use Rattle.pads_grammar.specs.declared.kind.Kind.{Kind}
 use Rattle.pads_grammar.specs.declared.kind.Kind.TheVariants as kind
 use Rattle.pads_grammar.specs.Kinds.{Tokens, peek}
 use Rattle.pads_grammar.specs.Grammar.{Rule, Many, Outcome, then_read, read_many, Apart}
 use Rattle.pads_grammar.specs.Laws.{Found, Told, Lawful}
-use Rattle.pads_grammar.proofs.Parts.{or-left, or-right, next_peek}
+use Rattle.pads_grammar.proofs.Parts.{next_peek}
 use Rattle.pads_grammar.proofs.Compositions.{NotEmpty}
 
 pub longer : (front rest : Tokens) (n : ℕ) → (front ≡ [] → ⊥) → length (front ++ rest) ≤ suc n → length rest ≤ n
@@ -141,11 +142,11 @@ module _ {A : Type 0} (goes : Kind → Bool) (p : Tokens → Outcome A) (P : Rul
 
     module _ (I F : Kind → Bool) (law : Lawful p P I (λ j. goes j || F j)) (marks : (j : Kind) → I j ≡ true → goes j ≡ true) (apart : Apart goes F) where
       many_starts : (xs : List A) (front rest : Tokens) → Many P xs front → F (peek rest) ≡ true → (goes (peek (front ++ rest)) || F (peek (front ++ rest))) ≡ true
-      many_starts [] front rest d f = rw d (or-right (goes (peek rest)) (F (peek rest)) f)
+      many_starts [] front rest d f = rw d (or_right (goes (peek rest)) (F (peek rest)) f)
       many_starts (x ∷ xs) front rest d f =
           let at : (d.front ++ d.back) ++ rest ≡ d.front ++ (d.back ++ rest) = append_assoc d.front d.back rest in
           let g : goes (peek (d.front ++ (d.back ++ rest))) ≡ true = marks (peek (d.front ++ (d.back ++ rest))) (law.starts x d.front (d.back ++ rest) d.first (many_starts xs d.back rest d.second f)) in
-          rw d.whole (rw at (or-left (goes (peek (d.front ++ (d.back ++ rest)))) (F (peek (d.front ++ (d.back ++ rest)))) g))
+          rw d.whole (rw at (or_left (goes (peek (d.front ++ (d.back ++ rest)))) (F (peek (d.front ++ (d.back ++ rest)))) g))
 
       last : (j : Kind) → F j ≡ true → (b : Bool) → goes j ≡ b → goes j ≡ false
       last j f true e = absurd (falsum (F j) f (apart j e))

@@ -1,12 +1,13 @@
 -- The law of what may come any number of times behind a separator that may also stand last.
 use Rattle.std.proofs.Common.{◌≡◌, ℕ, zero, suc, ◌≤◌, Bool, true, false, ◌||◌, Ok, Err, List, [], ◌∷◌, ◌++◌, length, cond, inl, inr, refl, sym, ◌∙◌, ap, subst, append_assoc, arith}
+use Rattle.std.proofs.lemmas.Bool.{or_left, or_right}
 use Rattle.pads_lex.specs.declared.token.Token.{Token}
 use Rattle.pads_grammar.specs.declared.kind.Kind.{Kind}
 use Rattle.pads_grammar.specs.declared.kind.Kind.TheVariants as kind
 use Rattle.pads_grammar.specs.Kinds.{Tokens, is, peek, kind_of}
 use Rattle.pads_grammar.specs.Grammar.{Rule, IsToken, Rest, Outcome, then_read, read_rest, Apart}
 use Rattle.pads_grammar.specs.Laws.{Found, Told, Lawful}
-use Rattle.pads_grammar.proofs.Parts.{or-left, or-right, next_peek, is-same, same-is}
+use Rattle.pads_grammar.proofs.Parts.{next_peek, is-same, same-is}
 use Rattle.pads_grammar.proofs.Repetitions.{falsum, none_left}
 
 less : (front rest : Tokens) (n : ℕ) → length (front ++ rest) ≤ n → length rest ≤ n
@@ -157,11 +158,11 @@ module _ {A : Type 0} (k : Kind) (goes : Kind → Bool) (p : Tokens → Outcome 
     after_token front rest d = rw d.1.alone (same-is k (kind_of d.1.token.kind) (sym d.1.kind))
 
     rest_starts : (xs : List A) (front rest : Tokens) → Rest k P xs front → F (peek rest) ≡ true → (is k (peek (front ++ rest)) || F (peek (front ++ rest))) ≡ true
-    rest_starts [] front rest (inl d) f = rw d (or-right (is k (peek rest)) (F (peek rest)) f)
-    rest_starts [] front rest (inr d) f = or-left (is k (peek (front ++ rest))) (F (peek (front ++ rest))) (after_token front rest d)
+    rest_starts [] front rest (inl d) f = rw d (or_right (is k (peek rest)) (F (peek rest)) f)
+    rest_starts [] front rest (inr d) f = or_left (is k (peek (front ++ rest))) (F (peek (front ++ rest))) (after_token front rest d)
     rest_starts (x ∷ xs) front rest d f =
         let at : front ++ rest ≡ d.front ++ (d.back ++ rest) = rw d.whole (append_assoc d.front d.back rest) in
-        rw at (or-left (is k (peek (d.front ++ (d.back ++ rest)))) (F (peek (d.front ++ (d.back ++ rest)))) (after_token d.front (d.back ++ rest) d.first))
+        rw at (or_left (is k (peek (d.front ++ (d.back ++ rest)))) (F (peek (d.front ++ (d.back ++ rest)))) (after_token d.front (d.back ++ rest) d.first))
 
     last : (j : Kind) → F j ≡ true → (b : Bool) → goes j ≡ b → goes j ≡ false
     last j f true e = absurd (falsum (F j) f (apart j e))

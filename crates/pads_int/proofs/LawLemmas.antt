@@ -1,23 +1,23 @@
 -- Integers read what they spell: what is read is spelled so and has a canonical spelling that is no longer,
 -- and a canonical spelling reads back whole.
-use Rattle.std.proofs.Common.{◌≡◌, ℕ, ◌≤◌, ◌&&◌, Bool, true, false, ℤ, pos, negsuc, List, length, take, map, Some, None, refl, sym, ap, ◌∙◌, arith, cond, not, length-take-le, length-append, replicate, ◌<◌, nat_eq, nat_le, nat_lt}
+use Rattle.std.proofs.Common.{◌≡◌, ℕ, ◌≤◌, ◌&&◌, true, false, ℤ, pos, negsuc, List, length, take, map, Some, refl, sym, ap, ◌∙◌, arith, cond, length-take-le, length-append, replicate, ◌<◌, nat_eq, nat_le, nat_lt}
 use Rattle.std.specs.Option.{IsSomeAnd}
 use Rattle.std.specs.Int.RustNames.{unsigned_abs}
 use Rattle.std.specs.Fmt.{signed_decimal}
 use Rattle.std.proofs.lemmas.List.{length-map}
 use Rattle.std.proofs.Math.Seq.{take-length}
-use Rattle.std.proofs.lemmas.Bool.{ne_eqb, eqb-false, ltb-false, le-ltb, le-leb, leb-true}
+use Rattle.std.proofs.lemmas.Bool.{ne_eqb, eqb-false, ltb-false, le-ltb, le-leb, leb-true, and_parts, not-true}
 use Rattle.pads_value.specs.declared.cause.Cause.TheVariants as cause
 use Rattle.pads_value.specs.declared.reading.Read.TheVariants.{Good, Hard}
 use Rattle.pads_code.specs.declared.Coding.{Coding}
 use Rattle.pads_code.specs.CodePage.{byte_of, points_of}
 use Rattle.pads_code.proofs.TextLemmas.{points-bytes, length-points, points-take}
+use Rattle.pads_code.proofs.NumeralLemmas.{spelled_if}
 use Rattle.pads_int.specs.declared.kind.Kind.{Kind}
 use Rattle.pads_int.specs.Kinds.{in_range}
 use Rattle.pads_int.specs.Readings.{blank, field_reading, int_reading, int_fw_reading}
 use Rattle.pads_int.specs.Spellings.{int_spelling, int_fw_spelling, signed_padded, is_field_width, widest}
 use Rattle.pads_int.specs.Texts.{SpellsInt, SpellsIntFw}
-use Rattle.pads_code.proofs.NumeralLemmas.{both_true}
 use Rattle.pads_int.proofs.TextLemmas.{good_not_hard, read_is_text, text_is_read, field_is_read, read_is_field}
 use Rattle.pads_int.proofs.CanonicalLemmas.{plain_text, padded_text, length-padded, none_is_shorter}
 
@@ -40,10 +40,6 @@ unfolding int_reading
 int_canonical kind coding bytes n v e =
     let read = read_is_text kind (points_of coding bytes) n v e in
     spelled_length kind coding v read.text.ranged n (omega (arith, none_is_shorter kind v (take n (points_of coding bytes)) read.text, length-take-le n (points_of coding bytes) read.within))
-
-spelled_if : (b : Bool) (x s : List ℕ) → cond b (Some x) None ≡ Some s → (b ≡ true) × (s ≡ x)
-spelled_if true x s e = (refl, cc)
-spelled_if false x s e = cc
 
 pub int_spells : (kind : Kind) (coding : Coding) (v : ℤ) (s : List ℕ) → int_spelling kind coding v ≡ Some s → SpellsInt kind coding v s
 unfolding int_spelling
@@ -117,14 +113,10 @@ int_fw_canonical kind coding width bytes n v e narrow =
     omega (arith, none_is_shorter kind v t.text t.integer, ap length t.parts, length-append (replicate t.blanks blank) t.text, field_size coding f.size bytes f.there) in
     fitting kind coding width f.size n v f.is f.some (omega arith) (omega arith) t.integer.ranged fits
 
-not_true : (b : Bool) → not b ≡ true → b ≡ false
-not_true true h = cc
-not_true false h = refl
-
 -- a field that is spelled has a size, from 1
 pub field_width : (width : ℤ) → is_field_width width ≡ true → (width ≡ pos (unsigned_abs width)) × (0 < unsigned_abs width)
 field_width (negsuc w) h = cc
-field_width (pos w) h = (refl, ltb-false w 1 (not_true (nat_lt w 1) (both_true _ _ h).0))
+field_width (pos w) h = (refl, ltb-false w 1 (not-true (nat_lt w 1) (and_parts _ _ h).0))
 
 pub int_fw_spells : (kind : Kind) (coding : Coding) (width v : ℤ) (s : List ℕ) → int_fw_spelling kind coding width v ≡ Some s → SpellsIntFw kind coding width v s
 unfolding int_fw_spelling
@@ -132,8 +124,8 @@ int_fw_spells kind coding width v s e =
     let size = unsigned_abs width in
     let room = nat_le (length (signed_decimal v)) size in
     let parts = spelled_if (is_field_width width && (in_range kind v && room)) (map (byte_of coding) (signed_padded size v)) s e in
-    let field = both_true (is_field_width width) (in_range kind v && room) parts.0 in
-    let fits = both_true (in_range kind v) room field.1 in
+    let field = and_parts (is_field_width width) (in_range kind v && room) parts.0 in
+    let fits = and_parts (in_range kind v) room field.1 in
     let long = length-padded size v (leb-true _ _ fits.1) in
     record {
       fills = (field_width width field.0).0 ∙ ap pos (sym (ap length parts.1 ∙ length-map (signed_padded size v) (byte_of coding) ∙ long));
@@ -162,7 +154,7 @@ field_some kind coding width v s e =
     let size = unsigned_abs width in
     let test = in_range kind v && nat_le (length (signed_decimal v)) size in
     let parts = spelled_if (is_field_width width && test) (map (byte_of coding) (signed_padded size v)) s e in
-    (field_width width (both_true (is_field_width width) test parts.0).0).1
+    (field_width width (and_parts (is_field_width width) test parts.0).0).1
 
 pub int_fw_canonical_reads_back : (kind : Kind) (coding : Coding) (width v : ℤ) (s : List ℕ) → int_fw_spelling kind coding width v ≡ Some s → int_fw_reading kind coding width s ≡ Good (length s) v
 int_fw_canonical_reads_back kind coding width v s e =

@@ -1,29 +1,27 @@
 -- A text of an integer, whatever its sign and zeros, is read whole; and what is read is such a text.
-use Rattle.std.proofs.Common.{◌≡◌, ℕ, zero, suc, ◌+◌, ◌<◌, ◌≤◌, Bool, true, false, ◌&&◌, ℤ, List, [], ◌∷◌, ◌++◌, length, take, drop, replicate, refl, sym, arith, nat_eq, cond, length-append, length-drop}
+use Rattle.std.proofs.Common.{◌≡◌, ℕ, zero, suc, ◌+◌, ◌<◌, ◌≤◌, Bool, true, false, ℤ, List, [], ◌∷◌, ◌++◌, length, take, drop, replicate, refl, sym, arith, nat_eq, cond, length-append, length-drop}
 use Rattle.std.specs.Char.{is_ascii_digit}
 use Rattle.std.specs.List.{prefix_len, take_while}
 use Rattle.std.proofs.Math.Seq.{take-add, drop-append_seam}
 use Rattle.std.proofs.lemmas.List.{take-append-drop}
 use Rattle.std.proofs.lemmas.List.Folds.{length-prefix_len}
 use Rattle.std.proofs.lemmas.List.Sums.{prefix_len-le-length}
-use Rattle.std.proofs.lemmas.Bool.{ne_eqb, eqb-true, eqb-false, leb-true}
+use Rattle.std.proofs.lemmas.Bool.{ne_eqb, eqb-true, eqb-false, leb-true, and_parts}
+use Rattle.std.proofs.Math.Bool.{and-false}
 use Rattle.pads_value.specs.declared.reading.Read.{Read}
 use Rattle.pads_value.specs.declared.reading.Read.TheVariants.{Good, Soft, Hard}
 use Rattle.pads_value.specs.declared.cause.Cause.{Cause}
 use Rattle.pads_value.specs.declared.cause.Cause.TheVariants as cause
+use Rattle.pads_value.proofs.ReadLemmas.{good_in_range}
 use Rattle.pads_int.specs.declared.kind.Kind.{Kind}
 use Rattle.pads_int.specs.Kinds.{is_signed, in_range}
 use Rattle.pads_code.specs.Numerals.{is_numeral, number}
 use Rattle.pads_int.specs.Readings.{plus, minus, blank, sign_size, is_negative, signed_number, ranged, run_reading, field_reading}
 use Rattle.pads_int.specs.Texts.{IsSign, IsIntegerText}
-use Rattle.pads_code.proofs.NumeralLemmas.{both_true, numeral_parts, numeral_from, whole_run, run_passes}
-
-and_false : (b : Bool) → (b && false) ≡ false
-and_false true = refl
-and_false false = refl
+use Rattle.pads_code.proofs.NumeralLemmas.{numeral_parts, numeral_from, whole_run, run_passes}
 
 digit_from : (d : ℕ) → is_ascii_digit d ≡ true → 48 ≤ d
-digit_from d h = leb-true 48 d (both_true _ _ h).0
+digit_from d h = leb-true 48 d (and_parts _ _ h).0
 
 -- the sign in front of a numeral is told by its form
 pub record Signed (kind : Kind) (negative : Bool) (size : ℕ) (points : List ℕ) : Type 0 where
@@ -35,14 +33,14 @@ unsigned kind d ds h =
     let no_plus : nat_eq d plus ≡ false = ne_eqb d plus (λ e. omega arith) in
     let no_minus : nat_eq d minus ≡ false = ne_eqb d minus (λ e. omega arith) in
     record {
-      takes = rw (no_plus, no_minus, and_false (is_signed kind)) refl;
-      tells = rw (no_minus, and_false (is_signed kind)) refl;
+      takes = rw (no_plus, no_minus, and-false (is_signed kind)) refl;
+      tells = rw (no_minus, and-false (is_signed kind)) refl;
     }
 
 pub sign_told : (kind : Kind) (negative : Bool) (sign digits : List ℕ) → IsSign kind negative sign → is_numeral digits ≡ true → Signed kind negative (length sign) (sign ++ digits)
 sign_told kind _ _ [] IsSign.none h = cc
-sign_told kind _ _ (d ∷ ds) IsSign.none h = unsigned kind d ds (digit_from d (both_true _ _ (numeral_parts (d ∷ ds) h).1).0)
-sign_told kind _ _ digits IsSign.plus_sign h = record { takes = refl; tells = and_false (is_signed kind) }
+sign_told kind _ _ (d ∷ ds) IsSign.none h = unsigned kind d ds (digit_from d (and_parts _ _ (numeral_parts (d ∷ ds) h).1).0)
+sign_told kind _ _ digits IsSign.plus_sign h = record { takes = refl; tells = and-false (is_signed kind) }
 sign_told kind _ _ digits (IsSign.minus_sign allowed) h = record { takes = rw allowed refl; tells = rw allowed refl }
 
 behind_sign : (sign digits : List ℕ) (n : ℕ) → n ≡ length sign → drop n (sign ++ digits) ≡ digits
@@ -67,10 +65,6 @@ pub good_not_soft : (b : Bool) (r : Read ℤ) (size n : ℕ) (v : ℤ) → cond 
 good_not_soft true r size n v e = (refl, e)
 good_not_soft false r size n v e = cc
 
-good_in_range : (b : Bool) (size : ℕ) (w : ℤ) (n : ℕ) (v : ℤ) → cond b (Good size w) (Soft size cause.Range) ≡ Good n v → (b ≡ true) × (n ≡ size) × (v ≡ w)
-good_in_range true size w n v e = (refl, cc, cc)
-good_in_range false size w n v e = cc
-
 pub ranged_good : (kind : Kind) (size : ℕ) (w : ℤ) (n : ℕ) (v : ℤ) → ranged kind size w ≡ Good n v → (in_range kind w ≡ true) × (n ≡ size) × (v ≡ w)
 ranged_good kind size w n v e = good_in_range (in_range kind w) size w n v e
 
@@ -84,7 +78,7 @@ sign_by_tests kind p ps true true signed is_plus is_minus is_signed = absurd (om
 sign_by_tests kind p ps true false signed is_plus is_minus is_signed =
     record {
       within = rw is_plus (omega arith);
-      allowed = rw (is_plus, is_minus, and_false _, eqb-true _ _ is_plus) IsSign.plus_sign;
+      allowed = rw (is_plus, is_minus, and-false _, eqb-true _ _ is_plus) IsSign.plus_sign;
     }
 sign_by_tests kind p ps false true true is_plus is_minus is_signed =
     record {
@@ -98,8 +92,8 @@ sign_by_tests kind p ps false true false is_plus is_minus is_signed =
     }
 sign_by_tests kind p ps false false signed is_plus is_minus is_signed =
     record {
-      within = rw (is_plus, is_minus, and_false _) (omega arith);
-      allowed = rw (is_plus, is_minus, and_false _) IsSign.none;
+      within = rw (is_plus, is_minus, and-false _) (omega arith);
+      allowed = rw (is_plus, is_minus, and-false _) IsSign.none;
     }
 
 sign_in_front : (kind : Kind) (points : List ℕ) → SignInFront kind points
@@ -161,7 +155,7 @@ behind_blanks (suc n) text = behind_blanks n text
 
 digit_not_blank : (kind : Kind) (d : ℕ) (ds : List ℕ) → is_numeral (d ∷ ds) ≡ true → prefix_len is_blank (d ∷ ds) ≡ 0
 digit_not_blank kind d ds h =
-    let low = digit_from d (both_true _ _ (numeral_parts (d ∷ ds) h).1).0 in
+    let low = digit_from d (and_parts _ _ (numeral_parts (d ∷ ds) h).1).0 in
     rw (ne_eqb d blank (λ e. omega arith)) refl
 
 no_blank_front : (kind : Kind) (negative : Bool) (sign digits : List ℕ) → IsSign kind negative sign → is_numeral digits ≡ true → prefix_len is_blank (sign ++ digits) ≡ 0

@@ -26,7 +26,7 @@ use Rattle.pads_lex.proofs.StepLaws.{Holds, step_holds}
 use Rattle.pads_lex.proofs.ReadLaws.{gap_reads, stands_reads}
 use Rattle.pads_lex.proofs.FaultLaws.{fault_reads, number_first}
 use Rattle.pads_lex.specs.Cut.IsFault.{no_token, no_character, bad_number, wide_number, open_text, bad_char, bad_escape, open_comment}
-use Rattle.pads_lex.proofs.TokensLemmas.{gap_within, stands_within, tokens_at_end, tokens_read, after_step}
+use Rattle.pads_lex.proofs.TokensLemmas.{gap_within, stands_within, tokens_at_end, tokens_read, after_step, some_read}
 
 -- the rest of a text, by what is read of it
 abbrev pub IsRead : ℕ → List Token → List ℕ → Result (List Token) LexFault → Type 0
@@ -62,21 +62,16 @@ read_text (suc fuel) at front (b ∷ z) fits =
 pub text_is_read : (z : List ℕ) → IsRead 0 [] z (tokens_from 0 0 [] z)
 text_is_read z = read_text (length z) 0 [] z (omega arith)
 
--- one step of the reading, where a gap, a token or a fault stands
-step_read : (at : ℕ) (front : List Token) (z : List ℕ) (s : Step) → 0 < length z → step_of z ≡ s → tokens_from 0 at front z ≡ after_step at front z s
-step_read at front [] s some e = absurd (omega arith)
-step_read at front (b ∷ z) s some e = tokens_read at front b z s e
-
 -- tokens that the text is cut into are read
 pub cut_is_read : (at : ℕ) (z : List ℕ) (more : List Token) (front : List Token) → IsCut at z more → tokens_from 0 at front z ≡ Ok (front ++ more)
 cut_is_read at z more front (ends) = tokens_at_end at front
 cut_is_read at z more front (cut_passes size gap cut) =
     let within = gap_within z size gap in
-    step_read at front z (Gap size) (omega arith) (gap_reads z size gap) ∙ cut_is_read (at + size) (drop size z) more front cut
+    some_read at front z (Gap size) (omega arith) (gap_reads z size gap) ∙ cut_is_read (at + size) (drop size z) more front cut
 cut_is_read at z more front (cut_stands {tokens = others} size token stands cut) =
     let within = stands_within z size token stands in
     let one = token_of token at (at + size) in
-    step_read at front z (Stands size token) (omega arith) (stands_reads z size token stands) ∙ cut_is_read (at + size) (drop size z) others (front ++ one ∷ []) cut ∙ ap Ok (append_assoc front (one ∷ []) others)
+    some_read at front z (Stands size token) (omega arith) (stands_reads z size token stands) ∙ cut_is_read (at + size) (drop size z) others (front ++ one ∷ []) cut ∙ ap Ok (append_assoc front (one ∷ []) others)
 
 no_literal_at_end : (quote : ℕ) (body points rest : List ℕ) → IsLiteral quote [] body points rest → ⊥
 no_literal_at_end quote body points rest literal = let split = literal.split in cc
@@ -99,13 +94,13 @@ fault_some (b ∷ z) k offset fault = omega arith
 -- where a text breaks the rules first, that is read
 pub break_is_read : (at : ℕ) (z : List ℕ) (k : LexKind) (place : ℕ) (front : List Token) → BreaksAt at z k place → tokens_from 0 at front z ≡ Err (record { kind = k; at = place })
 break_is_read at z k place front (here offset fault) =
-    step_read at front z (Fault k offset) (fault_some z k offset fault) (fault_reads z k offset fault)
+    some_read at front z (Fault k offset) (fault_some z k offset fault) (fault_reads z k offset fault)
 break_is_read at z k place front (breaks_passes size gap breaks) =
     let within = gap_within z size gap in
-    step_read at front z (Gap size) (omega arith) (gap_reads z size gap) ∙ break_is_read (at + size) (drop size z) k place front breaks
+    some_read at front z (Gap size) (omega arith) (gap_reads z size gap) ∙ break_is_read (at + size) (drop size z) k place front breaks
 break_is_read at z k place front (breaks_stands size token stands breaks) =
     let within = stands_within z size token stands in
-    step_read at front z (Stands size token) (omega arith) (stands_reads z size token stands) ∙ break_is_read (at + size) (drop size z) k place (front ++ token_of token at (at + size) ∷ []) breaks
+    some_read at front z (Stands size token) (omega arith) (stands_reads z size token stands) ∙ break_is_read (at + size) (drop size z) k place (front ++ token_of token at (at + size) ∷ []) breaks
 
 -- the end token is last
 ends_more : (token : Token) (tokens : List Token) → EndsLast tokens → EndsLast (token ∷ tokens)

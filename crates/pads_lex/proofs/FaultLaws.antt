@@ -29,7 +29,8 @@ use Rattle.pads_lex.proofs.SpelledLemmas.{zero_is_digit, Spelled, spelled, spell
 use Rattle.pads_lex.proofs.SpelledLemmas.Spelled.{a_word, a_zero, a_decimal, a_hex, a_char, a_text, a_mark}
 use Rattle.pads_lex.proofs.SameLaws.{is_number, no_number, word_no_number, mark_no_number, quote_no_escape, longest_same, quote_closes}
 use Rattle.pads_lex.proofs.LongestLaws.{word_longest, number_longest, number_more, NoDouble, single_longest, double_longest}
-use Rattle.pads_lex.proofs.ReadLaws.{taken_nothing, no_slash, step_token, step_comment, step_number, step_quote, step_mark, block_read, number_step_is, wide_reads}
+use Rattle.pads_lex.proofs.ReadLaws.{taken_nothing, no_slash, step_token, step_comment, step_number, step_quote, step_mark, block_read, number_step_is}
+use Rattle.pads_lex.proofs.NumberLemmas.{in_range_above}
 
 -- literals that break the rules
 quote_no_slash : (b : ℕ) → is_quote b ≡ true → (b == 0x2F) ≡ false
@@ -100,7 +101,7 @@ wide_fails : (b : ℕ) (after : List ℕ) (size number : ℕ) → is_digit b ≡
 wide_fails b after size number digit longest alone wide =
     let same = longest_same (b ∷ after) (suc (number_more b after)) size _ (kind.Number (pos number)) (number_longest b after digit) longest in
     let value : word_value (b ∷ take (number_more b after) after) ≡ number = cc in
-    digit_step b after digit ∙ number_step_is b after digit ∙ ap (λ t. cond t (Fault fault.BadNumber 0) (by_number (suc (number_more b after)) (in_range (word_value (b ∷ take (number_more b after) after))))) (ap (λ n. goes_on (drop n (b ∷ after))) same.0 ∙ alone) ∙ ap (by_number (suc (number_more b after))) (ap in_range value ∙ wide_reads number wide)
+    digit_step b after digit ∙ number_step_is b after digit ∙ ap (λ t. cond t (Fault fault.BadNumber 0) (by_number (suc (number_more b after)) (in_range (word_value (b ∷ take (number_more b after) after))))) (ap (λ n. goes_on (drop n (b ∷ after))) same.0 ∙ alone) ∙ ap (by_number (suc (number_more b after))) (ap in_range value ∙ in_range_above number wide)
 
 -- a byte that begins no token
 abbrev SpellsNone : List ℕ → Type 0

@@ -1,7 +1,7 @@
 -- What stands at the front of a text by the rules is what is read there.
-use Rattle.std.proofs.Common.{◌≡◌, ℕ, zero, suc, ◌+◌, ◌<◌, ◌≤◌, Bool, true, false, cond, List, [], ◌∷◌, ◌++◌, length, take, drop, Option, Some, None, pos, ◌≤ℤ◌, ◌⊎◌, inl, inr, sym, refl, ap, ◌∙◌, subst, arith}
+use Rattle.std.proofs.Common.{◌≡◌, ℕ, zero, suc, ◌+◌, ◌≤◌, Bool, true, false, cond, List, [], ◌∷◌, ◌++◌, length, take, drop, Option, Some, None, pos, ◌≤ℤ◌, ◌⊎◌, inl, inr, sym, refl, ap, ◌∙◌, subst, arith}
 use Rattle.std.specs.Prelude.{◌==◌, ◌||◌}
-use Rattle.std.proofs.lemmas.Bool.{cases_Bool, eqb-true, or_cases, le-leb, lt-leb}
+use Rattle.std.proofs.lemmas.Bool.{cases_Bool, eqb-true, or_cases}
 use Rattle.std.proofs.lemmas.Int.{ints}
 use Rattle.std.proofs.lemmas.List.{length-take-le, take-append-drop, length-append, append_assoc}
 use Rattle.pads_lex.specs.Bytes.{is_blank, is_letter, is_digit, is_word_byte, is_on_line}
@@ -26,6 +26,7 @@ use Rattle.pads_lex.proofs.SpelledLemmas.{Spelled, spelled, spells_some, both, q
 use Rattle.pads_lex.proofs.SameLaws.{literal_closed, closed_stands, longest_same}
 use Rattle.pads_lex.proofs.LongestLaws.{word_longest, word_run, number_longest, number_more, number_size_is, NoDouble, no_mark, single_longest, double_longest}
 use Rattle.pads_lex.proofs.StepLaws.{Holds, comment_is}
+use Rattle.pads_lex.proofs.NumberLemmas.{in_range_within}
 
 -- where no comment begins, none is read
 no_comment_read : (z : List ℕ) → opens_comment z ≡ false → comment z ≡ None
@@ -133,14 +134,6 @@ word_reads : (b : ℕ) (after : List ℕ) (n : ℕ) (k : TokenKind) → is_lette
 word_reads b after n k letter stands =
     step_word b after letter ∙ word_step_is b after letter ∙ same_stands _ n _ k (longest_same (b ∷ after) _ n _ k (word_longest b after letter) stands.longest)
 
-in_range_reads : (n : ℕ) → n ≤ number_limit → in_range n ≡ Some (pos n)
-unfolding in_range
-in_range_reads n h = rw (le-leb n number_limit h) refl
-
-pub wide_reads : (n : ℕ) → number_limit < n → in_range n ≡ None
-unfolding in_range
-wide_reads n h = rw (lt-leb n number_limit h) refl
-
 from_pos : (m n : ℕ) → pos m ≤ℤ pos n → m ≤ n
 from_pos m n h = omega (arith, ints)
 
@@ -151,7 +144,7 @@ number_step_is b after digit = ap (λ n. cond (goes_on (drop n (b ∷ after))) (
 
 number_reads : (b : ℕ) (after : List ℕ) (n : ℕ) (k : TokenKind) → is_digit b ≡ true → StandsAt (b ∷ after) n k → token_step (b ∷ after) ≡ Stands n k
 number_reads b after n k digit stands =
-    step_number b after digit ∙ number_step_is b after digit ∙ ap (λ t. cond t (Fault fault.BadNumber 0) (by_number size (in_range value))) alone ∙ ap (by_number size) (in_range_reads value (from_pos value number_limit good.in_range)) ∙ same_stands size n (kind.Number (pos value)) k same
+    step_number b after digit ∙ number_step_is b after digit ∙ ap (λ t. cond t (Fault fault.BadNumber 0) (by_number size (in_range value))) alone ∙ ap (by_number size) (in_range_within value (from_pos value number_limit good.in_range)) ∙ same_stands size n (kind.Number (pos value)) k same
   where
     size : ℕ
     size = suc (number_more b after)

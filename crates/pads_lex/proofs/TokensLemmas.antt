@@ -79,7 +79,7 @@ tokens_read at front b z (Stands size token) e =
     tokens_at at front b z (Stands size token) e ∙ tokens_pass size at (front ++ token_of token at (at + size) ∷ []) b z within.0 within.1
 tokens_read at front b z (Fault kind offset) e = tokens_at at front b z (Fault kind offset) e
 
-some_read : (at : ℕ) (front : List Token) (z : List ℕ) (s : Step) → 0 < length z → step_of z ≡ s → tokens_from 0 at front z ≡ after_step at front z s
+pub some_read : (at : ℕ) (front : List Token) (z : List ℕ) (s : Step) → 0 < length z → step_of z ≡ s → tokens_from 0 at front z ≡ after_step at front z s
 some_read at front [] s some e = absurd (omega arith)
 some_read at front (b ∷ z) s some e = tokens_read at front b z s e
 

@@ -1,5 +1,5 @@
 -- The equations of the judging at small expressions, for rows.
-use Rattle.std.proofs.Common.{◌≡◌, ◌∙◌, sym, ap, ℕ, Bool, List, [], ◌∷◌, ◌++◌, flat_map}
+use Rattle.std.proofs.Common.{◌≡◌, ◌∙◌, sym, ap, ℕ, Bool, List, ◌++◌, flat_map}
 use Rattle.pads_ast.specs.declared.expr.Expr.{Expr, Expr-F, roll-Expr, map-Expr}
 use Rattle.pads_ast.specs.declared.expr.Expr.TheShapes.{former-Expr-Post-1}
 use Rattle.pads_ast.specs.declared.expr.Expr.TheVariants as expr
@@ -7,22 +7,17 @@ use Rattle.pads_ast.specs.declared.expr.Step.{Step}
 use Rattle.pads_ast.specs.declared.name.Name.{Name}
 use Rattle.pads_rules.specs.declared.declared.Declared.{Declared}
 use Rattle.pads_rules.specs.Judging.{Scope, Judged, judged, judge_form, leaf, posted, pis}
-use Rattle.pads_rules.specs.NameTokens.{Names, names_in_expr, names_in_form, names_in_step}
+use Rattle.pads_rules.specs.NameTokens.{Names, names_in_expr, names_in_step}
 use Rattle.pads_rules.specs.Sorts.{num, truth}
-use Rattle.pads_rules.proofs.Judgements.{judged-roll, names_in_expr-roll}
+use Rattle.pads_rules.proofs.Judgements.{judged-roll}
+use Rattle.pads_rules.proofs.ExprNames.{names_as, names_in-Number, names_in-Truth, names_in-Pis}
 
 judged_as : (env : List Declared) (layer : Expr-F Expr) (scope : Scope) (e : Expr) → roll-Expr layer ≡ e →
     judged env e scope ≡ judge_form env (map-Expr Expr (Scope → Judged) (judged env) layer) scope
 judged_as env layer scope e rolls = ap (λ x. judged env x scope) (sym rolls) ∙ judged-roll env layer scope
 
-names_as : (layer : Expr-F Expr) (e : Expr) → roll-Expr layer ≡ e → names_in_expr e ≡ names_in_form (map-Expr Expr Names names_in_expr layer)
-names_as layer e rolls = ap names_in_expr (sym rolls) ∙ names_in_expr-roll layer
-
 pub judged-Number : (env : List Declared) (scope : Scope) (value at : ℕ) → judged env (expr.Number value at) scope ≡ leaf at num
 judged-Number env scope value at = judged_as env (Expr-F.Number value at) scope _ (expr.rolls-Number value at)
-
-pub names_in-Number : (value at : ℕ) → names_in_expr (expr.Number value at) ≡ []
-names_in-Number value at = names_as (Expr-F.Number value at) _ (expr.rolls-Number value at)
 
 pub faults-Number : (env : List Declared) (scope : Scope) (value at : ℕ) → (judged env (expr.Number value at) scope).faults ≡ (leaf at num).faults
 faults-Number env scope value at = ap (λ (j : Judged). j.faults) (judged-Number env scope value at)
@@ -35,9 +30,6 @@ first-Number env scope value at = ap (λ (j : Judged). j.first) (judged-Number e
 
 pub judged-Truth : (env : List Declared) (scope : Scope) (value : Bool) (at : ℕ) → judged env (expr.Truth value at) scope ≡ leaf at truth
 judged-Truth env scope value at = judged_as env (Expr-F.Truth value at) scope _ (expr.rolls-Truth value at)
-
-pub names_in-Truth : (value : Bool) (at : ℕ) → names_in_expr (expr.Truth value at) ≡ []
-names_in-Truth value at = names_as (Expr-F.Truth value at) _ (expr.rolls-Truth value at)
 
 pub faults-Truth : (env : List Declared) (scope : Scope) (value : Bool) (at : ℕ) → (judged env (expr.Truth value at) scope).faults ≡ (leaf at truth).faults
 faults-Truth env scope value at = ap (λ (j : Judged). j.faults) (judged-Truth env scope value at)
@@ -65,9 +57,6 @@ first-Post env scope base steps = ap (λ (j : Judged). j.first) (judged-Post env
 
 pub judged-Pis : (env : List Declared) (scope : Scope) (at : ℕ) (value : Expr) (name : Name) → judged env (expr.Pis at value name) scope ≡ pis env at (judged env value scope) name
 judged-Pis env scope at value name = judged_as env (Expr-F.Pis at value name) scope _ (expr.rolls-Pis at value name)
-
-pub names_in-Pis : (at : ℕ) (value : Expr) (name : Name) → names_in_expr (expr.Pis at value name) ≡ names_in_expr value ++ name.text ∷ []
-names_in-Pis at value name = names_as (Expr-F.Pis at value name) _ (expr.rolls-Pis at value name)
 
 pub faults-Pis : (env : List Declared) (scope : Scope) (at : ℕ) (value : Expr) (name : Name) → (judged env (expr.Pis at value name) scope).faults ≡ (pis env at (judged env value scope) name).faults
 faults-Pis env scope at value name = ap (λ (j : Judged). j.faults) (judged-Pis env scope at value name)

@@ -16,7 +16,7 @@ use Rattle.pads_rules.specs.Trees.{points_of}
 use Rattle.pads_pieces.specs.declared.const_set.ConstSet.{ConstSet}
 use Rattle.pads_pieces.specs.ConstSets.{has_const, AddsConst}
 use Rattle.pads_pieces.proofs.MetNames.{or-false, with-name}
-use Rattle.pads_pieces.proofs.Steps.{taken}
+use Rattle.pads_declared.proofs.Lists.{taken}
 
 known : (keys : List ℤ) (key k : ℤ) (s : Bool) → list_any (int_eq key) keys ≡ true → int_eq k key ≡ s → list_any (int_eq k) keys ≡ (list_any (int_eq k) keys || s)
 known keys key k false there same = sym (or-false (list_any (int_eq k) keys))

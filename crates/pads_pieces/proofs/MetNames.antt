@@ -2,18 +2,14 @@
 use Rattle.std.proofs.Common.{◌≡◌, ◌∙◌, sym, ap, refl, ℕ, ◌+◌, ◌<◌, Bool, true, false, ◌||◌, if◌then◌else◌, List, [], ◌∷◌, ◌++◌, length, take, get_or}
 use Rattle.std.specs.List.{list_any}
 use Rattle.std.proofs.lemmas.List.Folds.{list_any-append}
-use Rattle.std.proofs.lemmas.Slice.Eq.{bytes_eq-Decides}
 use Rattle.pads_rules.specs.NameTokens.{with_name}
 use Rattle.pads_rules.specs.Texts.{same_text, is_among}
-use Rattle.pads_pieces.proofs.Steps.{taken}
+use Rattle.pads_rules.proofs.SameTexts.{same-is}
+use Rattle.pads_declared.proofs.Lists.{taken}
 
 -- A set has the texts of some things, and no others.
 abbrev pub Has : {X : Type 0} → (X → List ℕ) → List (List ℕ) → List X → Type 0
 Has text names xs = (t : List ℕ) → is_among names t ≡ list_any (λ x. same_text t (text x)) xs
-
-same-is : (a b : List ℕ) → same_text a b ≡ true → a ≡ b
-unfolding same_text
-same-is a b is = (bytes_eq-Decides a b).0 is
 
 pub or-false : (b : Bool) → (b || false) ≡ b
 or-false true = refl

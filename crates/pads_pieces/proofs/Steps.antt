@@ -1,20 +1,15 @@
 -- Steps of loops that keep the least violation so far.
 use Rattle.std.proofs.Common.{◌≡◌, ◌∙◌, sym, ap, refl, ℕ, ◌+◌, ◌<◌, ◌≤◌, Bool, ◌||◌, List, [], ◌∷◌, ◌++◌, length, take, drop, map, get_or, Option, None}
 use Rattle.std.specs.List.{enumerate_from, list_any}
-use Rattle.std.proofs.lemmas.List.{drop_more, drop_all, take_more, append-nil, take-map, drop-map}
+use Rattle.std.proofs.lemmas.List.{drop_all, append-nil, take-map, drop-map}
 use Rattle.pads_rules.specs.declared.fault.CheckFault.{CheckFault}
 use Rattle.pads_rules.specs.Faults.{when, each, again, lesser, least}
 use Rattle.pads_rules.proofs.Least.{lesser-none, lesser_assoc, least-append, each-append}
+use Rattle.pads_declared.proofs.Lists.{taken, left}
 
 pub none-lesser : (best : Option CheckFault) → lesser None best ≡ best
 unfolding lesser
 none-lesser best = refl
-
-pub taken : {X : Type 0} (xs : List X) (i : ℕ) (x : X) → i < length xs → x ≡ get_or xs i x → take (i + 1) xs ≡ take i xs ++ x ∷ []
-taken xs i x there is = take_more xs i x there ∙ ap (λ y. take i xs ++ y ∷ []) (sym is)
-
-pub left : {X : Type 0} (xs : List X) (i : ℕ) (x : X) → i < length xs → x ≡ get_or xs i x → drop i xs ≡ x ∷ drop (i + 1) xs
-left xs i x there is = drop_more xs i x there ∙ ap (λ y. y ∷ drop (i + 1) xs) (sym is)
 
 -- the same for what stands in the elements
 pub mapped-left : {X Y : Type 0} (f : X → Y) (xs : List X) (i : ℕ) (x : X) → i < length xs → x ≡ get_or xs i x → drop i (map f xs) ≡ f x ∷ drop (i + 1) (map f xs)

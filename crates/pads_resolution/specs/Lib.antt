@@ -5,3 +5,4 @@ pub mod Chains
 pub mod Types
 pub mod Bodies
 pub mod Resolution
+pub mod JudgedNames

@@ -6,8 +6,8 @@ use Rattle.pads_resolved.specs.declared.decl.Decl.{Decl}
 use Rattle.pads_resolved.specs.declared.decl.Source.{Source}
 use Rattle.pads_rules.specs.declared.declared.Declared.{Declared}
 use Rattle.pads_resolution.specs.Resolution.{decl_at, source_after}
-use Rattle.pads_resolve_types.proofs.Steps.{left}
 use Rattle.pads_resolve.specs.Places.{place_of, sites_from}
+use Rattle.pads_declared.proofs.Lists.{left}
 
 pub source-step : (source : Source) (decls : List WrittenDecl) (env : List Declared) (i : ℕ) (d : WrittenDecl) → i < length decls → d ≡ get_or decls i d →
     fold source_after (source_after source (place_of decls env (i, d))) (sites_from decls env (i + 1) (drop (i + 1) decls)) ≡ fold source_after source (sites_from decls env i (drop i decls))

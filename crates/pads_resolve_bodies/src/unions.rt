@@ -14,7 +14,7 @@ use pads_value::{Items, Memory};
 use std::alloc::Global;
 
 /// A branch of a union. Its name is in scope in its constraint alone.
-#[tactic(auto, using(std::proofs::lemmas::Grind::common_steps, crate::proofs::Steps::popped))]
+#[tactic(auto, using(std::proofs::lemmas::Grind::common_steps, pads_declared::proofs::Lists::popped))]
 fn branch_at(
     alloc: Global,
     site: &Site<'_>,

@@ -1,14 +1,11 @@
 -- Steps of loops over what a declaration holds.
-use Rattle.std.proofs.Common.{◌≡◌, ◌∙◌, sym, ap, ℕ, ◌+◌, ◌<◌, ◌≤◌, List, ◌∷◌, ◌++◌, length, map, drop, get_or, add-one}
-use Rattle.std.proofs.lemmas.List.{append-nil, drop_all, drop_more}
+use Rattle.std.proofs.Common.{◌≡◌, ◌∙◌, sym, ap, ℕ, ◌+◌, ◌<◌, ◌≤◌, List, ◌++◌, length, map, drop, get_or, add-one}
+use Rattle.std.proofs.lemmas.List.{append-nil, drop_all}
 use Rattle.pads_ast.specs.declared.decl.Part.{Part as WrittenPart}
 use Rattle.pads_rules.specs.declared.declared.Declared.{Declared}
 use Rattle.pads_rules.specs.Trees.{named_part}
 use Rattle.pads_resolution.specs.Scopes.{Scope, field, fields_after}
-
--- one element more
-pub left : {X : Type 0} (xs : List X) (i : ℕ) (x : X) → i < length xs → x ≡ get_or xs i x → drop i xs ≡ x ∷ drop (i + 1) xs
-left xs i x there is = drop_more xs i x there ∙ ap (λ y. y ∷ drop (i + 1) xs) (sym is)
+use Rattle.pads_declared.proofs.Lists.{left}
 
 pub ruleset nothing_more = (append-nil)
 

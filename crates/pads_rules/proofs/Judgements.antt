@@ -1,11 +1,11 @@
 -- The equations of the judging, form by form.
-use Rattle.std.proofs.Common.{◌≡◌, ◌∙◌, sym, ap, List, [], ◌∷◌}
+use Rattle.std.proofs.Common.{◌≡◌, ◌∙◌, sym, ap, List}
 use Rattle.pads_ast.specs.declared.expr.Expr.{Expr, Expr-F, fold-roll-Expr, roll-Expr, map-Expr}
 use Rattle.pads_ast.specs.declared.expr.Expr.TheVariants as expr
 use Rattle.pads_ast.specs.declared.name.Name.{Name}
 use Rattle.pads_rules.specs.declared.declared.Declared.{Declared}
 use Rattle.pads_rules.specs.Judging.{Scope, Judged, judged, judge_form, variable}
-use Rattle.pads_rules.specs.NameTokens.{Names, names_in_expr, names_in_form}
+use Rattle.pads_rules.proofs.ExprNames.{names_in-Name}
 
 -- one layer at a time
 pub judged-roll : (env : List Declared) (layer : Expr-F Expr) (scope : Scope) →
@@ -15,13 +15,6 @@ judged-roll env layer scope = ap (λ (f : Scope → Judged). f scope) (fold-roll
 
 pub judged-Name : (env : List Declared) (name : Name) (scope : Scope) → judged env (expr.Name name) scope ≡ variable scope name
 judged-Name env name scope = ap (λ e. judged env e scope) (sym (expr.rolls-Name name)) ∙ judged-roll env (Expr-F.Name name) scope
-
-pub names_in_expr-roll : (layer : Expr-F Expr) → names_in_expr (roll-Expr layer) ≡ names_in_form (map-Expr Expr Names names_in_expr layer)
-unfolding names_in_expr
-names_in_expr-roll layer = fold-roll-Expr Names names_in_form layer
-
-pub names_in-Name : (name : Name) → names_in_expr (expr.Name name) ≡ name.text ∷ []
-names_in-Name name = ap names_in_expr (sym (expr.rolls-Name name)) ∙ names_in_expr-roll (Expr-F.Name name)
 
 pub faults-Name : (env : List Declared) (name : Name) (scope : Scope) → (judged env (expr.Name name) scope).faults ≡ (variable scope name).faults
 faults-Name env name scope = ap (λ (j : Judged). j.faults) (judged-Name env name scope)

@@ -1,3 +1,6 @@
 pub mod Least
 pub mod Judgements
 pub mod Rows
+pub mod SameTexts
+pub mod Faultless
+pub mod ExprNames

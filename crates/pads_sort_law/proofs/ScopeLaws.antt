@@ -13,7 +13,7 @@ use Rattle.pads_rules.specs.Trees.{named_part, params_of}
 use Rattle.pads_resolution.specs.declared.visible.Visible.{Visible}
 use Rattle.pads_resolution.specs.Resolution.{params_scope}
 use Rattle.pads_resolution.specs.Scopes.{Scope, variable, field, names_after, fields_after}
-use Rattle.pads_sort_law.specs.Names.{as_named}
+use Rattle.pads_resolution.specs.JudgedNames.{as_named}
 
 -- names that are seen as the rules see them are those that were there
 seen : {A : Type 0} (made : A → Visible) (xs : List A) → map as_named (map made xs) ≡ map (λ x. as_named (made x)) xs

@@ -1,5 +1,5 @@
 -- An expression without violations resolves to one of the sort that the rules give it.
-use Rattle.std.proofs.Common.{◌≡◌, ◌∙◌, sym, ap, refl, subst, arith, ℕ, zero, suc, ◌+◌, ◌<◌, ◌≤◌, max, Bool, true, false, if◌then◌else◌, List, [], ◌∷◌, ◌++◌, map, Option, Some, None, option_map, find}
+use Rattle.std.proofs.Common.{◌≡◌, ◌∙◌, sym, ap, subst, arith, ℕ, zero, suc, ◌+◌, ◌<◌, ◌≤◌, max, if◌then◌else◌, List, [], ◌∷◌, ◌++◌, Option, Some, None, option_map}
 use Rattle.pads_ast.specs.declared.decl.Decl.{Decl}
 use Rattle.pads_ast.specs.declared.expr.Expr.{Expr, Expr-F, fold-roll-Expr, roll-Expr, out-Expr, roll-out-Expr, map-Expr, size-Expr, the_lemmas}
 use Rattle.pads_ast.specs.declared.expr.Expr.TheShapes.{former-Expr-Chain-1, former-Expr-Post-1}
@@ -14,49 +14,20 @@ use Rattle.pads_rules.specs.declared.expr_sort.ExprSort.{ExprSort}
 use Rattle.pads_rules.specs.declared.expr_sort.ExprSort.TheVariants as expr_sort
 use Rattle.pads_rules.specs.declared.fault.CheckFault.{CheckFault}
 use Rattle.pads_rules.specs.Judging as judging
-use Rattle.pads_rules.specs.Judging.{Judged, judged, judge_form, judgement, too_high}
+use Rattle.pads_rules.specs.Judging.{Judged, judged, judge_form}
 use Rattle.pads_rules.specs.Members.{member, element}
-use Rattle.pads_rules.specs.Sorts.{num, text as text_sort, truth, is_num_form, is_array_form, unless_broken}
-use Rattle.pads_rules.specs.Texts.{same_text, sort_of}
+use Rattle.pads_rules.specs.Sorts.{num, text as text_sort, truth, is_num_form, is_array_form}
 use Rattle.pads_rules.proofs.Judgements.{judged-roll}
+use Rattle.pads_rules.proofs.Faultless.{none-left, not-one, own-sort, inner-faults}
 use Rattle.pads_resolution.specs.declared.visible.Known.{Known}
 use Rattle.pads_resolution.specs.declared.visible.ResolvedExpr.{ResolvedExpr}
 use Rattle.pads_resolution.specs.declared.visible.Stands.TheVariants as stands
-use Rattle.pads_resolution.specs.declared.visible.Visible.{Visible}
 use Rattle.pads_resolution.specs.Expressions.{expression, resolve_form, chained, posted, name_in, name_found, sort_or_unknown, binary as made_binary, unary as made_unary, member_of as made_member, indexed as made_index, pis as made_pis, plen as made_plen, pforall as made_pforall}
 use Rattle.pads_resolution.specs.Scopes.{Scope, known_in, hiding}
-use Rattle.pads_sort_law.specs.Names.{as_named, judging_scope}
-
-none-left : {A : Type 0} (xs ys : List A) → xs ++ ys ≡ [] → xs ≡ []
-none-left [] ys e = refl
-none-left (x ∷ xs) ys e = cc
-
-not-one : {A : Type 0} (xs : List A) (x : A) (zs : List A) → (xs ++ x ∷ []) ++ zs ≡ [] → ⊥
-not-one [] x zs e = cc
-not-one (y ∷ ys) x zs e = cc
-
--- without violations a form has its own sort, and its parts hold no violations
-unbroken : (all : List CheckFault) (sort : ExprSort) → all ≡ [] → sort ≡ unless_broken all sort
-unbroken [] sort e = refl
-unbroken (x ∷ xs) sort e = cc
-
-own-sort : (first height : ℕ) (sort : ExprSort) (faults : List CheckFault) → (judgement first height sort faults).faults ≡ [] → sort ≡ (judgement first height sort faults).sort
-own-sort first height sort faults e = unbroken (faults ++ too_high first height) sort e
-
-inner-faults : (first height : ℕ) (sort : ExprSort) (faults : List CheckFault) → (judgement first height sort faults).faults ≡ [] → faults ≡ []
-inner-faults first height sort faults e = none-left faults (too_high first height) e
+use Rattle.pads_resolution.specs.JudgedNames.{judging_scope}
+use Rattle.pads_resolution.proofs.JudgedNames.{sort-known}
 
 -- names
-sort-known : (scope : Scope) (text : List ℕ) → sort_of (map as_named scope) text ≡ option_map (λ (k : Known). k.sort) (known_in scope text)
-sort-known [] text = refl
-sort-known (visible ∷ scope) text = by_text (same_text visible.text text) (sort-known scope text)
-  where
-    by_text : (t : Bool) → sort_of (map as_named scope) text ≡ option_map (λ (k : Known). k.sort) (known_in scope text) →
-        option_map (λ named. named.sort) (if t then Some (as_named visible) else find (λ named. same_text named.text text) (map as_named scope))
-        ≡ option_map (λ (k : Known). k.sort) (option_map (λ (v : Visible). v.known) (if t then Some visible else find (λ v. same_text v.text text) scope))
-    by_text true e = refl
-    by_text false e = e
-
 found-sort : (scope : judging.Scope) (name : Name) (known : Option Known) → (judging.variable_found scope name (option_map (λ (k : Known). k.sort) known)).faults ≡ []
     → (name_found name.text known).sort ≡ (judging.variable_found scope name (option_map (λ (k : Known). k.sort) known)).sort
 found-sort scope name (Some known) e = own-sort name.at 1 known.sort [] e

@@ -17,7 +17,7 @@ ghost use Rattle.pads_resolution.specs.Expressions.{expression};
 ghost use Rattle.pads_resolution.specs.Resolution.{params_scope};
 ghost use Rattle.pads_resolution.specs.Scopes as scopes;
 ghost use Rattle.pads_resolution.specs.Scopes.{Scope};
-ghost use Rattle.pads_sort_law.specs.Names.{as_named, judging_scope};
+ghost use Rattle.pads_resolution.specs.JudgedNames.{as_named, judging_scope};
 
 /// The law of sorts: an expression without violations resolves to one of the sort that the rules give it, with the
 /// same names in scope.

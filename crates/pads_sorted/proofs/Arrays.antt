@@ -1,6 +1,7 @@
 -- An array is one of what its elements read as.
 use Rattle.std.proofs.Common.{◌≡◌, ◌∙◌, refl, ℕ, zero, suc, Bool, true, nat_eq, not, ◌&&◌, if◌then◌else◌, List, [], ◌∷◌, ◌++◌, map, Option, Some, None}
 use Rattle.std.specs.Prelude.{⊤}
+use Rattle.std.proofs.lemmas.Bool.{and_from}
 use Rattle.pads_value.specs.declared.cause.Cause.TheVariants as cause
 use Rattle.pads_value.specs.declared.descriptor.Pd.{out-Pd}
 use Rattle.pads_value.specs.declared.value.Val.{Val}
@@ -16,7 +17,6 @@ use Rattle.pads_calc.specs.Readings.{Reader, values}
 use Rattle.pads_calc.proofs.Cases.{pick}
 use Rattle.pads_sorted.specs.Sorts.{Sort, Array, sort_of}
 use Rattle.pads_sorted.specs.Values.{has_sort, each_element}
-use Rattle.pads_sorted.proofs.Readings.{both-true}
 use Rattle.pads_sorted.proofs.Values.{has-Missing, has-Array}
 
 module _ (declared : List Sort) (sort : Sort) where
@@ -48,7 +48,7 @@ module _ (declared : List Sort) (sort : Sort) where
   more-has : (e : Ending) (t : Turn) (more : Reading → Elements) → TurnOf t → ((r : Reading) → AllOf (more r).rest) → AllOf (unless_ended e (and_then t more)).rest
   more-has (ending.Ends own) t more h later = refl
   more-has ending.GoesOn (turn.Undone cause) more h later = refl
-  more-has ending.GoesOn (turn.Kept r) more h later = both-true (has_sort declared r.value sort) _ h (later r)
+  more-has ending.GoesOn (turn.Kept r) more h later = and_from (has_sort declared r.value sort) _ h (later r)
 
   elements-have : (bytes : List ℕ) (s : SeqReader) → ((env : Pairs) (i : ℕ) → Of (s.elem env i)) → (size : Option ℕ) (env : Pairs) (turns : ℕ) (before : List Val) (j : ℕ)
       → AllOf (elements bytes s size env turns before j).rest

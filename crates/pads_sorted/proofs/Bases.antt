@@ -19,7 +19,7 @@ use Rattle.pads_sorted.specs.Sorts.{Sort, Number, Text, Labels, base_sort}
 use Rattle.pads_sorted.specs.Values.{has_sort}
 use Rattle.pads_sorted.proofs.Values.{has-Num, has-Text, has-Enum}
 
-there-below : {A : Type 0} (xs : List A) (n : ℕ) (x : A) → slice_get xs n ≡ Some x → n < length xs
+pub there-below : {A : Type 0} (xs : List A) (n : ℕ) (x : A) → slice_get xs n ≡ Some x → n < length xs
 there-below [] n x there = cc
 there-below (y ∷ xs) zero x there = omega arith
 there-below (y ∷ xs) (suc n) x there = omega (arith, there-below xs n x there)

@@ -7,8 +7,9 @@ use Rattle.pads_calc.specs.declared.term.Term.{Term}
 use Rattle.pads_calc.specs.Arguments.{arguments, bound_to}
 use Rattle.pads_calc.specs.Calculus.{caller, meaning, body_of, read}
 use Rattle.pads_calc.specs.Readings.{Reader}
+use Rattle.pads_calc.proofs.Choices.{slice_get-map}
 use Rattle.pads_sorted.specs.Sorts.{Sort, Nothing, sort_at, sort_of, AreSorts}
-use Rattle.pads_sorted.proofs.Readings.{Of, ReadsAs, IsOf, slice_get-map}
+use Rattle.pads_sorted.proofs.Readings.{Of, ReadsAs, IsOf}
 use Rattle.pads_sorted.proofs.Terms.{term-has}
 use Rattle.pads_sorted.proofs.Values.{has-Missing}
 

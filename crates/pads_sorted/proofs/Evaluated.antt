@@ -1,5 +1,6 @@
 -- No expression that the calculus evaluates in a sorted module is ill-sorted.
 use Rattle.std.proofs.Common.{◌≡◌, ◌≢◌, ◌∙◌, sym, ap, refl, subst, ℕ, zero, suc, Bool, true, false, ◌&&◌, ◌||◌, List, [], ◌∷◌, map, Option, Some, None, slice_get, option_map, inl, inr}
+use Rattle.std.proofs.lemmas.Bool.{and_from, and_parts}
 use Rattle.pads_value.specs.declared.value.Val.{Val}
 use Rattle.pads_value.specs.declared.value.Val.TheVariants as val
 use Rattle.pads_expr.specs.declared.expr.Expr.{Expr}
@@ -22,6 +23,7 @@ use Rattle.pads_calc.specs.declared.term.Term.{Term, Term-F, out-Term}
 use Rattle.pads_calc.specs.Arguments.{arg_told, argument, arguments, and_more, bound_to, value_of_arg}
 use Rattle.pads_calc.specs.Calculus.{meaning}
 use Rattle.pads_calc.specs.Structs.{bind}
+use Rattle.pads_calc.proofs.Choices.{slice_get-map}
 use Rattle.pads_sorted.specs.Evaluated.{Moment, moment, IsOneOf, ReadsPart, ReadsBody, ReadsNext, IsOwn, IsConstraint, AreElements, IsSize, IsLast, Asks, Evaluates, asks, reads}
 use Rattle.pads_sorted.specs.Expressions.{Scope, sort_in}
 use Rattle.pads_sorted.specs.Sorted.{Sorts, has, takes, no_argument, one_number, one_text, chooses, is_argument, are_arguments, calls, computes, size_fits, last_fits, sorts_in, fits, Standing, stands, bind_sort, parts_standing, standing_in, IsSorted, sorted, params_scope, are_parameters, AreSorted}
@@ -31,9 +33,8 @@ use Rattle.pads_sorted.specs.Values.{has_sort, each_element, HasSorts}
 use Rattle.pads_sorted.proofs.Calls.{meaning-has}
 use Rattle.pads_sorted.proofs.Expressions.{bound-has, expression-has, never-ill}
 use Rattle.pads_sorted.proofs.Operators.{Has}
-use Rattle.pads_sorted.proofs.Readings.{both-true, slice_get-map}
 use Rattle.pads_sorted.proofs.Values.{has-Num, has-Text, has-Array}
-use Rattle.pads_sorted.proofs.Worths.{number-is, text-is, both-left, both-right}
+use Rattle.pads_sorted.proofs.Worths.{number-is, text-is}
 
 -- a sort that there is
 abbrev IsThere : Option Sort → Type 0
@@ -54,10 +55,10 @@ none-there (first ∷ more) h n o there = cc
 one-there : (p : Sort → Bool) (first : Option Sort) (more : List (Option Sort)) → (has p first && no_argument more) ≡ true → AreThere (first ∷ more)
 unfolding AreThere
 one-there p first more h zero o there =
-    let found = has-there p first (both-left (has p first) (no_argument more) h) in
+    let found = has-there p first (and_parts (has p first) (no_argument more) h).0 in
     let same : first ≡ o = cc in
     (found.0, sym same ∙ found.1)
-one-there p first more h (suc n) o there = none-there more (both-right (has p first) (no_argument more) h) n o there
+one-there p first more h (suc n) o there = none-there more (and_parts (has p first) (no_argument more) h).1 n o there
 
 number-there : (sorts : List (Option Sort)) → one_number sorts ≡ true → AreThere sorts
 number-there [] h = cc
@@ -95,9 +96,9 @@ arguments-there [] (sort ∷ sorts) h n o there = cc
 arguments-there (param ∷ params) [] h n o there = cc
 arguments-there (param ∷ params) (sort ∷ sorts) h zero o there =
     let same : sort ≡ o = cc in
-    subst IsThere same (argument-there param sort (both-left (is_argument param sort) (are_arguments params sorts) h))
+    subst IsThere same (argument-there param sort (and_parts (is_argument param sort) (are_arguments params sorts) h).0)
 arguments-there (param ∷ params) (sort ∷ sorts) h (suc n) o there =
-    arguments-there params sorts (both-right (is_argument param sort) (are_arguments params sorts) h) n o there
+    arguments-there params sorts (and_parts (is_argument param sort) (are_arguments params sorts) h).1 n o there
 
 calls-there : (params : Option (List Sort)) (sorts : List (Option Sort)) → calls params sorts ≡ true → AreThere sorts
 calls-there None sorts h = cc
@@ -157,7 +158,7 @@ module _ (sorts : Sorts) (decls : List Decl) (are : AreSorted sorts decls) (orig
       → each_element sorts.declared (map (has_sort sorts.declared) values) (sort_of sorts.declared elem) ≡ true
   elements-have elem now [] all = refl
   elements-have elem now (value ∷ values) all =
-      both-true (has_sort sorts.declared value (sort_of sorts.declared elem)) _
+      and_from (has_sort sorts.declared value (sort_of sorts.declared elem)) _
       (subst (λ value. has_sort sorts.declared value (sort_of sorts.declared elem) ≡ true) (sym all.0.1) (meaning-has sorts.declared decls are.declared origin bytes now.depth elem now.env all.0.0))
       (elements-have elem now values all.1)
 
@@ -183,9 +184,9 @@ module _ (sorts : Sorts) (decls : List Decl) (are : AreSorted sorts decls) (orig
   asks-sure scope (Term-F.Switch chooser cases) now e env fit h asked =
       own-sure scope (chooser ∷ []) now e env (single (sort_in sorts.declared chooser scope) (chooses-there (sort_in sorts.declared chooser scope) (map (λ (case : Case). case.key) cases) fit)) h asked
   asks-sure scope (Term-F.Guard inner binder condition) now e env fit h asked = constraint-sure scope inner binder condition now e env fit h asked
-  asks-sure scope (Term-F.Seq s) now e env fit h (inl asked) = size-sure scope s.size now e env (both-left (size_fits sorts s.size scope) _ fit) h asked
+  asks-sure scope (Term-F.Seq s) now e env fit h (inl asked) = size-sure scope s.size now e env (and_parts (size_fits sorts s.size scope) _ fit).0 h asked
   asks-sure scope (Term-F.Seq s) now e env fit h (inr asked) =
-      last-sure scope s.elem s.elts s.last now e env (both-right (size_fits sorts s.size scope) _ fit) h asked
+      last-sure scope s.elem s.elts s.last now e env (and_parts (size_fits sorts s.size scope) _ fit).1 h asked
   asks-sure scope (Term-F.Call number args) now e env fit h asked =
       own-sure scope args now e env (calls-there (slice_get sorts.params number) (sorts_in sorts args scope) fit) h asked
   asks-sure scope (Term-F.Compute computed form) now e env fit h asked =
@@ -276,10 +277,10 @@ module _ (sorts : Sorts) (decls : List Decl) (are : AreSorted sorts decls) (orig
   params-have scope env h (name ∷ names) (param ∷ params) (e ∷ args) found fit as_many is outer inner so_far =
       let both = both-told (argument e env) (arguments args env) found is in
       rw (← both.4) (params-have scope env h names params args both.1
-      (both-right (is_argument param (sort_in sorts.declared e scope)) _ fit) (both-right _ (are_parameters names params) as_many) both.3
+      (and_parts (is_argument param (sort_in sorts.declared e scope)) _ fit).1 (and_parts _ (are_parameters names params) as_many).1 both.3
       ((name, param) ∷ outer) ((name, value_of_arg both.0) ∷ inner)
       (bound-has sorts.declared outer inner name param (value_of_arg both.0) so_far
-      (argument-has scope env e param both.0 h (both-left (is_argument param (sort_in sorts.declared e scope)) _ fit) both.2)))
+      (argument-has scope env e param both.0 h (and_parts (is_argument param (sort_in sorts.declared e scope)) _ fit).0 both.2)))
 
   nothing-bound : HasSorts sorts.declared [] []
   nothing-bound name sort value is there = cc

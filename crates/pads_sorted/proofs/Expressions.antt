@@ -15,7 +15,7 @@ use Rattle.pads_sorted.proofs.Values.{has-Num}
 use Rattle.pads_sorted.proofs.Worths.{worth-has, part-has, branch-has, element-has, chooses-has, length-has}
 
 -- what is asked of a sort that there is
-and_then-is : {A B : Type 0} (f : A → Option B) (o : Option A) (y : B) → option_and_then f o ≡ Some y → (x : A) × (o ≡ Some x) × (f x ≡ Some y)
+pub and_then-is : {A B : Type 0} (f : A → Option B) (o : Option A) (y : B) → option_and_then f o ≡ Some y → (x : A) × (o ≡ Some x) × (f x ≡ Some y)
 and_then-is f None y is = cc
 and_then-is f (Some x) y is = (x, refl, is)
 

@@ -7,12 +7,12 @@ use Rattle.pads_calc.specs.declared.term.Case.{Case}
 use Rattle.pads_calc.specs.declared.term.Part.{Part}
 use Rattle.pads_calc.specs.declared.term.Seq.{Seq}
 use Rattle.pads_calc.specs.declared.term.Term.{Term, Term-F, out-Term}
+use Rattle.pads_calc.proofs.Choices.{slice_get-map}
 use Rattle.pads_sorted.specs.Plain.{Plain, IsPlain, IsPlainHere, plain}
 use Rattle.pads_sorted.specs.Sorts.{Sort, Nothing, sort_at, sort_of, AreSorts}
 use Rattle.pads_sorted.specs.Terms.{terms_in}
 use Rattle.pads_sorted.proofs.Calls.{declared-is}
 use Rattle.pads_sorted.proofs.Forms.{layer_sort, sort-out}
-use Rattle.pads_sorted.proofs.Readings.{slice_get-map}
 
 -- where two lists of sorts agree on the earlier declarations
 module _ (n : ℕ) (one other : List Sort) (same : (k : ℕ) → k < n → sort_at one k ≡ sort_at other k) where

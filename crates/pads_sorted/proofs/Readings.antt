@@ -1,7 +1,8 @@
 -- What each form of term but the array reads has its sort, where what the terms in it read has theirs.
-use Rattle.std.proofs.Common.{◌≡◌, ◌∙◌, sym, ap, refl, subst, arith, ℕ, zero, suc, ◌+◌, ◌-◌, int_le, ◌&&◌, nat_lt, nat_eq, not, Bool, true, List, [], ◌∷◌, drop, length, map, Option, Some, None, slice_get, option_map}
+use Rattle.std.proofs.Common.{◌≡◌, ◌∙◌, sym, ap, refl, subst, arith, ℕ, zero, suc, ◌+◌, ◌-◌, int_le, ◌&&◌, nat_lt, nat_eq, not, true, List, [], ◌∷◌, drop, length, map, Option, Some, None, slice_get, option_map}
 use Rattle.std.specs.Prelude.{⊤}
 use Rattle.std.specs.List.{starts_with}
+use Rattle.std.proofs.lemmas.Bool.{and_from}
 use Rattle.pads_value.specs.declared.cause.Cause.TheVariants as cause
 use Rattle.pads_value.specs.declared.reading.Read.{Read}
 use Rattle.pads_value.specs.declared.reading.Read.TheVariants.{Good, Soft, Hard}
@@ -29,18 +30,11 @@ use Rattle.pads_calc.specs.Readings.{Reader, leaf, fails, is_ok, values}
 use Rattle.pads_calc.specs.Structs.{Named, bind, in_turn, struct_of}
 use Rattle.pads_calc.specs.Wrappers.{constrained, guard_of, absorb_of, found_at, scan, scan_from}
 use Rattle.pads_calc.proofs.Cases.{pick}
+use Rattle.pads_calc.proofs.Choices.{slice_get-map}
 use Rattle.pads_sorted.specs.Sorts.{Sort, Number, Nothing, Struct, Choice, base_sort, result_sort, sort_of}
 use Rattle.pads_sorted.specs.Values.{has_sort, each_part, of_branch}
 use Rattle.pads_sorted.proofs.Bases.{ReadHas, base-has}
 use Rattle.pads_sorted.proofs.Values.{has-Unit, has-Missing, has-Num, has-Text, has-Tuple, has-Branch}
-
-pub both-true : (a b : Bool) → a ≡ true → b ≡ true → (a && b) ≡ true
-both-true a b h k = rw (h, k) refl
-
-pub slice_get-map : {A B : Type 0} (f : A → B) (xs : List A) (n : ℕ) → slice_get (map f xs) n ≡ option_map f (slice_get xs n)
-slice_get-map f [] n = refl
-slice_get-map f (x ∷ xs) zero = refl
-slice_get-map f (x ∷ xs) (suc n) = slice_get-map f xs n
 
 module _ (declared : List Sort) (origin : ℕ) (bytes : List ℕ) where
   -- a reading has a sort by its value
@@ -131,7 +125,7 @@ module _ (declared : List Sort) (origin : ℕ) (bytes : List ℕ) where
     parts-have [] h env i = refl
     parts-have (part ∷ parts) h env i =
         let r = reads part.term env i in
-        both-true (has_sort declared r.value (sort_of declared part.term)) _ (h.0 env i) (parts-have parts h.1 (bind part.name r.value env) r.place)
+        and_from (has_sort declared r.value (sort_of declared part.term)) _ (h.0 env i) (parts-have parts h.1 (bind part.name r.value env) r.place)
 
     pub struct-has : (parts : List Part) → AllParts parts → (env : Pairs) (i : ℕ) → Of (Struct parts) (struct_of origin (in_turn (map named parts) env i) i)
     struct-has parts h env i = has-Tuple declared (values (in_turn (map named parts) env i)) parts ∙ parts-have parts h env i

@@ -1,5 +1,5 @@
 -- What holds of the record's row: its value has its type's sort, and nothing ill-sorted is evaluated.
-use Rattle.std.proofs.Common.{◌≡◌, ◌≢◌, ◌∙◌, sym, ap, refl, subst, ℕ, true, List, [], ◌∷◌, Some, slice_get}
+use Rattle.std.proofs.Common.{◌≡◌, ◌≢◌, ◌∙◌, sym, ap, refl, subst, ℕ, true, List, [], Some, slice_get}
 use Rattle.pads_value.specs.Cuts.{Cut}
 use Rattle.pads_value.specs.declared.frame.Mark.{Mark}
 use Rattle.pads_value.specs.declared.frame.Mark.TheVariants as mark
@@ -13,6 +13,7 @@ use Rattle.pads_calc.specs.declared.term.Term.{Term-F, out-Term}
 use Rattle.pads_calc.specs.declared.term.Term.TheVariants as term
 use Rattle.pads_calc.specs.Arguments.{bound_to}
 use Rattle.pads_calc.specs.Rows.{deepest, type_of, body_reading, row_by, row_of}
+use Rattle.pads_calc.proofs.Bindings.{bound-none}
 use Rattle.pads_sorted.specs.Evaluated.{Moment, moment, IsOwn, ReadsBody, ReadsNext, Asks, Evaluates, asks, reads}
 use Rattle.pads_sorted.specs.Expressions.{Scope}
 use Rattle.pads_sorted.specs.Sorted.{Sorts, AreSorted, IsSorted, params_scope}
@@ -34,10 +35,6 @@ module _ (declared : List Sort) (decls : List Decl) (are : AreSorts declared dec
   row-has shape number cut =
       row_by-has cut.mark number cut (body_reading decls (type_of shape number) cut) (sort_at declared (type_of shape number))
       (caller-has declared decls are cut.first cut.bytes deepest (type_of shape number) [] [] 0)
-
-bound-none : (names : List ℕ) (env : Pairs) → bound_to names [] env ≡ env
-bound-none [] env = refl
-bound-none (name ∷ names) env = refl
 
 module _ (sorts : Sorts) (decls : List Decl) (are : AreSorted sorts decls) (origin : ℕ) (bytes : List ℕ) where
   -- where nothing is bound

@@ -9,26 +9,17 @@ use Rattle.pads_calc.specs.declared.term.Arm.{Arm, size-Arm}
 use Rattle.pads_calc.specs.declared.term.Case.{Case, size-Case}
 use Rattle.pads_calc.specs.declared.term.Part.{Part, size-Part}
 use Rattle.pads_calc.specs.declared.term.Seq.{Seq, size-Seq}
-use Rattle.pads_calc.specs.declared.term.Term.{Term, Term-F, size-Term, out-Term, roll-Term, roll-out-Term, the_lemmas}
+use Rattle.pads_calc.specs.declared.term.Term.{Term, Term-F, size-Term, out-Term, roll-Term, roll-out-Term}
 use Rattle.pads_calc.specs.declared.term.Term.TheVariants as term
 use Rattle.pads_calc.specs.Arguments.{arguments}
 use Rattle.pads_calc.specs.Calculus.{Caller, read, seq_reader}
 use Rattle.pads_calc.proofs.Rolls.{read-Unit, read-Base, read-Lit, read-Eor, read-Struct, read-Alt, read-Switch, read-Guard, read-Seq, read-Call, read-Compute, read-Absorb, read-Scan}
-use Rattle.pads_calc.proofs.Sizes.{size-Struct, size-Alt, size-Switch, size-Guard, size-of_Seq, size-Scan, size-in_Case}
+use Rattle.pads_calc.proofs.Sizes.{size-Struct, size-Alt, size-Switch, size-Guard, size-of_Seq, size-Scan, size-in_Case, size-in_Part, size-in_Arm, size-elem}
 use Rattle.pads_sorted.specs.Sorts.{Sort, sort_at, sort_of}
 use Rattle.pads_sorted.specs.Values.{has_sort}
 use Rattle.pads_sorted.proofs.Arrays.{seq-has}
 use Rattle.pads_sorted.proofs.Forms.{layer_sort, sort-roll}
 use Rattle.pads_sorted.proofs.Readings.{ReadsAs, IsOf, AllParts, AllArms, AllCases, unit-has, lit-has, eor-has, base_of-has, compute-has, struct-has, alt-has, switch-has, guard-has, absorb-has, scan-has}
-
-size-in_Part : (part : Part) → size-Term part.term < size-Part part
-size-in_Part part = grind (arith, the_lemmas)
-
-size-in_Arm : (arm : Arm) → size-Term arm.term < size-Arm arm
-size-in_Arm arm = grind (arith, the_lemmas)
-
-size-elem : (s : Seq) → size-Term s.elem < size-Seq s
-size-elem s = grind (arith, the_lemmas)
 
 module _ (declared : List Sort) (origin : ℕ) (bytes : List ℕ) (call : Caller) where
   abbrev Lawful : Term → Type 0

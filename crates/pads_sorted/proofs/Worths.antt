@@ -4,21 +4,13 @@ use Rattle.pads_value.specs.declared.value.Val.{Val, Val-F, out-Val, fold_out-Va
 use Rattle.pads_expr.specs.Parts.{worth_of, worth_or, part_of, arm_of, is_arm_of, element_of, length_of, item_at}
 use Rattle.pads_expr.specs.Worth.{Worth, Answer, Is, Absent, Ill}
 use Rattle.pads_expr.specs.Worth as worth
-use Rattle.std.proofs.lemmas.Bool.{eqb-true}
+use Rattle.std.proofs.lemmas.Bool.{eqb-true, and_parts}
 use Rattle.pads_calc.proofs.Cases.{pick}
 use Rattle.pads_calc.specs.declared.term.Part.{Part}
 use Rattle.pads_calc.specs.declared.term.Term.{Term}
 use Rattle.pads_sorted.specs.Expressions.{part_sort, branch_sort, element_sort, chooses_sort, length_sort}
 use Rattle.pads_sorted.specs.Sorts.{Sort, Number, Text, Truth, Nothing, Labels, Struct, Choice, Array, sort_of}
 use Rattle.pads_sorted.specs.Values.{Sorting, value_step, has_sort, is_whole, worth_has, answer_has, each_part, each_element, of_branch}
-
-pub both-left : (a b : Bool) → (a && b) ≡ true → a ≡ true
-both-left true b h = refl
-both-left false b h = cc
-
-pub both-right : (a b : Bool) → (a && b) ≡ true → b ≡ true
-both-right true b h = h
-both-right false b h = cc
 
 module _ (declared : List Sort) where
   abbrev pub layer_has : Val-F Val → Sort → Bool
@@ -82,10 +74,10 @@ module _ (declared : List Sort) where
   holds_whole value sort = is_whole (out-Val value) && has_sort declared value sort
 
   here : (value : Val) (sort : Sort) → holds_whole value sort ≡ true → layer_has (out-Val value) sort ≡ true
-  here value sort h = sym (has-out value sort) ∙ both-right (is_whole (out-Val value)) (has_sort declared value sort) h
+  here value sort h = sym (has-out value sort) ∙ (and_parts (is_whole (out-Val value)) (has_sort declared value sort) h).1
 
   whole : (value : Val) (sort : Sort) → holds_whole value sort ≡ true → is_whole (out-Val value) ≡ true
-  whole value sort h = both-left (is_whole (out-Val value)) (has_sort declared value sort) h
+  whole value sort h = (and_parts (is_whole (out-Val value)) (has_sort declared value sort) h).0
 
   pub number-is : (w : Worth) → worth_has declared w Number ≡ true → (number : ℤ) × (w ≡ worth.Num number)
   number-is (worth.Num number) h = (number, refl)
@@ -114,9 +106,9 @@ module _ (declared : List Sort) where
   each-part (value ∷ values) [] n sort h is = cc
   each-part (value ∷ values) (part ∷ parts) zero sort h is =
       let same : sort_of declared part.term ≡ sort = cc in
-      worth-has value sort (subst (λ sort. has_sort declared value sort ≡ true) same (both-left (has_sort declared value (sort_of declared part.term)) _ h))
+      worth-has value sort (subst (λ sort. has_sort declared value sort ≡ true) same (and_parts (has_sort declared value (sort_of declared part.term)) _ h).0)
   each-part (value ∷ values) (part ∷ parts) (suc n) sort h is =
-      each-part values parts n sort (both-right (has_sort declared value (sort_of declared part.term)) _ h) is
+      each-part values parts n sort (and_parts (has_sort declared value (sort_of declared part.term)) _ h).1 is
 
   part-layer : (value : Val) (layer : Val-F Val) (parts : List Part) (n : ℕ) (sort : Sort) → out-Val value ≡ layer → is_whole layer ≡ true → layer_has layer (Struct parts) ≡ true
       → part_sort declared n (Struct parts) ≡ Some sort → answer_has declared (part_of n (worth.Part value)) sort ≡ true
@@ -158,8 +150,8 @@ module _ (declared : List Sort) where
   each-element : (values : List Val) (sort : Sort) (n : ℕ) → each_element declared (map (has_sort declared) values) sort ≡ true
       → answer_has declared (worth_or Absent (slice_get values n)) sort ≡ true
   each-element [] sort n h = refl
-  each-element (value ∷ values) sort zero h = worth-has value sort (both-left (has_sort declared value sort) _ h)
-  each-element (value ∷ values) sort (suc n) h = each-element values sort n (both-right (has_sort declared value sort) _ h)
+  each-element (value ∷ values) sort zero h = worth-has value sort (and_parts (has_sort declared value sort) _ h).0
+  each-element (value ∷ values) sort (suc n) h = each-element values sort n (and_parts (has_sort declared value sort) _ h).1
 
   each-item : (values : List Val) (sort : Sort) (index : ℤ) → each_element declared (map (has_sort declared) values) sort ≡ true
       → answer_has declared (worth_or Absent (item_at values index)) sort ≡ true

@@ -3,7 +3,7 @@ use Rattle.std.proofs.Common.{◌≡◌, sym, ap, subst, arith, ℕ, zero, suc, 
 use Rattle.std.specs.Prelude.{⊤}
 use Rattle.std.specs.List.{starts_with}
 use Rattle.std.specs.Cmp.Lexicographic.{pointwise}
-use Rattle.std.proofs.lemmas.Bool.{ltb-false}
+use Rattle.std.proofs.lemmas.Bool.{ltb-false, and_parts}
 use Rattle.pads_value.specs.declared.cause.Cause.TheVariants as cause
 use Rattle.pads_value.specs.declared.descriptor.Span.{Span}
 use Rattle.pads_value.specs.declared.reading.Read.{Read}
@@ -28,14 +28,13 @@ use Rattle.pads_calc.specs.Readings.{Reader, leaf, fails, is_ok, values}
 use Rattle.pads_calc.specs.Structs.{Named, bind, in_turn, struct_of}
 use Rattle.pads_calc.specs.Wrappers.{constrained, guard_of, absorb_of, found_at, scan, scan_from}
 use Rattle.pads_calc.proofs.Cases.{pick}
-use Rattle.pads_soundness.proofs.Nodes.{both-left, both-right}
 use Rattle.pads_soundness.proofs.Readings.{Sound, SoundReader, SoundReaders, Follow, sound-bare, sound-fails, sound-run, sound-caused, at_once}
 
 starts-fits : (xs needle : List ℕ) → starts_with nat_eq xs needle ≡ true → length needle ≤ length xs
 starts-fits xs [] starts = omega arith
 starts-fits [] (n ∷ needle) starts = cc
 starts-fits (x ∷ xs) (n ∷ needle) starts =
-    omega (arith, starts-fits xs needle (both-right (nat_eq n x) (pointwise nat_eq needle (take (length needle) xs)) starts))
+    omega (arith, starts-fits xs needle (and_parts (nat_eq n x) (pointwise nat_eq needle (take (length needle) xs)) starts).1)
 
 module _ (origin : ℕ) (bytes : List ℕ) where
   abbrev Here : ℕ → Reading → Type 0
@@ -124,7 +123,7 @@ module _ (origin : ℕ) (bytes : List ℕ) where
   sound-guard binder condition env i r h =
       let fails = not (is_true condition ((binder, r.value) ∷ env)) in
       pick (Here i) (is_ok r && fails) (constrained r) r
-      (λ both. sound-constrained i r h (both-left (is_ok r) fails both)) (λ _. h)
+      (λ both. sound-constrained i r h (and_parts (is_ok r) fails both).0) (λ _. h)
 
   pub sound-absorb : (i : ℕ) (r : Reading) → Here i r → Here i (absorb_of r)
   sound-absorb i r h = record { counts = h.counts; spans = h.spans; span = h.span; forth = h.forth; within = h.within }

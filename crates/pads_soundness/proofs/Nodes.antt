@@ -1,7 +1,8 @@
 -- A node is sound by the header rule where its kids are.
-use Rattle.std.proofs.Common.{◌≡◌, ◌∙◌, ap, refl, subst, arith, ℕ, ◌+◌, ◌≤◌, ◌↔◌, List, [], ◌∷◌, map, sum, Bool, true, false, ◌&&◌, if◌then◌else◌, Option, None, Some}
+use Rattle.std.proofs.Common.{◌≡◌, ◌∙◌, ap, refl, subst, arith, ℕ, ◌+◌, ◌≤◌, ◌↔◌, List, [], ◌∷◌, map, sum, Bool, true, false, if◌then◌else◌, Option, None, Some}
 use Rattle.std.specs.Prelude.{⊤}
 use Rattle.std.proofs.lemmas.List.Sums.{sum_by-cons}
+use Rattle.std.proofs.lemmas.Bool.{and_parts}
 use Rattle.pads_value.specs.CauseCount.{causes, node_causes}
 use Rattle.pads_value.specs.Header.{head, capped, counted, all_clean, is_clean, is_ok_class, class_of, count_of, cause_of, with_cause}
 use Rattle.pads_value.specs.declared.cause.Cause.{Cause}
@@ -70,14 +71,6 @@ total-is [] all = refl
 total-is (kid ∷ kids) all =
     omega (arith, counted-more kid kids, causes-more kid kids, count-is kid all.0, total-is kids all.1)
 
-pub both-left : (a b : Bool) → (a && b) ≡ true → a ≡ true
-both-left true b h = refl
-both-left false b h = cc
-
-pub both-right : (a b : Bool) → (a && b) ≡ true → b ≡ true
-both-right true b h = h
-both-right false b h = cc
-
 is-ok : (c : Class) → is_ok_class c ≡ true → c ≡ class.Ok
 is-ok class.Ok ok = refl
 is-ok class.Err ok = cc
@@ -95,8 +88,8 @@ total-clean (kid ∷ kids) all clean =
     omega (
       arith,
       counted-more kid kids,
-      clean-none kid all.0 (both-left (is_clean kid) (all_clean kids) clean),
-      total-clean kids all.1 (both-right (is_clean kid) (all_clean kids) clean),
+      clean-none kid all.0 (and_parts (is_clean kid) (all_clean kids) clean).0,
+      total-clean kids all.1 (and_parts (is_clean kid) (all_clean kids) clean).1,
     )
 
 total-none : (kids : List Pd) → AllCounts kids → counted kids ≡ 0 → all_clean kids ≡ true

@@ -9,27 +9,15 @@ use Rattle.pads_calc.specs.declared.term.Arm.{Arm, size-Arm}
 use Rattle.pads_calc.specs.declared.term.Case.{Case, size-Case}
 use Rattle.pads_calc.specs.declared.term.Part.{Part, size-Part}
 use Rattle.pads_calc.specs.declared.term.Seq.{Seq, size-Seq}
-use Rattle.pads_calc.specs.declared.term.Term.{Term, Term-F, size-Term, out-Term, roll-Term, roll-out-Term, the_lemmas}
+use Rattle.pads_calc.specs.declared.term.Term.{Term, Term-F, size-Term, out-Term, roll-Term, roll-out-Term}
 use Rattle.pads_calc.specs.declared.term.Term.TheVariants as term
 use Rattle.pads_calc.specs.Arguments.{arguments}
 use Rattle.pads_calc.specs.Calculus.{Caller, read, part_reader, arm_reader, case_reader, option_reader, seq_reader}
 use Rattle.pads_calc.proofs.Rolls.{read-Unit, read-Base, read-Lit, read-Eor, read-Struct, read-Alt, read-Switch, read-Guard, read-Seq, read-Call, read-Compute, read-Absorb, read-Scan}
-use Rattle.pads_calc.proofs.Sizes.{size-Struct, size-Alt, size-Switch, size-Guard, size-of_Seq, size-Absorb, size-Scan, size-in_Case}
+use Rattle.pads_calc.proofs.Sizes.{size-Struct, size-Alt, size-Switch, size-Guard, size-of_Seq, size-Absorb, size-Scan, size-in_Case, size-in_Part, size-in_Arm, size-elem, size-sep}
 use Rattle.pads_soundness.proofs.Readings.{Sound, SoundReader, SoundReaders}
 use Rattle.pads_soundness.proofs.Forms.{SoundParts, sound-unit, sound-lit, sound-eor, sound-base, sound-compute, sound-struct, sound-alt, sound-switch, sound-guard, sound-absorb, sound-scan}
 use Rattle.pads_soundness.proofs.Arrays.{SoundOption, sound-seq}
-
-size-in_Part : (part : Part) → size-Term part.term < size-Part part
-size-in_Part part = grind (arith, the_lemmas)
-
-size-in_Arm : (arm : Arm) → size-Term arm.term < size-Arm arm
-size-in_Arm arm = grind (arith, the_lemmas)
-
-size-elem : (s : Seq) → size-Term s.elem < size-Seq s
-size-elem s = grind (arith, the_lemmas)
-
-size-sep : (s : Seq) (t : Term) → s.sep ≡ Some t → size-Term t < size-Seq s
-size-sep s t there = grind (arith, the_lemmas)
 
 module _ (origin : ℕ) (bytes : List ℕ) (call : Caller) where
   abbrev IsSound : Term → Type 0

@@ -24,9 +24,10 @@ use Rattle.pads_syntax_expr.specs.Leaves.{mark}
 use Rattle.pads_syntax_decl.specs.Declarations.{signature, heading, struct_decl, union_body, union_decl, sized, array_body, array_decl, enum_decl, typedef_decl, opt_decl, marked, other_body, decl_body, decl, decls}
 use Rattle.pads_well_sorted.specs.WellSorted.{Each, IfThere}
 use Rattle.pads_accepted.specs.Described.{IsSpelled, AreSpelled}
+use Rattle.pads_accepted.proofs.Given.{each-both}
 use Rattle.pads_spelled.proofs.Expressions.{SpelledName, SpelledExpr, keeps-name}
 use Rattle.pads_spelled.proofs.Keeps.{Keeps, keeps-any, keeps-pair, keeps-apply, keeps-first, keeps-second, keeps-either, keeps-optional, keeps-many}
-use Rattle.pads_spelled.proofs.Lists.{each-append, each-flat_map, each-map, each-written, each-listed}
+use Rattle.pads_spelled.proofs.Lists.{each-flat_map, each-map, each-written, each-listed}
 use Rattle.pads_spelled.proofs.Parts.{SpelledOption, keeps-part, keeps-condition, keeps-switch, keeps-array-options, keeps-labels, keeps-refinement}
 use Rattle.pads_spelled.proofs.Types.{SpelledType, keeps-expression, keeps-type, keeps-params, keeps-branch}
 
@@ -49,7 +50,7 @@ abbrev SpelledBody : DeclBody → Type 0
 SpelledBody d = AreSpelled (names_in_decl d)
 
 spelled-declared : (both : Name × Option (List Param)) (names : Names) → SpelledSignature both → AreSpelled names → AreSpelled (both.0.text ∷ (flat_map names_in_param (written both.1) ++ names))
-spelled-declared both names front all = (front.0, each-append IsSpelled (flat_map names_in_param (written both.1)) names front.1 all)
+spelled-declared both names front all = (front.0, each-both IsSpelled (flat_map names_in_param (written both.1)) names front.1 all)
 
 spelled-condition : (o : Option Expr) → IfThere SpelledExpr o → AreSpelled (names_in_option o)
 spelled-condition o all = each-listed IsSpelled names_in_expr o all
@@ -59,7 +60,7 @@ unfolding struct_decl
 keeps-struct = keeps-apply (λ (d : Struct). SpelledBody (decl_form.Struct d)) (λ all. record { name = all.0.0.0; params = all.0.0.1; parts = all.0.1; condition = all.1 })
     (keeps-pair (keeps-first (mark kind.CloseBrace) (keeps-pair (keeps-heading kind.Pstruct) (keeps-many keeps-part))) (keeps-optional keeps-condition))
     (λ all spelled. spelled-declared all.0.0 (flat_map names_in_part all.0.1 ++ names_in_option all.1) spelled.0.0
-    (each-append IsSpelled (flat_map names_in_part all.0.1) (names_in_option all.1) (each-flat_map IsSpelled names_in_part all.0.1 spelled.0.1) (spelled-condition all.1 spelled.1)))
+    (each-both IsSpelled (flat_map names_in_part all.0.1) (names_in_option all.1) (each-flat_map IsSpelled names_in_part all.0.1 spelled.0.1) (spelled-condition all.1 spelled.1)))
 
 keeps-union-body : Keeps union_body (λ (u : UnionBody). AreSpelled (names_in_union u))
 unfolding union_body
@@ -89,10 +90,10 @@ keeps-array = keeps-apply (λ (d : Array). SpelledBody (decl_form.Array d))
     let of = names_in_type all.0.0.1.0 in
     let size = names_in_option all.0.0.1.1 in
     let options = flat_map names_in_array_option all.0.1 in
-    let front = each-append IsSpelled of size spelled.0.0.1.0 (spelled-condition all.0.0.1.1 spelled.0.0.1.1) in
-    let middle = each-append IsSpelled (of ++ size) options front (each-flat_map IsSpelled names_in_array_option all.0.1 spelled.0.1) in
+    let front = each-both IsSpelled of size spelled.0.0.1.0 (spelled-condition all.0.0.1.1 spelled.0.0.1.1) in
+    let middle = each-both IsSpelled (of ++ size) options front (each-flat_map IsSpelled names_in_array_option all.0.1 spelled.0.1) in
     spelled-declared all.0.0.0 (of ++ size ++ options ++ names_in_option all.1) spelled.0.0.0
-    (each-append IsSpelled (of ++ size ++ options) (names_in_option all.1) middle (spelled-condition all.1 spelled.1)))
+    (each-both IsSpelled (of ++ size ++ options) (names_in_option all.1) middle (spelled-condition all.1 spelled.1)))
 
 keeps-enum : Keeps enum_decl (λ (d : Enum). SpelledBody (decl_form.Enum d))
 unfolding enum_decl
@@ -105,7 +106,7 @@ unfolding typedef_decl
 keeps-typedef = keeps-apply (λ (d : Typedef). SpelledBody (decl_form.Typedef d)) (λ all. record { of = all.0.0; name = all.0.1.0; params = all.0.1.1; constraint = all.1 })
     (keeps-pair (keeps-pair (keeps-second (mark kind.Ptypedef) keeps-type) keeps-signature) (keeps-optional keeps-refinement))
     (λ all spelled. spelled-declared all.0.1 (names_in_type all.0.0 ++ flat_map names_in_constraint (listed all.1)) spelled.0.1
-    (each-append IsSpelled (names_in_type all.0.0) (flat_map names_in_constraint (listed all.1)) spelled.0.0 (each-listed IsSpelled names_in_constraint all.1 spelled.1)))
+    (each-both IsSpelled (names_in_type all.0.0) (flat_map names_in_constraint (listed all.1)) spelled.0.0 (each-listed IsSpelled names_in_constraint all.1 spelled.1)))
 
 keeps-opt : Keeps opt_decl (λ (d : Opt). SpelledBody (decl_form.Opt d))
 unfolding opt_decl

@@ -19,14 +19,14 @@ use Rattle.pads_ast.specs.declared.expr.UnaryOperator.{UnaryOperator}
 use Rattle.pads_ast.specs.declared.name.Name.{Name}
 use Rattle.pads_ast.specs.declared.name.Word.{Word}
 use Rattle.pads_rules.specs.NameTokens.{Names, names_in_expr, names_in_form, names_in_step}
-use Rattle.pads_rules.proofs.Judgements.{names_in_expr-roll}
+use Rattle.pads_rules.proofs.ExprNames.{names_in_expr-roll}
 use Rattle.pads_syntax_expr.specs.Leaves.{text_of, mark, name, word, number}
 use Rattle.pads_syntax_expr.specs.Expressions.{operators, link, chained, prod, sum, rel, eq, both, any, sign, signed, field, index, plain, paren, opened, branch_name, pis, plen, quantifier, body, pforall, nested_atom, nested_step, posts, unary, expr}
 use Rattle.pads_syntax_expr.specs.declared.level.Level.TheVariants as level_form
 use Rattle.pads_well_sorted.specs.WellSorted.{Each}
 use Rattle.pads_accepted.specs.Described.{IsSpelled, AreSpelled}
+use Rattle.pads_accepted.proofs.Given.{each-both}
 use Rattle.pads_spelled.proofs.Keeps.{Keeps, keeps-token, keeps-any, keeps-pair, keeps-apply, keeps-first, keeps-second, keeps-either, keeps-many}
-use Rattle.pads_spelled.proofs.Lists.{each-append}
 
 named : (token : TokenKind) → kind_of token ≡ kind.Name → token ≡ token_kind.Name (text_of token)
 named (token_kind.Name text) is = refl
@@ -56,22 +56,22 @@ SpelledStep (step_form.Index at index) = SpelledExpr index
 
 spelled-links : (links : List (Link Expr)) → Each SpelledLink links → AreSpelled (flat_map (λ link. link.operand) ((former-Expr-Chain-1).map Expr Names names_in_expr links))
 spelled-links [] all = tt
-spelled-links (link ∷ links) all = each-append IsSpelled (names_in_expr link.operand) _ all.0 (spelled-links links all.1)
+spelled-links (link ∷ links) all = each-both IsSpelled (names_in_expr link.operand) _ all.0 (spelled-links links all.1)
 
 spelled-steps : (steps : List (Step Expr)) → Each SpelledStep steps → AreSpelled (flat_map names_in_step ((former-Expr-Post-1).map Expr Names names_in_expr steps))
 spelled-steps [] all = tt
 spelled-steps (step_form.Name found ∷ steps) all = (all.0, spelled-steps steps all.1)
-spelled-steps (step_form.Index at index ∷ steps) all = each-append IsSpelled (names_in_expr index) _ all.0 (spelled-steps steps all.1)
+spelled-steps (step_form.Index at index ∷ steps) all = each-both IsSpelled (names_in_expr index) _ all.0 (spelled-steps steps all.1)
 
 spelled-chain : (first : Expr) (links : List (Link Expr)) → SpelledExpr first → Each SpelledLink links → SpelledExpr (chain first links)
 spelled-chain first [] one all = one
 spelled-chain first (link ∷ links) one all =
-    rolled (Expr-F.Chain first (link ∷ links)) _ (expr_form.rolls-Chain first (link ∷ links)) (each-append IsSpelled (names_in_expr first) _ one (spelled-links (link ∷ links) all))
+    rolled (Expr-F.Chain first (link ∷ links)) _ (expr_form.rolls-Chain first (link ∷ links)) (each-both IsSpelled (names_in_expr first) _ one (spelled-links (link ∷ links) all))
 
 spelled-post : (base : Expr) (steps : List (Step Expr)) → SpelledExpr base → Each SpelledStep steps → SpelledExpr (post base steps)
 spelled-post base [] one all = one
 spelled-post base (step ∷ steps) one all =
-    rolled (Expr-F.Post base (step ∷ steps)) _ (expr_form.rolls-Post base (step ∷ steps)) (each-append IsSpelled (names_in_expr base) _ one (spelled-steps (step ∷ steps) all))
+    rolled (Expr-F.Post base (step ∷ steps)) _ (expr_form.rolls-Post base (step ∷ steps)) (each-both IsSpelled (names_in_expr base) _ one (spelled-steps (step ∷ steps) all))
 
 spelled-Unary : (operator : UnaryOperator) (at : ℕ) (operand : Expr) → SpelledExpr operand → SpelledExpr (expr_form.Unary operator at operand)
 spelled-Unary operator at operand spelled = rolled (Expr-F.Unary operator at operand) _ (expr_form.rolls-Unary operator at operand) spelled
@@ -93,7 +93,7 @@ spelled-Paren at inner spelled = rolled (Expr-F.Paren at inner) _ (expr_form.rol
 
 spelled-Pis : (at : ℕ) (value : Expr) (name : Name) → SpelledExpr value → SpelledName name → SpelledExpr (expr_form.Pis at value name)
 spelled-Pis at value name one other =
-    rolled (Expr-F.Pis at value name) _ (expr_form.rolls-Pis at value name) (each-append IsSpelled (names_in_expr value) (name.text ∷ []) one (other, tt))
+    rolled (Expr-F.Pis at value name) _ (expr_form.rolls-Pis at value name) (each-both IsSpelled (names_in_expr value) (name.text ∷ []) one (other, tt))
 
 spelled-Plen : (at : ℕ) (value : Expr) → SpelledExpr value → SpelledExpr (expr_form.Plen at value)
 spelled-Plen at value spelled = rolled (Expr-F.Plen at value) _ (expr_form.rolls-Plen at value) spelled
@@ -101,7 +101,7 @@ spelled-Plen at value spelled = rolled (Expr-F.Plen at value) _ (expr_form.rolls
 spelled-Pforall : (at : ℕ) (name : Name) (low high body : Expr) → SpelledName name → SpelledExpr low → SpelledExpr high → SpelledExpr body → SpelledExpr (expr_form.Pforall at name low high body)
 spelled-Pforall at name low high body variable one other inside =
     rolled (Expr-F.Pforall at name low high body) _ (expr_form.rolls-Pforall at name low high body)
-    (variable, each-append IsSpelled (names_in_expr low ++ names_in_expr high) (names_in_expr body) (each-append IsSpelled (names_in_expr low) (names_in_expr high) one other) inside)
+    (variable, each-both IsSpelled (names_in_expr low ++ names_in_expr high) (names_in_expr body) (each-both IsSpelled (names_in_expr low) (names_in_expr high) one other) inside)
 
 -- what the grammar makes, level by level
 module _ (inner : Grammar Expr) (each : Keeps inner SpelledExpr) where

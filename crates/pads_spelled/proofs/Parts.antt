@@ -21,9 +21,10 @@ use Rattle.pads_syntax_parts.specs.Parts.{literal_part, computed_name, computed_
 use Rattle.pads_syntax_decl.specs.Switches.{case_key, case_rule, switch_value, switch}
 use Rattle.pads_well_sorted.specs.WellSorted.{Each, IfThere}
 use Rattle.pads_accepted.specs.Described.{IsSpelled, AreSpelled}
+use Rattle.pads_accepted.proofs.Given.{each-both}
 use Rattle.pads_spelled.proofs.Expressions.{SpelledName, SpelledExpr, keeps-name}
 use Rattle.pads_spelled.proofs.Keeps.{Keeps, keeps-any, keeps-pair, keeps-apply, keeps-first, keeps-second, keeps-either, keeps-optional, keeps-many, keeps-rest_of, keeps-listed}
-use Rattle.pads_spelled.proofs.Lists.{each-append, each-flat_map, each-map}
+use Rattle.pads_spelled.proofs.Lists.{each-flat_map, each-map}
 use Rattle.pads_spelled.proofs.Types.{SpelledType, SpelledBranch, keeps-expression, keeps-type, keeps-branch}
 
 abbrev pub SpelledPart : Part → Type 0
@@ -38,7 +39,7 @@ keeps-computed-name = keeps-first (mark kind.Equals) (keeps-pair (keeps-second (
 keeps-computed-part : Keeps computed_part SpelledPart
 keeps-computed-part = keeps-apply SpelledPart (λ all. part_form.Pcompute all.0.0 all.0.1 all.1)
     (keeps-first (mark kind.Semicolon) (keeps-pair keeps-computed-name keeps-expression))
-    (λ all spelled. each-append IsSpelled (names_in_type all.0.0) (all.0.1.text ∷ names_in_expr all.1) spelled.0.0 (spelled.0.1, spelled.1))
+    (λ all spelled. each-both IsSpelled (names_in_type all.0.0) (all.0.1.text ∷ names_in_expr all.1) spelled.0.0 (spelled.0.1, spelled.1))
 
 pub keeps-part : Keeps part SpelledPart
 unfolding part
@@ -70,9 +71,9 @@ pub keeps-switch : Keeps switch SpelledSwitch
 unfolding switch
 keeps-switch = keeps-apply SpelledSwitch (λ all. record { value = all.0.0; cases = all.0.1; default = all.1 })
     (keeps-first (mark kind.CloseBrace) (keeps-pair (keeps-pair keeps-switch-value (keeps-many keeps-case)) (keeps-optional (keeps-second (mark kind.Pdefault *> mark kind.Colon) keeps-branch))))
-    (λ all spelled. each-append IsSpelled (names_in_expr all.0.0) _ spelled.0.0
+    (λ all spelled. each-both IsSpelled (names_in_expr all.0.0) _ spelled.0.0
     (each-flat_map IsSpelled names_in_branch (map (λ (case : Case). case.branch) all.0.1 ++ listed all.1)
-    (each-append SpelledBranch (map (λ (case : Case). case.branch) all.0.1) (listed all.1) (each-map SpelledBranch (λ (case : Case). case.branch) all.0.1 spelled.0.1) (listed-branches all.1 spelled.1))))
+    (each-both SpelledBranch (map (λ (case : Case). case.branch) all.0.1) (listed all.1) (each-map SpelledBranch (λ (case : Case). case.branch) all.0.1 spelled.0.1) (listed-branches all.1 spelled.1))))
 
 -- the options of an array
 abbrev pub SpelledOption : ArrayOption → Type 0

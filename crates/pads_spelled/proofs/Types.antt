@@ -12,9 +12,10 @@ use Rattle.pads_syntax_expr.specs.Leaves.{mark}
 use Rattle.pads_syntax_parts.specs.Types.{expression, arg, args, type_use, param, params, constraint, branch}
 use Rattle.pads_well_sorted.specs.WellSorted.{Each, IfThere}
 use Rattle.pads_accepted.specs.Described.{IsSpelled, AreSpelled}
+use Rattle.pads_accepted.proofs.Given.{each-both}
 use Rattle.pads_spelled.proofs.Expressions.{SpelledExpr, keeps-name, keeps-expr}
 use Rattle.pads_spelled.proofs.Keeps.{Keeps, keeps-token, keeps-any, keeps-pair, keeps-apply, keeps-first, keeps-second, keeps-either, keeps-optional, keeps-listed}
-use Rattle.pads_spelled.proofs.Lists.{each-append, each-written, each-listed}
+use Rattle.pads_spelled.proofs.Lists.{each-written, each-listed}
 
 pub keeps-expression : Keeps expression SpelledExpr
 unfolding expression
@@ -45,7 +46,7 @@ SpelledParam p = AreSpelled (names_in_param p)
 keeps-param : Keeps param SpelledParam
 unfolding param
 keeps-param = keeps-apply SpelledParam (λ both. record { of = both.0; name = both.1 }) (keeps-pair keeps-type keeps-name)
-    (λ both spelled. each-append IsSpelled (names_in_type both.0) (both.1.text ∷ []) spelled.0 (spelled.1, tt))
+    (λ both spelled. each-both IsSpelled (names_in_type both.0) (both.1.text ∷ []) spelled.0 (spelled.1, tt))
 
 pub keeps-params : Keeps params (Each SpelledParam)
 keeps-params = keeps-first (mark kind.CloseParams) (keeps-second (mark kind.OpenParams) (keeps-listed kind.Comma keeps-param))
@@ -60,4 +61,4 @@ pub keeps-branch : Keeps branch SpelledBranch
 unfolding branch
 keeps-branch = keeps-apply SpelledBranch (λ all. record { of = all.0.0; name = all.0.1; constraint = all.1 })
     (keeps-first (mark kind.Semicolon) (keeps-pair (keeps-pair keeps-type keeps-name) keeps-constraint))
-    (λ all spelled. each-append IsSpelled (names_in_type all.0.0) (all.0.1.text ∷ names_in_option all.1) spelled.0.0 (spelled.0.1, each-listed IsSpelled names_in_expr all.1 spelled.1))
+    (λ all spelled. each-both IsSpelled (names_in_type all.0.0) (all.0.1.text ∷ names_in_option all.1) spelled.0.0 (spelled.0.1, each-listed IsSpelled names_in_expr all.1 spelled.1))

@@ -1,10 +1,11 @@
 -- One token decides at each place of an expression, where no operator and no step follows it.
 use Rattle.std.proofs.Common.{◌≡◌, ℕ, zero, suc, Bool, false, ◌||◌, refl}
+use Rattle.std.proofs.lemmas.Bool.{or_left, or_right}
 use Rattle.pads_grammar.specs.declared.kind.Kind.{Kind}
 use Rattle.pads_grammar.specs.declared.kind.Kind.TheVariants as kind
 use Rattle.pads_grammar.specs.Kinds.{is}
 use Rattle.pads_grammar.specs.Grammar.{Grammar, many, nullable, begins, ahead, Apart, Decides}
-use Rattle.pads_grammar.proofs.Parts.{or-left, or-right, or-only}
+use Rattle.pads_grammar.proofs.Parts.{or-only}
 use Rattle.pads_grammar.proofs.Disjoint.{apart_by, within_by}
 use Rattle.pads_ast.specs.declared.expr.Expr.{Expr}
 use Rattle.pads_ast.specs.declared.expr.BinaryOperator.{BinaryOperator}
@@ -40,14 +41,14 @@ module _ (part : Grammar Expr) (op : Grammar BinaryOperator) (P : Kind → Bool)
     (solid : nullable op ≡ false) (quiet : begins op kind.End ≡ false) (apart : Apart P (begins op)) where
   pub chained_ok : (F : Kind → Bool) → Apart (λ j. begins op j || P j) F → Decides (chained part op) F
   chained_ok F f = (
-    part_ok (ahead (many (link op part)) F) (λ j p. rw (apart j p, solid, f j (or-right (begins op j) (P j) p)) refl),
+    part_ok (ahead (many (link op part)) F) (λ j p. rw (apart j p, solid, f j (or_right (begins op j) (P j) p)) refl),
     (
       (
         op_ok (ahead part (λ j. begins (link op part) j || F j)),
-        part_ok (λ j. begins (link op part) j || F j) (λ j p. rw (apart j p, solid, f j (or-right (begins op j) (P j) p)) refl),
+        part_ok (λ j. begins (link op part) j || F j) (λ j p. rw (apart j p, solid, f j (or_right (begins op j) (P j) p)) refl),
       ),
       rw solid refl,
-      (λ j b. f j (or-left (begins op j) (P j) (or-only (nullable op) (begins op j) (begins part j) solid b))),
+      (λ j b. f j (or_left (begins op j) (P j) (or-only (nullable op) (begins op j) (begins part j) solid b))),
       rw (quiet, solid) refl,
     ),
   )

@@ -7,7 +7,7 @@ use Rattle.pads_resolved.specs.declared.expr.Expr.{Expr, Expr-F, fold-roll-Expr,
 use Rattle.pads_resolved.specs.declared.expr.Expr.TheVariants as expr
 use Rattle.pads_trans_expr.specs.Met.{Met, in_expr, expr_met}
 
-met-roll : (layer : Expr-F Expr) → in_expr (roll-Expr layer) ≡ expr_met (map-Expr Expr Met in_expr layer)
+pub met-roll : (layer : Expr-F Expr) → in_expr (roll-Expr layer) ≡ expr_met (map-Expr Expr Met in_expr layer)
 unfolding in_expr
 met-roll layer = fold-roll-Expr Met expr_met layer
 

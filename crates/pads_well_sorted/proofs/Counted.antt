@@ -2,6 +2,7 @@
 use Rattle.std.proofs.Common.{◌≡◌, ◌∙◌, sym, ap, refl, ℕ, suc, true, ◌&&◌, nat_le, List, [], ◌∷◌, ◌++◌, map, length, Option, Some, None, option_map}
 use Rattle.std.specs.List.{list_all}
 use Rattle.std.proofs.lemmas.List.{length-map}
+use Rattle.std.proofs.lemmas.Bool.{and_from}
 use Rattle.pads_calc.specs.Counts.{few, most, counts_fit, option_counts, decl_counts, module_counts}
 use Rattle.pads_calc.specs.declared.term.Arm.{Arm}
 use Rattle.pads_calc.specs.declared.term.Case.{Case}
@@ -45,7 +46,7 @@ use Rattle.pads_trans_expr.specs.Met.{names_of}
 use Rattle.pads_trans_expr.specs.Names.{Name, at_sign, number_of}
 use Rattle.pads_well_sorted.specs.Expressions.{Scope, if_read, if_default, union_branches}
 use Rattle.pads_well_sorted.specs.WellSorted.{IfThere, IsBody, IsDecl, WellSorted, params_scope}
-use Rattle.pads_well_sorted.proofs.Lists.{both-true, either-one, mapped-there, all-at}
+use Rattle.pads_well_sorted.proofs.Lists.{either-one, mapped-there, all-at}
 
 -- a list has as many items when it's mapped
 mapped-few : {A B : Type 0} (f : A → B) (xs : List A) → few xs ≡ true → few (map f xs) ≡ true
@@ -74,7 +75,7 @@ module _ (names : List Name) (ambient : Coding) where
   unfolding optional
   optional-fits inner h =
       counts-Alt (some_arm names inner ∷ none_arm names ∷ [])
-      ∙ both-true (counts_fit inner) (counts_fit term.Unit && true) h (ap (λ b. b && true) counts-Unit)
+      ∙ and_from (counts_fit inner) (counts_fit term.Unit && true) h (ap (λ b. b && true) counts-Unit)
 
   type-fits : (t : Typed) → Fits (type_of names ambient t)
   unfolding type_of bare_type
@@ -102,25 +103,25 @@ module _ (names : List Name) (ambient : Coding) where
 
   parts-fit : (parts : List PartTree) → list_all (λ (part : Part). counts_fit part.term) (map (part_of names ambient) parts) ≡ true
   parts-fit [] = refl
-  parts-fit (p ∷ parts) = both-true (counts_fit (part_of names ambient p).term) _ (part-fits p) (parts-fit parts)
+  parts-fit (p ∷ parts) = and_from (counts_fit (part_of names ambient p).term) _ (part-fits p) (parts-fit parts)
 
   struct-fits : (s : Struct) → few s.parts ≡ true → Fits (struct_of names ambient s)
   unfolding struct_of
   struct-fits s h =
       let parts = map (part_of names ambient) s.parts in
       constrained-fits (term.Struct parts) at_sign s.condition
-      (counts-Struct parts ∙ both-true (few parts) (list_all (λ (part : Part). counts_fit part.term) parts) (mapped-few (part_of names ambient) s.parts h) (parts-fit s.parts))
+      (counts-Struct parts ∙ and_from (few parts) (list_all (λ (part : Part). counts_fit part.term) parts) (mapped-few (part_of names ambient) s.parts h) (parts-fit s.parts))
 
   arms-fit : (branches : List Branch) → list_all (λ (arm : Arm). counts_fit arm.term) (map (arm_of names ambient) branches) ≡ true
   unfolding arm_of
   arms-fit [] = refl
-  arms-fit (f ∷ branches) = both-true (counts_fit (field_of names ambient f)) _ (field-fits f) (arms-fit branches)
+  arms-fit (f ∷ branches) = and_from (counts_fit (field_of names ambient f)) _ (field-fits f) (arms-fit branches)
 
   cases-fit : (cases : List CaseTree) (default : Option Branch) → list_all (λ (case : Case). counts_fit case.arm.term) (map (case_of names ambient) cases ++ default_of names ambient default) ≡ true
   unfolding case_of arm_of
   cases-fit [] None = refl
-  cases-fit [] (Some f) = both-true (counts_fit (field_of names ambient f)) true (field-fits f) refl
-  cases-fit (c ∷ cases) default = both-true (counts_fit (field_of names ambient c.branch)) _ (field-fits c.branch) (cases-fit cases default)
+  cases-fit [] (Some f) = and_from (counts_fit (field_of names ambient f)) true (field-fits f) refl
+  cases-fit (c ∷ cases) default = and_from (counts_fit (field_of names ambient c.branch)) _ (field-fits c.branch) (cases-fit cases default)
 
   -- there are as many cases as branches
   cases-count : (cases : List CaseTree) (default : Option Branch)
@@ -133,11 +134,11 @@ module _ (names : List Name) (ambient : Coding) where
   unfolding union_of switch_of
   union-fits (union.Branches branches) h =
       let arms = map (arm_of names ambient) branches in
-      counts-Alt arms ∙ both-true (few arms) (list_all (λ (arm : Arm). counts_fit arm.term) arms) (mapped-few (arm_of names ambient) branches h) (arms-fit branches)
+      counts-Alt arms ∙ and_from (few arms) (list_all (λ (arm : Arm). counts_fit arm.term) arms) (mapped-few (arm_of names ambient) branches h) (arms-fit branches)
   union-fits (union.Pswitch s) h =
       let cases = map (case_of names ambient) s.cases ++ default_of names ambient s.default in
       counts-Switch (expr_of names s.value) cases
-      ∙ both-true (few cases) (list_all (λ (case : Case). counts_fit case.arm.term) cases) (ap (λ n. nat_le n most) (cases-count s.cases s.default) ∙ h) (cases-fit s.cases s.default)
+      ∙ and_from (few cases) (list_all (λ (case : Case). counts_fit case.arm.term) cases) (ap (λ n. nat_le n most) (cases-count s.cases s.default) ∙ h) (cases-fit s.cases s.default)
 
   separators-fit : (o : Option (List ℕ)) → option_counts (option_map (λ points. term.Absorb (text_of ambient points)) o) ≡ true
   separators-fit None = refl
@@ -153,8 +154,8 @@ module _ (names : List Name) (ambient : Coding) where
       let s = seq_of names ambient a in
       constrained-fits (term.Seq s) at_sign a.condition
       (counts-Seq s
-      ∙ both-true (counts_fit s.elem && option_counts s.sep) (option_counts s.stop)
-      (both-true (counts_fit s.elem) (option_counts s.sep) (type-fits a.of) (separators-fit (first separator a.options)))
+      ∙ and_from (counts_fit s.elem && option_counts s.sep) (option_counts s.stop)
+      (and_from (counts_fit s.elem) (option_counts s.sep) (type-fits a.of) (separators-fit (first separator a.options)))
       (terminators-fit (first terminator a.options)))
 
   enum-fits : (labels : List Label) → few labels ≡ true → Fits (enum_of ambient labels)
@@ -183,14 +184,14 @@ module _ (names : List Name) (ambient : Coding) where
   decl-fits : (decls : List DeclTree) (sorts : List Sort) (number : ℕ) (d : DeclTree) → IsDecl decls sorts number d → decl_counts (decl_of names ambient d) ≡ true
   unfolding decl_of
   decl-fits decls sorts number d h =
-      both-true (few (map (λ param. number_of names param.name) d.params)) (counts_fit (read_body names ambient d.role d.body))
+      and_from (few (map (λ param. number_of names param.name) d.params)) (counts_fit (read_body names ambient d.role d.body))
       (mapped-few (λ param. number_of names param.name) d.params h.0)
       (read-fits decls sorts number (params_scope d.params []) d.role d.body h.2)
 
 pub module-counts : (d : Description) (ambient : Coding) → WellSorted d → module_counts (module_of d ambient).decls ≡ true
 module-counts d ambient well =
     let names = names_of d in
-    both-true (few (map (decl_of names ambient) d.decls)) (list_all decl_counts (map (decl_of names ambient) d.decls))
+    and_from (few (map (decl_of names ambient) d.decls)) (list_all decl_counts (map (decl_of names ambient) d.decls))
     (mapped-few (decl_of names ambient) d.decls well.few_decls)
     (all-at decl_counts (map (decl_of names ambient) d.decls) (λ n made there.
     let tree = mapped-there (decl_of names ambient) d.decls n made there in

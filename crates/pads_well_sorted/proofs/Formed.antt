@@ -2,6 +2,7 @@
 use Rattle.std.proofs.Common.{◌≡◌, ◌∙◌, sym, ap, refl, ℕ, ◌<◌, true, nat_lt, map, length, Option, Some, None, lt-ltb}
 use Rattle.std.specs.List.{list_all}
 use Rattle.std.proofs.lemmas.List.{length-map}
+use Rattle.std.proofs.lemmas.Bool.{and_from}
 use Rattle.pads_calc.specs.Counts.{module_counts}
 use Rattle.pads_calc.specs.Scopes.{arities_of, decl_in_scope, name_there, shape_there, module_in_scope}
 use Rattle.pads_code.specs.declared.Coding.{Coding}
@@ -11,7 +12,7 @@ use Rattle.pads_trans.specs.Terms.{decl_of}
 use Rattle.pads_trans_expr.specs.Met.{in_decl, names_of}
 use Rattle.pads_well_sorted.specs.WellSorted.{IfThere, WellSorted}
 use Rattle.pads_well_sorted.proofs.Counted.{module-counts}
-use Rattle.pads_well_sorted.proofs.Lists.{both-true, mapped-there, all-at, each-flat}
+use Rattle.pads_well_sorted.proofs.Lists.{mapped-there, all-at, each-flat}
 use Rattle.pads_well_sorted.proofs.Names.{Known, all-met}
 use Rattle.pads_well_sorted.proofs.ScopedTerms.{decl-scoped}
 
@@ -23,16 +24,16 @@ module-scoped : (d : Description) (ambient : Coding) → WellSorted d → module
 module-scoped d ambient well =
     let names = names_of d in
     let decls = map (decl_of names ambient) d.decls in
-    both-true (list_all (decl_in_scope (length names) (arities_of decls)) decls) (shape_there (length decls) (shape_of d.source))
+    and_from (list_all (decl_in_scope (length names) (arities_of decls)) decls) (shape_there (length decls) (shape_of d.source))
     (all-at (decl_in_scope (length names) (arities_of decls)) decls (λ n made there.
     let tree = mapped-there (decl_of names ambient) d.decls n made there in
     ap (decl_in_scope (length names) (arities_of decls)) (sym tree.2)
     ∙ decl-scoped names ambient d.decls well.sorts n tree.0 (each-flat (Known names) in_decl d.decls n tree.0 (all-met d) tree.1) (well.decls n tree.0 tree.1)))
     (ap (λ count. shape_there count (shape_of d.source)) (length-map d.decls (decl_of names ambient))
-    ∙ both-true (name_there (length d.decls) d.source.header) (nat_lt d.source.record (length d.decls))
+    ∙ and_from (name_there (length d.decls) d.source.header) (nat_lt d.source.record (length d.decls))
     (head-there (length d.decls) d.source.header well.header) (lt-ltb d.source.record (length d.decls) well.record_type))
 
 pub module-formed : (d : Description) (ambient : Coding) → WellSorted d → is_module (module_of d ambient) ≡ true
 module-formed d ambient well =
-    both-true (nat_lt (length (names_of d)) 65535) (is_formed (module_of d ambient)) (lt-ltb (length (names_of d)) 65535 well.few_names)
-    (both-true (module_counts (module_of d ambient).decls) (module_in_scope (module_of d ambient).decls (names_of d) (shape_of d.source)) (module-counts d ambient well) (module-scoped d ambient well))
+    and_from (nat_lt (length (names_of d)) 65535) (is_formed (module_of d ambient)) (lt-ltb (length (names_of d)) 65535 well.few_names)
+    (and_from (module_counts (module_of d ambient).decls) (module_in_scope (module_of d ambient).decls (names_of d) (shape_of d.source)) (module-counts d ambient well) (module-scoped d ambient well))

@@ -1,9 +1,10 @@
 -- Items of lists, one by one.
-use Rattle.std.proofs.Common.{◌≡◌, ◌∙◌, sym, ap, refl, subst, arith, ℕ, zero, suc, nat_lt, ltb-true, lt-ltb, length, Bool, true, false, ◌&&◌, ◌||◌, if◌then◌else◌, List, [], ◌∷◌, ◌++◌, map, Option, Some, None, option_map, slice_get}
+use Rattle.std.proofs.Common.{◌≡◌, ◌∙◌, sym, ap, refl, subst, arith, ℕ, zero, suc, nat_lt, ltb-true, lt-ltb, length, Bool, true, false, if◌then◌else◌, List, [], ◌∷◌, ◌++◌, map, Option, Some, None, option_map, slice_get}
 use Rattle.std.specs.List.{flat_map, list_all}
+use Rattle.std.proofs.lemmas.Bool.{and_from}
 use Rattle.pads_sorted.proofs.Made.{Each as AllOf}
-use Rattle.pads_sorted.proofs.Readings.{slice_get-map}
 use Rattle.pads_well_sorted.specs.WellSorted.{Each}
+use Rattle.pads_calc.proofs.Choices.{slice_get-map}
 
 pub all-append : {A : Type 0} (P : A → Type 0) (xs ys : List A) → AllOf P xs → AllOf P ys → AllOf P (xs ++ ys)
 all-append P [] ys some more = more
@@ -44,20 +45,13 @@ each-weaker P Q weaker [] all = tt
 each-weaker P Q weaker (x ∷ xs) all = (weaker x all.0, each-weaker P Q weaker xs all.1)
 
 -- tests of all items
-pub both-true : (a b : Bool) → a ≡ true → b ≡ true → (a && b) ≡ true
-both-true a b h k = rw (h, k) refl
-
-pub either-true : (a b : Bool) → b ≡ true → (a || b) ≡ true
-either-true true b h = refl
-either-true false b h = h
-
 pub all-passes : {A : Type 0} (test : A → Bool) → (xs : List A) → Each (λ x. test x ≡ true) xs → list_all test xs ≡ true
 all-passes test [] all = refl
-all-passes test (x ∷ xs) all = both-true (test x) (list_all test xs) all.0 (all-passes test xs all.1)
+all-passes test (x ∷ xs) all = and_from (test x) (list_all test xs) all.0 (all-passes test xs all.1)
 
 pub all-at : {A : Type 0} (test : A → Bool) (xs : List A) → ((n : ℕ) (x : A) → slice_get xs n ≡ Some x → test x ≡ true) → list_all test xs ≡ true
 all-at test [] each = refl
-all-at test (x ∷ xs) each = both-true (test x) (list_all test xs) (each 0 x refl) (all-at test xs (λ n y there. each (suc n) y there))
+all-at test (x ∷ xs) each = and_from (test x) (list_all test xs) (each 0 x refl) (all-at test xs (λ n y there. each (suc n) y there))
 
 pub each-there : {A : Type 0} (P : A → Type 0) (xs : List A) (n : ℕ) (x : A) → Each P xs → slice_get xs n ≡ Some x → P x
 each-there P [] n x all there = cc

@@ -14,10 +14,12 @@ use Rattle.pads_resolved.specs.declared.expr.Meaning.TheVariants as meaning
 use Rattle.pads_sorted.specs.Expressions as made
 use Rattle.pads_sorted.specs.Sorts.{Sort as TermSort, Number, Text, Truth, AreSorts}
 use Rattle.pads_sorted.proofs.Accepted.{sort_in-roll}
+use Rattle.pads_sorted.proofs.Expressions.{and_then-is}
 use Rattle.pads_trans.specs.Terms.{decl_of}
 use Rattle.pads_trans_expr.specs.Expressions.{expr_of, expr_step as made_step, meaning_of, operator_of}
 use Rattle.pads_trans_expr.specs.Met.{Met, in_expr, expr_met}
 use Rattle.pads_trans_expr.specs.Names.{Name, at_sign, number_of}
+use Rattle.pads_trans_expr.proofs.MetRolls.{met-roll}
 use Rattle.pads_well_sorted.specs.Expressions.{Scope, sort_in_scope, plainly, part_sort, length_sort, sort_in, expr_step, meaning_sort}
 use Rattle.pads_well_sorted.specs.Sorts.{num, text, truth}
 use Rattle.pads_well_sorted.specs.WellSorted.{AreSorts as AreSortsOf, Each, IsDecl}
@@ -27,7 +29,7 @@ use Rattle.pads_well_sorted.proofs.MeantOperators.{Gives, plain-is, binary-gives
 use Rattle.pads_well_sorted.proofs.MeantParts.{part-gives, branch-gives, choice-gives, element-gives}
 use Rattle.pads_well_sorted.proofs.Names.{Known, same-number}
 use Rattle.pads_well_sorted.proofs.Scoped.{told-is}
-use Rattle.pads_well_sorted.proofs.Trees.{Inside, all-layers, sort-roll, made-roll, met-roll, and_then-is}
+use Rattle.pads_well_sorted.proofs.Trees.{Inside, all-layers, sort-roll, made-roll}
 
 -- the sorts of the forms of the module's expressions
 module _ (declared : List TermSort) (bound : made.Scope) where

@@ -7,11 +7,11 @@ use Rattle.pads_resolved.specs.declared.expr.BinaryOperator.{BinaryOperator}
 use Rattle.pads_resolved.specs.declared.expr.BinaryOperator.TheVariants as operator
 use Rattle.pads_sorted.specs.Expressions as made
 use Rattle.pads_sorted.specs.Sorts.{Sort as TermSort, Number, Truth}
+use Rattle.pads_sorted.proofs.Expressions.{and_then-is}
 use Rattle.pads_trans_expr.specs.Expressions.{operator_of}
 use Rattle.pads_well_sorted.specs.Expressions.{of_plain, plainly, of_numbers, of_texts, of_truths, of_forms, binary_sort, number_alone, truth_alone, length_sort, forall_sort}
 use Rattle.pads_well_sorted.specs.Sorts.{num, truth}
 use Rattle.pads_well_sorted.proofs.Means.{FormMeans, MeansBy, Means}
-use Rattle.pads_well_sorted.proofs.Trees.{and_then-is}
 
 module _ (declared : List TermSort) where
   -- in the module this is a sort of the same values

@@ -22,6 +22,7 @@ use Rattle.pads_resolved.specs.declared.types.Branch.{Branch}
 use Rattle.pads_sorted.specs.Expressions as made
 use Rattle.pads_sorted.specs.Sorts.{Sort as TermSort, Number, Truth, Choice, sort_at, sort_of, AreSorts}
 use Rattle.pads_sorted.proofs.Forms.{layer_sort}
+use Rattle.pads_sorted.proofs.Expressions.{and_then-is}
 use Rattle.pads_trans.specs.Terms.{form_of, label_of, type_of, field_of, part_of, body_of, decl_of}
 use Rattle.pads_trans_expr.specs.Expressions.{expr_of}
 use Rattle.pads_trans_expr.specs.Names.{Name}
@@ -32,7 +33,6 @@ use Rattle.pads_well_sorted.specs.WellSorted.{AreSorts as AreSortsOf, IsBranch, 
 use Rattle.pads_well_sorted.proofs.Lists.{some-map, there-mapped, each-there, below-there}
 use Rattle.pads_well_sorted.proofs.Means.{FormMeans, MeansBy, Means, compute-sort, field-sort, struct-sort, union-sort, array-sort, enum-sort, read-sort, read-body, any-type-means}
 use Rattle.pads_well_sorted.proofs.MeantOperators.{Gives, plain-is, number-is}
-use Rattle.pads_well_sorted.proofs.Trees.{and_then-is}
 
 same-body : (role : Role) (inner found : DeclBody) → if_read role inner ≡ Some found → inner ≡ found
 same-body role.Part inner found is = cc

@@ -3,12 +3,12 @@ use Rattle.std.proofs.Common.{◌≡◌, ◌∙◌, sym, ap, refl, subst, arith,
 use Rattle.std.specs.List.{flat_map, list_any, position_or_len}
 use Rattle.std.proofs.lemmas.List.Folds.{list_any-append}
 use Rattle.std.proofs.lemmas.List.Sums.{passes_at_first}
+use Rattle.std.proofs.lemmas.Bool.{or_left, or_right}
 use lib.Pointwise.{pointwise, bytes_decides}
 use Rattle.pads_resolved.specs.declared.decl.Description.{Description}
 use Rattle.pads_trans_expr.specs.Met.{in_decl, names_of}
 use Rattle.pads_trans_expr.specs.Names.{Name, place_of, number_at, number_of, names_at, with_name, with_names}
 use Rattle.pads_well_sorted.specs.WellSorted.{Each}
-use Rattle.pads_well_sorted.proofs.Lists.{either-true}
 
 abbrev pub is_among : List Name → Name → Bool
 is_among names name = list_any (pointwise nat_eq name) names
@@ -51,10 +51,10 @@ number-known names name known = number-is names name ∙ ap (λ b. cond b (posit
 pub number-below : (names : List Name) (name : Name) → Known names name → nat_lt (number_of names name) (length names) ≡ true
 number-below names name known = ap (λ n. nat_lt n (length names)) (number-known names name known) ∙ first-there (pointwise nat_eq name) names ∙ known
 
-same-name : (a b : Name) → pointwise nat_eq a b ≡ true → a ≡ b
+pub same-name : (a b : Name) → pointwise nat_eq a b ≡ true → a ≡ b
 same-name a b is = (bytes_decides a b).0 is
 
-own-name : (name : Name) → pointwise nat_eq name name ≡ true
+pub own-name : (name : Name) → pointwise nat_eq name name ≡ true
 own-name name = (bytes_decides name name).1 refl
 
 -- a name is what stands at its number
@@ -90,14 +90,11 @@ same-number names name other known = by (pointwise nat_eq other name) refl
 at-end : (names : List Name) (name : Name) → is_among (names ++ name ∷ []) name ≡ true
 at-end names name =
     list_any-append (pointwise nat_eq name) names (name ∷ [])
-    ∙ either-true (is_among names name) (pointwise nat_eq name name || false) (ap (λ b. b || false) (own-name name))
-
-left-true : (a b : Bool) → a ≡ true → (a || b) ≡ true
-left-true a b h = ap (λ a. a || b) h
+    ∙ or_right (is_among names name) (pointwise nat_eq name name || false) (ap (λ b. b || false) (own-name name))
 
 kept-at : (names : List Name) (name other : Name) (o : Option ℕ) → Known names other → Known (names_at names name o) other
 kept-at names name other None known =
-    list_any-append (pointwise nat_eq other) names (name ∷ []) ∙ left-true (is_among names other) (is_among (name ∷ []) other) known
+    list_any-append (pointwise nat_eq other) names (name ∷ []) ∙ or_left (is_among names other) (is_among (name ∷ []) other) known
 kept-at names name other (Some place) known = known
 
 met-by : (names : List Name) (name : Name) (b : Bool) → is_among names name ≡ b

@@ -1,5 +1,6 @@
 -- The expression that is made of a well-sorted one speaks of names that are there and bound.
 use Rattle.std.proofs.Common.{◌≡◌, ◌∙◌, sym, ap, refl, subst, ℕ, Bool, true, false, if◌then◌else◌, cond, ◌&&◌, ◌||◌, ◌==◌, nat_eq, nat_lt, List, ◌∷◌, ◌++◌, length, find, Option, Some, None, option_map, eq-eqb, append_assoc}
+use Rattle.std.proofs.lemmas.Bool.{or_right, and_from}
 use lib.Pointwise.{pointwise, bytes_decides}
 use Rattle.pads_calc.specs.Scopes.{is_bound, expr_in_scope}
 use Rattle.pads_calc.proofs.ExprRolls.{scope-Num, scope-Text, scope-Truth, scope-Var, scope-Part, scope-Arm, scope-Elem, scope-IsArm, scope-Len, scope-Neg, scope-Not, scope-Bin, scope-Forall}
@@ -14,12 +15,14 @@ use Rattle.pads_resolved.specs.declared.expr.Meaning.TheVariants as meaning
 use Rattle.pads_trans_expr.specs.Expressions.{expr_of, expr_step as made_step, meaning_of, operator_of}
 use Rattle.pads_trans_expr.specs.Met.{Met, in_expr, expr_met}
 use Rattle.pads_trans_expr.specs.Names.{Name, at_sign, number_of}
+use Rattle.pads_trans_expr.proofs.MetRolls.{met-roll}
 use Rattle.pads_well_sorted.specs.Expressions.{Scope, sort_in_scope, as_told, same_form, sort_in, expr_step, meaning_sort}
 use Rattle.pads_well_sorted.specs.Sorts.{num}
 use Rattle.pads_well_sorted.specs.WellSorted.{Each}
-use Rattle.pads_well_sorted.proofs.Lists.{each-left, each-right, both-true, either-true}
+use Rattle.pads_well_sorted.proofs.Lists.{each-left, each-right}
 use Rattle.pads_well_sorted.proofs.Names.{Known, number-below}
-use Rattle.pads_well_sorted.proofs.Trees.{Inside, all-layers, sort-roll, made-roll, met-roll, and_then-is}
+use Rattle.pads_well_sorted.proofs.Trees.{Inside, all-layers, sort-roll, made-roll}
+use Rattle.pads_sorted.proofs.Expressions.{and_then-is}
 
 told-by : (b : Bool) (found sort : Sort) → (if b then Some found else None) ≡ Some sort → Some found ≡ Some sort
 told-by true found sort is = is
@@ -52,7 +55,7 @@ module _ (names : List Name) where
 
   pub covers-wider : (scope : Scope) (bound : List ℕ) (number : ℕ) → Covers scope bound → Covers scope (number ∷ bound)
   covers-wider scope bound number covers name sort is =
-      either-true (nat_eq (number_of names name) number) (is_bound (number_of names name) bound) (covers name sort is)
+      or_right (nat_eq (number_of names name) number) (is_bound (number_of names name) bound) (covers name sort is)
 
   pub covers-more : (scope : Scope) (bound : List ℕ) (name : Name) (sort : Sort) → Covers scope bound → Covers ((name, sort) ∷ scope) (number_of names name ∷ bound)
   covers-more scope bound name sort covers =
@@ -92,7 +95,7 @@ module _ (names : List Name) where
         let x = and_then-is _ (sort_in decls sorts array scope) sort (told-is told _ sort is) in
         let y = and_then-is _ (sort_in decls sorts index scope) sort x.2 in
         scope-Elem (length names) (expr_of names array) (expr_of names index) bound
-        ∙ both-true (expr_in_scope (length names) (expr_of names array) bound) (expr_in_scope (length names) (expr_of names index) bound)
+        ∙ and_from (expr_in_scope (length names) (expr_of names array) bound) (expr_in_scope (length names) (expr_of names index) bound)
         (one scope bound x.0 covers (each-left (Known names) (in_expr array) (in_expr index) met) x.1)
         (other scope bound y.0 covers (each-right (Known names) (in_expr array) (in_expr index) met) y.1)
 
@@ -101,7 +104,7 @@ module _ (names : List Name) where
         let x = and_then-is _ (sort_in decls sorts left scope) sort is in
         let y = and_then-is _ (sort_in decls sorts right scope) sort x.2 in
         scope-Bin (length names) (operator_of op) (expr_of names left) (expr_of names right) bound
-        ∙ both-true (expr_in_scope (length names) (expr_of names left) bound) (expr_in_scope (length names) (expr_of names right) bound)
+        ∙ and_from (expr_in_scope (length names) (expr_of names left) bound) (expr_in_scope (length names) (expr_of names right) bound)
         (one scope bound x.0 covers (each-left (Known names) (in_expr left) (in_expr right) met) x.1)
         (other scope bound y.0 covers (each-right (Known names) (in_expr left) (in_expr right) met) y.1)
 
@@ -116,10 +119,10 @@ module _ (names : List Name) where
         subst (Each (Known names)) (append_assoc (in_expr low) (in_expr high) (in_expr inner)) met'.1 in
         let later = each-right (Known names) (in_expr low) (in_expr high ++ in_expr inner) met in
         scope-Forall count n (expr_of names low) (expr_of names high) (expr_of names inner) bound
-        ∙ both-true (nat_lt n count && expr_in_scope count (expr_of names low) bound && expr_in_scope count (expr_of names high) bound)
+        ∙ and_from (nat_lt n count && expr_in_scope count (expr_of names low) bound && expr_in_scope count (expr_of names high) bound)
         (expr_in_scope count (expr_of names inner) (n ∷ bound))
-        (both-true (nat_lt n count && expr_in_scope count (expr_of names low) bound) (expr_in_scope count (expr_of names high) bound)
-        (both-true (nat_lt n count) (expr_in_scope count (expr_of names low) bound) (number-below names variable met'.0)
+        (and_from (nat_lt n count && expr_in_scope count (expr_of names low) bound) (expr_in_scope count (expr_of names high) bound)
+        (and_from (nat_lt n count) (expr_in_scope count (expr_of names low) bound) (number-below names variable met'.0)
         (one scope bound x.0 covers (each-left (Known names) (in_expr low) (in_expr high ++ in_expr inner) met) x.1))
         (other scope bound y.0 covers (each-left (Known names) (in_expr high) (in_expr inner) later) y.1))
         (each ((variable, num) ∷ scope) (n ∷ bound) z.0 (covers-more scope bound variable num covers) (each-right (Known names) (in_expr high) (in_expr inner) later) z.1)

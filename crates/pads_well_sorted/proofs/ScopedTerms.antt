@@ -2,6 +2,7 @@
 use Rattle.std.proofs.Common.{◌≡◌, ◌∙◌, sym, ap, refl, subst, ⊎_elim, ℕ, suc, Bool, true, false, if◌then◌else◌, ◌&&◌, ◌||◌, nat_eq, nat_lt, List, [], ◌∷◌, ◌++◌, map, length, Option, Some, None, option_map, slice_get, eq-eqb, append_assoc}
 use Rattle.std.specs.List.{flat_map, list_all}
 use Rattle.std.proofs.lemmas.List.{length-map}
+use Rattle.std.proofs.lemmas.Bool.{or_right, and_from}
 use Rattle.pads_calc.specs.Scopes.{is_bound, bind_name, name_there, in_scope, expr_in_scope, exprs_in_scope, option_in_scope, option_term_in, has_arity, arm_in, case_in, binding_of, parts_in, arities_of, decl_in_scope}
 use Rattle.pads_calc.specs.declared.decl.Decl.{Decl}
 use Rattle.pads_calc.specs.declared.term.Arm.{Arm}
@@ -47,7 +48,7 @@ use Rattle.pads_trans_expr.specs.Names.{Name, at_sign, some_name, none_name, num
 use Rattle.pads_well_sorted.specs.Expressions.{Scope, if_read, if_default}
 use Rattle.pads_well_sorted.specs.Sorts.{plain, num, computed_sort, type_sort}
 use Rattle.pads_well_sorted.specs.WellSorted.{Each, IfThere, Takes, HaveSorts, IsTruth, IsNumber, IsConstraint, IsNamed, IsType, IsBranch, IsPart, behind, AreParts, IsStruct, Chooses, IsUnion, IsOption, IsArray, IsBody, IsDecl, params_scope, param_sorts}
-use Rattle.pads_well_sorted.proofs.Lists.{each-left, each-right, each-weaker, both-true, either-true, there-mapped}
+use Rattle.pads_well_sorted.proofs.Lists.{each-left, each-right, each-weaker, there-mapped}
 use Rattle.pads_well_sorted.proofs.Names.{Known, number-below}
 use Rattle.pads_well_sorted.proofs.Options.{first-holds}
 use Rattle.pads_well_sorted.proofs.Scoped.{Covers, covers-also, covers-more, scoped}
@@ -83,7 +84,7 @@ module _ (names : List Name) (ambient : Coding) (decls : List DeclTree) (sorts :
   args-scoped scope bound [] wanted covers met h = refl
   args-scoped scope bound (e ∷ args) [] covers met h = absurd h
   args-scoped scope bound (e ∷ args) (sort ∷ wanted) covers met h =
-      both-true (expr_in_scope count (expr_of names e) bound) (exprs_in_scope count (map (expr_of names) args) bound)
+      and_from (expr_in_scope count (expr_of names e) bound) (exprs_in_scope count (map (expr_of names) args) bound)
       (scoped names decls sorts e scope bound sort covers (each-left (Known names) (in_expr e) (flat_map in_expr args) met) h.0)
       (args-scoped scope bound args wanted covers (each-right (Known names) (in_expr e) (flat_map in_expr args) met) h.1)
 
@@ -114,17 +115,17 @@ module _ (names : List Name) (ambient : Coding) (decls : List DeclTree) (sorts :
       in-Base count arities (base_of ambient b) (map (expr_of names) args) bound ∙ args-scoped scope bound args given.0 covers met given.1
   named-scoped number scope bound args (type_name.Declared n) covers met h =
       in-Call count arities n (map (expr_of names) args) bound
-      ∙ both-true (has_arity (slice_get arities n) (length (map (expr_of names) args))) (exprs_in_scope count (map (expr_of names) args) bound)
+      ∙ and_from (has_arity (slice_get arities n) (length (map (expr_of names) args))) (exprs_in_scope count (map (expr_of names) args) bound)
       (has-arity scope args n h.1 h.2 h.4) (args-scoped scope bound args (param_sorts (h.1).params) covers met h.4)
 
   optional-scoped : (inner : Term) (bound : List ℕ) → Known names some_name → Known names none_name → Fits inner bound → Fits (optional names inner) bound
   unfolding optional
   optional-scoped inner bound some none h =
       in-Alt count arities (some_arm names inner ∷ none_arm names ∷ []) bound
-      ∙ both-true (nat_lt (number_of names some_name) count && in_scope count arities inner bound) ((nat_lt (number_of names none_name) count && in_scope count arities term.Unit bound) && true)
-      (both-true (nat_lt (number_of names some_name) count) (in_scope count arities inner bound) (number-below names some_name some) h)
-      (both-true (nat_lt (number_of names none_name) count && in_scope count arities term.Unit bound) true
-      (both-true (nat_lt (number_of names none_name) count) (in_scope count arities term.Unit bound) (number-below names none_name none) (in-Unit count arities bound)) refl)
+      ∙ and_from (nat_lt (number_of names some_name) count && in_scope count arities inner bound) ((nat_lt (number_of names none_name) count && in_scope count arities term.Unit bound) && true)
+      (and_from (nat_lt (number_of names some_name) count) (in_scope count arities inner bound) (number-below names some_name some) h)
+      (and_from (nat_lt (number_of names none_name) count && in_scope count arities term.Unit bound) true
+      (and_from (nat_lt (number_of names none_name) count) (in_scope count arities term.Unit bound) (number-below names none_name none) (in-Unit count arities bound)) refl)
 
   type-by : (b : Bool) (bare : Term) (given : Met) (bound : List ℕ) → AllKnown ((if b then some_name ∷ none_name ∷ [] else []) ++ given) → Fits bare bound
       → Fits (if b then optional names bare else bare) bound
@@ -144,8 +145,8 @@ module _ (names : List Name) (ambient : Coding) (decls : List DeclTree) (sorts :
       → IsTruth decls sorts ((name, sort) ∷ scope) e → Fits inner bound → Fits (constrained names inner name (Some e)) bound
   guard-scoped inner name e scope bound sort covers known met h fits =
       in-Guard count arities inner (number_of names name) (expr_of names e) bound
-      ∙ both-true (in_scope count arities inner bound && nat_lt (number_of names name) count) (expr_in_scope count (expr_of names e) (number_of names name ∷ bound))
-      (both-true (in_scope count arities inner bound) (nat_lt (number_of names name) count) fits (number-below names name known))
+      ∙ and_from (in_scope count arities inner bound && nat_lt (number_of names name) count) (expr_in_scope count (expr_of names e) (number_of names name ∷ bound))
+      (and_from (in_scope count arities inner bound) (nat_lt (number_of names name) count) fits (number-below names name known))
       (scoped names decls sorts e ((name, sort) ∷ scope) (number_of names name ∷ bound) _ (covers-more names scope bound name sort covers) met h)
 
   constrained-scoped : (inner : Term) (name : Name) (condition : Option ExprTree) (scope : Scope) (bound : List ℕ) (sort : Sort) → Covers names scope bound → Known names name
@@ -198,8 +199,8 @@ module _ (names : List Name) (ambient : Coding) (decls : List DeclTree) (sorts :
       let here = part-scoped number scope bound p covers (each-left (Known names) (in_part p) (flat_map in_part parts) met) h.0 in
       let later = parts-scoped number (behind decls sorts number p scope) (bind_name (part_of names ambient p).name bound) parts here.2
       (each-right (Known names) (in_part p) (flat_map in_part parts) met) h.1 in (
-        both-true (name_there count (part_of names ambient p).name) _ here.0 later.0,
-        both-true (in_scope count arities (part_of names ambient p).term bound) _ here.1 later.1,
+        and_from (name_there count (part_of names ambient p).name) _ here.0 later.0,
+        and_from (in_scope count arities (part_of names ambient p).term bound) _ here.1 later.1,
       )
 
   struct-scoped : (number : ℕ) (scope : Scope) (bound : List ℕ) (s : Struct) → Covers names scope bound → AllKnown (in_struct s) → IsStruct decls sorts number scope s
@@ -210,7 +211,7 @@ module _ (names : List Name) (ambient : Coding) (decls : List DeclTree) (sorts :
       let inside = parts-scoped number scope bound s.parts covers (each-left (Known names) (flat_map in_part s.parts) (in_where s.condition) met) h.1 in
       where-scoped (term.Struct parts) s.condition scope bound (plain (form.Struct number)) covers (each-right (Known names) (flat_map in_part s.parts) (in_where s.condition) met) h.2
       (in-Struct count arities parts bound
-      ∙ both-true (list_all (λ (part : Part). name_there count part.name) parts) (parts_in (map (binding_of count arities) parts) bound) inside.0 inside.1)
+      ∙ and_from (list_all (λ (part : Part). name_there count part.name) parts) (parts_in (map (binding_of count arities) parts) bound) inside.0 inside.1)
 
   arms-scoped : (number : ℕ) (scope : Scope) (bound : List ℕ) (branches : List Branch) → Covers names scope bound → AllKnown (flat_map in_branch branches)
       → Each (IsBranch decls sorts number scope) branches → list_all (λ (arm : Arm). arm_in count arities arm bound) (map (arm_of names ambient) branches) ≡ true
@@ -218,15 +219,15 @@ module _ (names : List Name) (ambient : Coding) (decls : List DeclTree) (sorts :
   arms-scoped number scope bound [] covers met h = refl
   arms-scoped number scope bound (f ∷ branches) covers met h =
       let field = field-scoped number scope bound f covers (each-left (Known names) (in_branch f) (flat_map in_branch branches) met) h.0 in
-      both-true (nat_lt (number_of names f.name) count && in_scope count arities (field_of names ambient f) bound) _
-      (both-true (nat_lt (number_of names f.name) count) (in_scope count arities (field_of names ambient f) bound) field.0 field.1)
+      and_from (nat_lt (number_of names f.name) count && in_scope count arities (field_of names ambient f) bound) _
+      (and_from (nat_lt (number_of names f.name) count) (in_scope count arities (field_of names ambient f) bound) field.0 field.1)
       (arms-scoped number scope bound branches covers (each-right (Known names) (in_branch f) (flat_map in_branch branches) met) h.1)
 
   case-scoped : (number : ℕ) (scope : Scope) (bound : List ℕ) (f : Branch) → Covers names scope bound → AllKnown (in_branch f) → IsBranch decls sorts number scope f
       → (nat_lt (number_of names f.name) count && in_scope count arities (field_of names ambient f) bound) ≡ true
   case-scoped number scope bound f covers met h =
       let field = field-scoped number scope bound f covers met h in
-      both-true (nat_lt (number_of names f.name) count) (in_scope count arities (field_of names ambient f) bound) field.0 field.1
+      and_from (nat_lt (number_of names f.name) count) (in_scope count arities (field_of names ambient f) bound) field.0 field.1
 
   cases-scoped : (number : ℕ) (scope : Scope) (bound : List ℕ) (cases : List CaseTree) (default : Option Branch) → Covers names scope bound
       → AllKnown (flat_map in_case cases ++ in_default default)
@@ -235,11 +236,11 @@ module _ (names : List Name) (ambient : Coding) (decls : List DeclTree) (sorts :
   unfolding case_of arm_of in_case in_default
   cases-scoped number scope bound [] None covers met h = refl
   cases-scoped number scope bound [] (Some f) covers met h =
-      both-true (nat_lt (number_of names f.name) count && in_scope count arities (field_of names ambient f) bound) true (case-scoped number scope bound f covers met h.0) refl
+      and_from (nat_lt (number_of names f.name) count && in_scope count arities (field_of names ambient f) bound) true (case-scoped number scope bound f covers met h.0) refl
   cases-scoped number scope bound (c ∷ cases) default covers met h =
       let split : AllKnown (in_branch c.branch ++ (flat_map in_case cases ++ in_default default)) =
       subst AllKnown (append_assoc (in_branch c.branch) (flat_map in_case cases) (in_default default)) met in
-      both-true (nat_lt (number_of names (c.branch).name) count && in_scope count arities (field_of names ambient c.branch) bound) _
+      and_from (nat_lt (number_of names (c.branch).name) count && in_scope count arities (field_of names ambient c.branch) bound) _
       (case-scoped number scope bound c.branch covers (each-left (Known names) (in_branch c.branch) (flat_map in_case cases ++ in_default default) split) h.0)
       (cases-scoped number scope bound cases default covers (each-right (Known names) (in_branch c.branch) (flat_map in_case cases ++ in_default default) split) h.1)
 
@@ -258,7 +259,7 @@ module _ (names : List Name) (ambient : Coding) (decls : List DeclTree) (sorts :
       let inside = flat_map in_case s.cases ++ in_default s.default in
       let met : AllKnown (in_expr s.value ++ inside) = subst AllKnown (append_assoc (in_expr s.value) (flat_map in_case s.cases) (in_default s.default)) met' in
       in-Switch count arities (expr_of names s.value) cases bound
-      ∙ both-true (expr_in_scope count (expr_of names s.value) bound) (list_all (λ (case : Case). case_in count arities case bound) cases)
+      ∙ and_from (expr_in_scope count (expr_of names s.value) bound) (list_all (λ (case : Case). case_in count arities case bound) cases)
       (chosen-scoped number scope bound s covers (each-left (Known names) (in_expr s.value) inside met) h.1)
       (cases-scoped number scope bound s.cases s.default covers (each-right (Known names) (in_expr s.value) inside met) h.2)
 
@@ -313,12 +314,12 @@ module _ (names : List Name) (ambient : Coding) (decls : List DeclTree) (sorts :
       constrained-scoped (term.Seq s) at_sign a.condition scope bound (plain (form.Array number)) covers inside.0
       conditions h.3
       (in-Seq count arities s bound
-      ∙ both-true (in_scope count arities s.elem bound && option_term_in count arities s.sep bound && option_term_in count arities s.stop bound && nat_lt s.elts count
+      ∙ and_from (in_scope count arities s.elem bound && option_term_in count arities s.sep bound && option_term_in count arities s.stop bound && nat_lt s.elts count
       && option_in_scope count s.size bound) (option_in_scope count s.last (s.elts ∷ bound))
-      (both-true (in_scope count arities s.elem bound && option_term_in count arities s.sep bound && option_term_in count arities s.stop bound && nat_lt s.elts count) (option_in_scope count s.size bound)
-      (both-true (in_scope count arities s.elem bound && option_term_in count arities s.sep bound && option_term_in count arities s.stop bound) (nat_lt s.elts count)
-      (both-true (in_scope count arities s.elem bound && option_term_in count arities s.sep bound) (option_term_in count arities s.stop bound)
-      (both-true (in_scope count arities s.elem bound) (option_term_in count arities s.sep bound)
+      (and_from (in_scope count arities s.elem bound && option_term_in count arities s.sep bound && option_term_in count arities s.stop bound && nat_lt s.elts count) (option_in_scope count s.size bound)
+      (and_from (in_scope count arities s.elem bound && option_term_in count arities s.sep bound && option_term_in count arities s.stop bound) (nat_lt s.elts count)
+      (and_from (in_scope count arities s.elem bound && option_term_in count arities s.sep bound) (option_term_in count arities s.stop bound)
+      (and_from (in_scope count arities s.elem bound) (option_term_in count arities s.sep bound)
       (type-scoped number scope bound a.of covers (each-left (Known names) (in_type a.of) so_many sized) h.0)
       (separators-scoped (first separator a.options) bound))
       (terminators-scoped (first terminator a.options) bound))
@@ -365,7 +366,7 @@ module _ (names : List Name) (ambient : Coding) (decls : List DeclTree) (sorts :
   params-bound (param ∷ params) = (
     ap (λ b. b || is_bound (name_number param) (map name_number params)) (eq-eqb (name_number param) (name_number param) refl),
     each-weaker (Bound (map name_number params)) (Bound (name_number param ∷ map name_number params))
-        (λ other h. either-true (nat_eq (name_number other) (name_number param)) (is_bound (name_number other) (map name_number params)) h) params (params-bound params),
+        (λ other h. or_right (nat_eq (name_number other) (name_number param)) (is_bound (name_number other) (map name_number params)) h) params (params-bound params),
   )
 
   params-cover : (params : List Param) (scope : Scope) (bound : List ℕ) → Covers names scope bound → Each (Bound bound) params → Covers names (params_scope params scope) bound
@@ -378,15 +379,15 @@ module _ (names : List Name) (ambient : Coding) (decls : List DeclTree) (sorts :
 
   params-below : (params : List Param) → AllKnown (map (λ (param : Param). param.name) params) → list_all (λ name. nat_lt name count) (map name_number params) ≡ true
   params-below [] met = refl
-  params-below (param ∷ params) met = both-true (nat_lt (name_number param) count) _ (number-below names param.name met.0) (params-below params met.1)
+  params-below (param ∷ params) met = and_from (nat_lt (name_number param) count) _ (number-below names param.name met.0) (params-below params met.1)
 
   pub decl-scoped : (number : ℕ) (d : DeclTree) → AllKnown (in_decl d) → IsDecl decls sorts number d → decl_in_scope count arities (decl_of names ambient d) ≡ true
   unfolding decl_of in_decl
   decl-scoped number d met h =
       let params = map name_number d.params in
       let given = map (λ (param : Param). param.name) d.params in
-      both-true (nat_lt (number_of names d.name) count && list_all (λ name. nat_lt name count) params) (in_scope count arities (read_body names ambient d.role d.body) params)
-      (both-true (nat_lt (number_of names d.name) count) (list_all (λ name. nat_lt name count) params) (number-below names d.name met.0)
+      and_from (nat_lt (number_of names d.name) count && list_all (λ name. nat_lt name count) params) (in_scope count arities (read_body names ambient d.role d.body) params)
+      (and_from (nat_lt (number_of names d.name) count) (list_all (λ name. nat_lt name count) params) (number-below names d.name met.0)
       (params-below d.params (each-left (Known names) given (in_read_body d.role d.body) met.1)))
       (read-scoped number (params_scope d.params []) params d.role d.body (params-cover d.params [] params (nothing-covers params) (params-bound d.params))
       (each-right (Known names) given (in_read_body d.role d.body) met.1) h.2)

@@ -1,6 +1,7 @@
 -- The term of each part of a well-sorted description is well-sorted: types, constraints, the bodies of structs and unions.
-use Rattle.std.proofs.Common.{◌≡◌, ◌∙◌, sym, ap, refl, subst, ⊎_elim, ℕ, Bool, true, if◌then◌else◌, ◌&&◌, ◌||◌, List, [], ◌∷◌, ◌++◌, map, Option, Some, None, slice_get, append_assoc}
+use Rattle.std.proofs.Common.{◌≡◌, ◌∙◌, sym, ap, refl, subst, ⊎_elim, ℕ, true, if◌then◌else◌, ◌&&◌, List, [], ◌∷◌, ◌++◌, map, Option, Some, None, slice_get, append_assoc}
 use Rattle.std.specs.List.{flat_map, list_all}
+use Rattle.std.proofs.lemmas.Bool.{or_left, or_right, and_from}
 use Rattle.pads_calc.specs.declared.term.Arm.{Arm}
 use Rattle.pads_calc.specs.declared.term.Case.{Case}
 use Rattle.pads_calc.specs.declared.term.Key.{Key}
@@ -44,7 +45,7 @@ use Rattle.pads_trans_expr.specs.Names.{Name, at_sign, some_name, none_name, num
 use Rattle.pads_well_sorted.specs.Expressions.{Scope, if_default}
 use Rattle.pads_well_sorted.specs.Sorts.{plain, num, text, truth, computed_sort, type_sort}
 use Rattle.pads_well_sorted.specs.WellSorted.{AreSorts as AreSortsOf, Each, IsNumberKey, IsTextKey, Takes, HasSort, HaveSorts, IsTruth, IsConstraint, IsNamed, IsType, IsBranch, IsPart, IsParam, behind, AreParts, IsStruct, Chooses, IsUnion, IsDecl, param_sorts}
-use Rattle.pads_well_sorted.proofs.Lists.{each-left, each-right, both-true, either-true, either-one, there-mapped}
+use Rattle.pads_well_sorted.proofs.Lists.{each-left, each-right, either-one, there-mapped}
 use Rattle.pads_well_sorted.proofs.Means.{Means, sort-by, struct-sort, any-type-means}
 use Rattle.pads_well_sorted.proofs.Meant.{ScopeMeans, scope-more, meant}
 use Rattle.pads_well_sorted.proofs.MeantOperators.{Gives}
@@ -62,9 +63,6 @@ param_sort param = param_form (param.sort).form
 
 abbrev pub params_of : List DeclTree → List (List TermSort)
 params_of decls = map (λ d. map param_sort d.params) decls
-
-left-true : (a b : Bool) → a ≡ true → (a || b) ≡ true
-left-true a b h = ap (λ a. a || b) h
 
 module _ (declared : List TermSort) where
   pub number-has : (o : Option TermSort) → Gives declared o num → has is_number o ≡ true
@@ -124,7 +122,7 @@ module _ (declared : List TermSort) (names : List Name) (ambient : Coding) (decl
       → one_number (given_sorts args bound) ≡ true
   number-given scope bound [] means met h = absurd h
   number-given scope bound (e ∷ args) means met h =
-      both-true (has is_number (sort_made e bound)) (no_argument (given_sorts args bound))
+      and_from (has is_number (sort_made e bound)) (no_argument (given_sorts args bound))
       (number-has declared (sort_made e bound) (expr-meant e scope bound num means (each-left (Known names) (in_expr e) (flat_map in_expr args) met) h.0))
       (none-given scope bound args h.1)
 
@@ -132,7 +130,7 @@ module _ (declared : List TermSort) (names : List Name) (ambient : Coding) (decl
       → one_text (given_sorts args bound) ≡ true
   text-given scope bound [] means met h = absurd h
   text-given scope bound (e ∷ args) means met h =
-      both-true (has is_text (sort_made e bound)) (no_argument (given_sorts args bound))
+      and_from (has is_text (sort_made e bound)) (no_argument (given_sorts args bound))
       (text-has declared (sort_made e bound) (expr-meant e scope bound text means (each-left (Known names) (in_expr e) (flat_map in_expr args) met) h.0))
       (none-given scope bound args h.1)
 
@@ -141,8 +139,8 @@ module _ (declared : List TermSort) (names : List Name) (ambient : Coding) (decl
   base-takes scope bound args (base_type.Int prefix kind) means met h = none-given scope bound args h
   base-takes scope bound args (base_type.IntFw prefix kind) means met h = number-given scope bound args means met h
   base-takes scope bound args (base_type.Bin order kind) means met h = ⊎_elim
-      (λ none. left-true (no_argument (given_sorts args bound)) (one_number (given_sorts args bound)) (none-given scope bound args none))
-      (λ one. either-true (no_argument (given_sorts args bound)) (one_number (given_sorts args bound)) (number-given scope bound args means met one)) h
+      (λ none. or_left (no_argument (given_sorts args bound)) (one_number (given_sorts args bound)) (none-given scope bound args none))
+      (λ one. or_right (no_argument (given_sorts args bound)) (one_number (given_sorts args bound)) (number-given scope bound args means met one)) h
   base-takes scope bound args (base_type.Until prefix) means met h = text-given scope bound args means met h
   base-takes scope bound args (base_type.UntilEor prefix) means met h = none-given scope bound args h
   base-takes scope bound args (base_type.Fixed prefix) means met h = number-given scope bound args means met h
@@ -164,7 +162,7 @@ module _ (declared : List TermSort) (names : List Name) (ambient : Coding) (decl
   arguments-are scope bound [] (param ∷ params) all means met h = absurd h
   arguments-are scope bound (e ∷ args) [] all means met h = absurd h
   arguments-are scope bound (e ∷ args) (param ∷ params) all means met h =
-      both-true (is_argument (param_sort param) (sort_made e bound)) (are_arguments (map param_sort params) (given_sorts args bound))
+      and_from (is_argument (param_sort param) (sort_made e bound)) (are_arguments (map param_sort params) (given_sorts args bound))
       (argument-is scope bound e param all.0 means (each-left (Known names) (in_expr e) (flat_map in_expr args) met) h.0)
       (arguments-are scope bound args params all.1 means (each-right (Known names) (in_expr e) (flat_map in_expr args) met) h.1)
 
@@ -320,13 +318,13 @@ module _ (declared : List TermSort) (names : List Name) (ambient : Coding) (decl
   unfolding case_of
   number-keys [] None h = refl
   number-keys [] (Some f) h = refl
-  number-keys (c ∷ cases) default h = both-true (is_number_key (Some (key_of c.key))) _ (number-key c.key h.0) (number-keys cases default h.1)
+  number-keys (c ∷ cases) default h = and_from (is_number_key (Some (key_of c.key))) _ (number-key c.key h.0) (number-keys cases default h.1)
 
   text-keys : (cases : List CaseTree) (default : Option Branch) → Each (λ (c : CaseTree). IsTextKey c.key) cases → list_all is_text_key (keys cases default) ≡ true
   unfolding case_of
   text-keys [] None h = refl
   text-keys [] (Some f) h = refl
-  text-keys (c ∷ cases) default h = both-true (is_text_key (Some (key_of c.key))) _ (text-key c.key h.0) (text-keys cases default h.1)
+  text-keys (c ∷ cases) default h = and_from (is_text_key (Some (key_of c.key))) _ (text-key c.key h.0) (text-keys cases default h.1)
 
   chooses-one : (number : ℕ) (scope : Scope) (bound : made.Scope) (s : Switch) → ScopeIs scope bound → AllKnown (in_expr s.value) → Chooses decls sorts number scope s.value s.cases
       → chooses (sort_made s.value bound) (keys s.cases s.default) ≡ true
@@ -334,10 +332,10 @@ module _ (declared : List TermSort) (names : List Name) (ambient : Coding) (decl
       let o = sort_made s.value bound in
       let ks = keys s.cases s.default in
       ⊎_elim
-      (λ number. left-true (has is_number o && list_all is_number_key ks) (has is_text o && list_all is_text_key ks)
-      (both-true (has is_number o) (list_all is_number_key ks) (number-has declared o (expr-meant s.value scope bound num means met number.0)) (number-keys s.cases s.default number.1)))
-      (λ words. either-true (has is_number o && list_all is_number_key ks) (has is_text o && list_all is_text_key ks)
-      (both-true (has is_text o) (list_all is_text_key ks) (text-has declared o (expr-meant s.value scope bound text means met words.0)) (text-keys s.cases s.default words.1))) h
+      (λ number. or_left (has is_number o && list_all is_number_key ks) (has is_text o && list_all is_text_key ks)
+      (and_from (has is_number o) (list_all is_number_key ks) (number-has declared o (expr-meant s.value scope bound num means met number.0)) (number-keys s.cases s.default number.1)))
+      (λ words. or_right (has is_number o && list_all is_number_key ks) (has is_text o && list_all is_text_key ks)
+      (and_from (has is_text o) (list_all is_text_key ks) (text-has declared o (expr-meant s.value scope bound text means met words.0)) (text-keys s.cases s.default words.1))) h
 
   pub union-sorted : (number : ℕ) (scope : Scope) (bound : made.Scope) (u : Union) → ScopeIs scope bound → AllKnown (in_union u) → IsUnion decls sorts number scope u → IsMade bound (union_of names ambient u)
   unfolding union_of switch_of in_union in_switch

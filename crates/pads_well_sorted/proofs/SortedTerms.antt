@@ -1,6 +1,7 @@
 -- The term of each form of a well-sorted description is well-sorted.
 use Rattle.std.proofs.Common.{◌≡◌, ◌∙◌, sym, ap, refl, subst, ⊎_elim, ℕ, true, List, [], ◌∷◌, ◌++◌, map, Option, Some, None, option_map, slice_get}
 use Rattle.std.specs.List.{flat_map}
+use Rattle.std.proofs.lemmas.Bool.{and_from}
 use Rattle.pads_calc.specs.declared.decl.Decl.{Decl}
 use Rattle.pads_calc.specs.declared.term.Term.{Term, Term-F}
 use Rattle.pads_calc.specs.declared.term.Term.TheVariants as term
@@ -38,7 +39,7 @@ use Rattle.pads_trans_expr.specs.Names.{Name, at_sign, number_of}
 use Rattle.pads_well_sorted.specs.Expressions.{Scope, if_read}
 use Rattle.pads_well_sorted.specs.Sorts.{plain, num, truth, type_sort}
 use Rattle.pads_well_sorted.specs.WellSorted.{AreSorts as AreSortsOf, Each, IfThere, IsTruth, IsNumber, IsParam, IsOption, IsArray, IsBody, IsDecl, WellSorted, params_scope}
-use Rattle.pads_well_sorted.proofs.Lists.{all-append, each-left, each-right, both-true, there-mapped, mapped-there, each-flat}
+use Rattle.pads_well_sorted.proofs.Lists.{all-append, each-left, each-right, there-mapped, mapped-there, each-flat}
 use Rattle.pads_well_sorted.proofs.Means.{Means, sort-by, array-sort, read-sort, any-type-means}
 use Rattle.pads_well_sorted.proofs.Meant.{scope-more}
 use Rattle.pads_well_sorted.proofs.Names.{Known, all-met}
@@ -122,7 +123,7 @@ module _ (declared : List TermSort) (names : List Name) (ambient : Coding) (decl
       conditions
       (subst (Means declared (plain (form.Array number))) (sym (sort-by declared (term.Seq s) (Term-F.Seq s) (out-Seq s))) value) h.3
       (sorted-as made_sorts bound (term.Seq s) (Term-F.Seq s) (out-Seq s)
-      (both-true (size_fits made_sorts s.size bound) (last_fits made_sorts s.last so_far)
+      (and_from (size_fits made_sorts s.size bound) (last_fits made_sorts s.last so_far)
       (size-sorted scope bound a.size means inside.1 h.1)
       (last-sorted so_far (first last a.options) (first-holds (Lasts so_far) last a.options lasts)))
       (lower.each-stands declared names ambient decls sorts are are_of each bound (s.elem ∷ if_there s.sep ++ if_there s.stop) (
@@ -183,7 +184,7 @@ module _ (declared : List TermSort) (names : List Name) (ambient : Coding) (decl
 
   parameters-are : (params : List Param) → Each IsParam params → are_parameters (map name_number params) (map param_sort params) ≡ true
   parameters-are [] all = refl
-  parameters-are (param ∷ params) all = both-true (sorting.is_parameter (param_sort param)) _ (parameter-is param all.0) (parameters-are params all.1)
+  parameters-are (param ∷ params) all = and_from (sorting.is_parameter (param_sort param)) _ (parameter-is param all.0) (parameters-are params all.1)
 
   decl-sorted : (number : ℕ) (d : DeclTree) → slice_get decls number ≡ Some d → AllKnown (in_decl d) → IsDecl decls sorts number d
       → (params : List TermSort) × (slice_get (params_of decls) number ≡ Some params) × (are_parameters (decl_of names ambient d).params params ≡ true)

@@ -1,12 +1,11 @@
 -- Expressions, one layer after another.
-use Rattle.std.proofs.Common.{◌≡◌, ap, refl, subst, arith, ℕ, zero, suc, ◌+◌, ◌<◌, ◌≤◌, List, Option, Some, None, option_and_then}
+use Rattle.std.proofs.Common.{◌≡◌, ap, subst, arith, ℕ, zero, suc, ◌+◌, ◌<◌, ◌≤◌, List, Option}
 use Rattle.std.specs.Prelude.{⊤}
 use Rattle.pads_expr.specs.declared.expr.Expr.{Expr as Made}
 use Rattle.pads_sorts.specs.declared.sort.Sort.{Sort}
 use Rattle.pads_resolved.specs.declared.decl.Decl.{Decl}
 use Rattle.pads_resolved.specs.declared.expr.Expr.{Expr, Expr-F, out-Expr, roll-Expr, roll-out-Expr, map-Expr, fold-roll-Expr, size-Expr, the_lemmas}
 use Rattle.pads_trans_expr.specs.Expressions.{expr_of, expr_step as made_step}
-use Rattle.pads_trans_expr.specs.Met.{Met, in_expr, expr_met}
 use Rattle.pads_trans_expr.specs.Names.{Name}
 use Rattle.pads_well_sorted.specs.Expressions.{Scope, sort_in, expr_step}
 
@@ -63,12 +62,3 @@ sort-roll decls sorts layer scope = ap (λ (f : Scope → Option Sort). f scope)
 pub made-roll : (names : List Name) (layer : Expr-F Expr) → expr_of names (roll-Expr layer) ≡ made_step names (map-Expr Expr Made (expr_of names) layer)
 unfolding expr_of
 made-roll names layer = fold-roll-Expr Made (made_step names) layer
-
-pub met-roll : (layer : Expr-F Expr) → in_expr (roll-Expr layer) ≡ expr_met (map-Expr Expr Met in_expr layer)
-unfolding in_expr
-met-roll layer = fold-roll-Expr Met expr_met layer
-
--- what is asked of a sort that there is
-pub and_then-is : {A B : Type 0} (f : A → Option B) (o : Option A) (y : B) → option_and_then f o ≡ Some y → (x : A) × (o ≡ Some x) × (f x ≡ Some y)
-and_then-is f None y is = cc
-and_then-is f (Some x) y is = (x, refl, is)

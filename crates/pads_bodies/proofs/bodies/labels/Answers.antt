@@ -1,6 +1,7 @@
 use Rattle.std.proofs.Common.{◌∙◌}
-use Rattle.pads_bodies.proofs.WalkLemmas.{none-lesser, labels-step, labels-end}
+use Rattle.pads_bodies.proofs.WalkLemmas.{labels-step, labels-end}
 use Rattle.pads_bodies.proofs.bodies.labels.Goals as goal
+use Rattle.pads_pieces.proofs.Steps.{none-lesser}
 
 pub loop-one-init : goal.loop-one-init
 loop-one-init c = none-lesser _

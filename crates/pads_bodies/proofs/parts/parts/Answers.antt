@@ -1,7 +1,8 @@
 use Rattle.std.proofs.Common.{◌∙◌, refl}
 use Rattle.pads_rules.specs.Pieces.{earlier}
 use Rattle.pads_pieces.specs.Told.{stands}
-use Rattle.pads_bodies.proofs.WalkLemmas.{none-lesser, parts-step, parts-end, names-step, names-end}
+use Rattle.pads_pieces.proofs.Steps.{none-lesser}
+use Rattle.pads_bodies.proofs.WalkLemmas.{parts-step, parts-end, names-step, names-end}
 use Rattle.pads_bodies.proofs.parts.parts.Goals as goal
 
 pub loop-number-init : goal.loop-number-init

@@ -3,9 +3,10 @@ use Rattle.pads_ast.specs.declared.expr.Expr.{Expr}
 use Rattle.pads_ast.specs.declared.expr.Link.{Link}
 use Rattle.pads_ast.specs.declared.expr.Step.{Step}
 use Rattle.pads_rules.specs.NameTokens.{names_in_expr}
+use Rattle.pads_rules.proofs.ExprNames.{names_in-Unary, names_in-Name, names_in-Paren, names_in-Pis, names_in-Plen, names_in-Pforall}
 use Rattle.pads_counts.specs.Met.{met, names_behind}
 use Rattle.pads_counts.proofs.MetLaws.{met-nil, both, one-alone, spelled-as, then, then-one, one, one-more}
-use Rattle.pads_counts.proofs.ExprLaws.{in-Chain, in-Unary, in-Post, nameless, in-Name, in-Paren, in-Pis, in-Plen, in-Pforall}
+use Rattle.pads_counts.proofs.ExprLaws.{in-Chain, in-Post, nameless}
 use Rattle.pads_counts.proofs.in_expr.+meet.Goals as goal
 use Rattle.pads_counts.proofs.in_expr.+meet.Goals.{meet_steps-in-Name+in_ok-meet_name-in-Name, meet_steps-in-Index+in_ok-meet_expr-in-Index}
 
@@ -23,7 +24,7 @@ pub meet_expr-returns-in-Unary : goal.meet_expr-returns-in-Unary
 meet_expr-returns-in-Unary t c = record {
   met =
       spelled-as c.meet_expr-in-Unary.result c.args.names.now c.meet_expr-in-Unary.new.names _ _
-      (ap names_in_expr c.get-in-Unary.ensures.value ∙ sym (ap names_in_expr c.in-Unary.is ∙ in-Unary _ _ _))
+      (ap names_in_expr c.get-in-Unary.ensures.value ∙ sym (ap names_in_expr c.in-Unary.is ∙ names_in-Unary _ _ _))
       c.meet_expr-in-Unary.ensures.met;
 }
 
@@ -39,14 +40,14 @@ meet_expr-returns-in_ok-meet_expr-in-Post t c = record {
 
 pub meet_expr-returns-in-Name : goal.meet_expr-returns-in-Name
 meet_expr-returns-in-Name t c = record {
-  met = one c.meet_name.result c.args.names.now c.meet_name.new.names c.in-Name.name.text _ (ap names_in_expr c.in-Name.is ∙ in-Name _) c.meet_name.ensures.met;
+  met = one c.meet_name.result c.args.names.now c.meet_name.new.names c.in-Name.name.text _ (ap names_in_expr c.in-Name.is ∙ names_in-Name _) c.meet_name.ensures.met;
 }
 
 pub meet_expr-returns-in-Paren : goal.meet_expr-returns-in-Paren
 meet_expr-returns-in-Paren t c = record {
   met =
       spelled-as c.meet_expr-in-Paren.result c.args.names.now c.meet_expr-in-Paren.new.names _ _
-      (ap names_in_expr c.get-in-Paren.ensures.value ∙ sym (ap names_in_expr c.in-Paren.is ∙ in-Paren _ _))
+      (ap names_in_expr c.get-in-Paren.ensures.value ∙ sym (ap names_in_expr c.in-Paren.is ∙ names_in-Paren _ _))
       c.meet_expr-in-Paren.ensures.met;
 }
 
@@ -54,7 +55,7 @@ pub meet_expr-returns-in_ok-meet_expr-in-Pis : goal.meet_expr-returns-in_ok-meet
 meet_expr-returns-in_ok-meet_expr-in-Pis t c = record {
   met =
       then-one c.meet_name-in-Pis.result c.args.names.now c.meet_expr-in-Pis.new.names c.meet_name-in-Pis.new.names _ c.in-Pis.name.text _
-      (ap names_in_expr c.in-Pis.is ∙ in-Pis _ _ _)
+      (ap names_in_expr c.in-Pis.is ∙ names_in-Pis _ _ _)
       (c.in_ok-meet_expr-in-Pis.ensures.met ∙ ap (λ e. met c.args.names.now (names_in_expr e)) c.get-in-Pis.ensures.value)
       c.meet_name-in-Pis.ensures.met;
 }
@@ -63,7 +64,7 @@ pub meet_expr-returns-in-Plen : goal.meet_expr-returns-in-Plen
 meet_expr-returns-in-Plen t c = record {
   met =
       spelled-as c.meet_expr-in-Plen.result c.args.names.now c.meet_expr-in-Plen.new.names _ _
-      (ap names_in_expr c.get-in-Plen.ensures.value ∙ sym (ap names_in_expr c.in-Plen.is ∙ in-Plen _ _))
+      (ap names_in_expr c.get-in-Plen.ensures.value ∙ sym (ap names_in_expr c.in-Plen.is ∙ names_in-Plen _ _))
       c.meet_expr-in-Plen.ensures.met;
 }
 
@@ -72,7 +73,7 @@ meet_expr-returns-in_ok-meet_expr-in-Pforall-2 t c = record {
   met =
       then c.meet_expr-in-Pforall-3.result c.args.names.now c.meet_expr-in-Pforall-2.new.names c.meet_expr-in-Pforall-3.new.names
       (c.in-Pforall.variable.text ∷ (names_in_expr c.in-Pforall.low ++ names_in_expr c.in-Pforall.high)) (names_in_expr c.in-Pforall.body) _ _
-      (ap names_in_expr c.in-Pforall.is ∙ in-Pforall _ _ _ _ _)
+      (ap names_in_expr c.in-Pforall.is ∙ names_in-Pforall _ _ _ _ _)
       (ap names_in_expr c.get-in-Pforall-3.ensures.value)
       (both c.args.names.now c.meet_name-in-Pforall.new.names c.meet_expr-in-Pforall-2.new.names (c.in-Pforall.variable.text ∷ []) (names_in_expr c.in-Pforall.low ++ names_in_expr c.in-Pforall.high)
       (c.in_ok-meet_name-in-Pforall.ensures.met ∙ one-alone c.args.names.now c.in-Pforall.variable.text)

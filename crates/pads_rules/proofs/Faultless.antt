@@ -1,5 +1,6 @@
 -- What it says that there are no violations.
 use Rattle.std.proofs.Common.{◌≡◌, refl, ℕ, Bool, true, false, not, ◌&&◌, List, [], ◌∷◌, ◌++◌}
+use Rattle.std.proofs.lemmas.Bool.{not-false}
 use Rattle.pads_sorts.specs.declared.sort.Form.{Form}
 use Rattle.pads_rules.specs.Faults.{when}
 use Rattle.pads_rules.specs.Judging.{Judged, judgement, too_high, wrong_sort, no_truth}
@@ -23,23 +24,11 @@ pub not-when : (holds : Bool) (fault : CheckFault) → when holds fault ≡ [] �
 not-when true fault e = cc
 not-when false fault e = refl
 
-pub is-not-false : (b : Bool) → not b ≡ false → b ≡ true
-is-not-false true e = refl
-is-not-false false e = cc
-
-pub both-left : (a b : Bool) → (a && b) ≡ true → a ≡ true
-both-left true b h = refl
-both-left false b h = cc
-
-pub both-right : (a b : Bool) → (a && b) ≡ true → b ≡ true
-both-right true b h = h
-both-right false b h = cc
-
 pub is-taken : (takes : Form → Bool) (operand : Judged) → wrong_sort takes operand ≡ [] → accepts takes operand.sort ≡ true
-is-taken takes operand e = is-not-false (accepts takes operand.sort) (not-when (not (accepts takes operand.sort)) _ e)
+is-taken takes operand e = not-false (accepts takes operand.sort) (not-when (not (accepts takes operand.sort)) _ e)
 
 pub is-truth : (condition : Judged) → no_truth condition ≡ [] → accepts is_truth_form condition.sort ≡ true
-is-truth condition e = is-not-false (accepts is_truth_form condition.sort) (not-when (not (accepts is_truth_form condition.sort)) _ e)
+is-truth condition e = not-false (accepts is_truth_form condition.sort) (not-when (not (accepts is_truth_form condition.sort)) _ e)
 
 -- without violations a form has its own sort, and its parts hold no violations
 unbroken : (all : List CheckFault) (sort : ExprSort) → all ≡ [] → sort ≡ unless_broken all sort
