@@ -3,6 +3,7 @@ use Rattle.std.proofs.Common.{◌≡◌, ◌∙◌, sym, ap, refl, subst, arith,
 use Rattle.std.specs.List.{list_any}
 use Rattle.std.proofs.lemmas.List.{length-map, map-append}
 use Rattle.std.proofs.lemmas.List.Folds.{list_any-append}
+use Rattle.std.proofs.lemmas.Bool.{or_parts}
 use Rattle.pads_ast.specs.declared.decl.Label.{Label as WrittenLabel}
 use Rattle.pads_ast.specs.declared.name.Name.{Name}
 use Rattle.pads_ast.specs.declared.name.Word.{Word}
@@ -21,7 +22,6 @@ use Rattle.pads_trans.specs.Terms as trans
 use Rattle.pads_trans.specs.Terms.{label_of}
 use Rattle.pads_well_sorted.proofs.Lists.{mapped-there}
 use Rattle.pads_rules.proofs.Faultless.{none-left, none-right, not-when}
-use Rattle.pads_accepted.proofs.Types.{or-false}
 
 module _ {A : Type 0} (same : A → A → Bool) (fault : A → CheckFault) where
   before-apart : (before xs : List A) (k : ℕ) (x : A) → again same fault before xs ≡ [] → slice_get xs k ≡ Some x → list_any (same x) before ≡ false
@@ -31,7 +31,7 @@ module _ {A : Type 0} (same : A → A → Bool) (fault : A → CheckFault) where
       subst (λ x. list_any (same x) before ≡ false) is (not-when (list_any (same first) before) (fault first) (none-left (when (list_any (same first) before) (fault first)) (again same fault (before ++ first ∷ []) xs) free))
   before-apart before (first ∷ xs) (suc k) x free there =
       let h = before-apart (before ++ first ∷ []) xs k x (none-right (when (list_any (same first) before) (fault first)) (again same fault (before ++ first ∷ []) xs) free) there in
-      (or-false (list_any (same x) before) (list_any (same x) (first ∷ [])) (sym (list_any-append (same x) before (first ∷ [])) ∙ h)).0
+      (or_parts (list_any (same x) before) (list_any (same x) (first ∷ [])) (sym (list_any-append (same x) before (first ∷ [])) ∙ h)).0
 
   pub apart : (before xs : List A) (k j : ℕ) (x y : A) → again same fault before xs ≡ [] → slice_get xs k ≡ Some x → slice_get xs j ≡ Some y → j < k → same x y ≡ false
   apart before [] k j x y free there other less = cc
@@ -40,8 +40,8 @@ module _ {A : Type 0} (same : A → A → Bool) (fault : A → CheckFault) where
       let is : first ≡ y = cc in
       let rest = none-right (when (list_any (same first) before) (fault first)) (again same fault (before ++ first ∷ []) xs) free in
       let h = before-apart (before ++ first ∷ []) xs k x rest there in
-      let last = (or-false (list_any (same x) before) (list_any (same x) (first ∷ [])) (sym (list_any-append (same x) before (first ∷ [])) ∙ h)).1 in
-      subst (λ y. same x y ≡ false) is (or-false (same x first) false last).0
+      let last = (or_parts (list_any (same x) before) (list_any (same x) (first ∷ [])) (sym (list_any-append (same x) before (first ∷ [])) ∙ h)).1 in
+      subst (λ y. same x y ≡ false) is (or_parts (same x first) false last).0
   apart before (first ∷ xs) (suc k) (suc j) x y free there other less =
       apart (before ++ first ∷ []) xs k j x y (none-right (when (list_any (same first) before) (fault first)) (again same fault (before ++ first ∷ []) xs) free) there other (omega arith)
 

@@ -3,6 +3,7 @@ use Rattle.std.proofs.Common.{◌≡◌, ◌∙◌, sym, ap, subst, ℕ, ◌+◌
 use Rattle.std.specs.Prelude.{⊤}
 use Rattle.std.specs.List.{list_any}
 use Rattle.std.proofs.lemmas.List.Folds.{list_any-append}
+use Rattle.std.proofs.lemmas.Bool.{or_parts}
 use Rattle.pads_ast.specs.declared.decl.Ast.{Ast}
 use Rattle.pads_ast.specs.declared.decl.Decl.{Decl as WrittenDecl}
 use Rattle.pads_ast.specs.declared.decl.Part.{Part as WrittenPart}
@@ -37,7 +38,7 @@ use Rattle.pads_accepted.proofs.DescribedTypes.{used-sort, used-proper, computed
 use Rattle.pads_accepted.proofs.Environment.{site_of}
 use Rattle.pads_accepted.proofs.Free.{FreePiece}
 use Rattle.pads_accepted.proofs.Scopes.{State, step, no-more, Again, fresh-first, again-later}
-use Rattle.pads_accepted.proofs.Types.{or-false, IsReadAt, env, made, sorts}
+use Rattle.pads_accepted.proofs.Types.{IsReadAt, env, made, sorts}
 use Rattle.pads_accepted.proofs.Uses.{truth-typed, agreed-typed, type-typed}
 
 module _ (tree : Ast) (none : violations tree ≡ []) (n : ℕ) (d : WrittenDecl) (there : slice_get tree.decls n ≡ Some d) (reads : IsReadAt tree.decls n d) where
@@ -143,7 +144,7 @@ module _ (tree : Ast) (none : violations tree ≡ []) (n : ℕ) (d : WrittenDecl
   branches-typed names seen w before state (f ∷ branches) more free spelled pieces =
       let others = map (λ (f : WrittenBranch). f.name) branches in
       let fresh = fresh-first tree none (before ++ more) f.name others free in
-      let apart = (or-false (list_any (same_name f.name) before) (list_any (same_name f.name) more) (sym (list_any-append (same_name f.name) before more) ∙ fresh)).0 in
+      let apart = (or_parts (list_any (same_name f.name) before) (list_any (same_name f.name) more) (sym (list_any-append (same_name f.name) before more) ∙ fresh)).0 in
       let here = each-left Free_here (branch_pieces types seen f) (flat_map (branch_pieces types seen) branches) pieces in (
         branch-typed names seen w before state f [] apart (each-left IsSpelled (names_in_branch f) (flat_map names_in_branch branches) spelled) here.0 here.1,
         branches-typed names seen w before state branches (more ++ f.name ∷ []) (subst (λ all. Again tree none all others) (append_assoc before more (f.name ∷ [])) (again-later tree none (before ++ more) f.name others free))

@@ -1,9 +1,9 @@
 -- A description without violations gives few names: its different name tokens, and `@`, `some` and `none`.
-use Rattle.std.proofs.Common.{◌≡◌, ◌∙◌, sym, ap, refl, subst, arith, ℕ, zero, suc, ◌+◌, ◌<◌, ◌≤◌, Bool, true, false, cond, ◌||◌, if◌then◌else◌, nat_eq, nat_le, nat_lt, List, [], ◌∷◌, ◌++◌, map, flat_map, length, length-append, Some, None, ltb-false}
+use Rattle.std.proofs.Common.{◌≡◌, ◌∙◌, sym, ap, refl, subst, arith, ℕ, zero, suc, ◌+◌, ◌<◌, ◌≤◌, Bool, true, false, cond, ◌||◌, if◌then◌else◌, nat_eq, nat_le, nat_lt, List, [], ◌∷◌, ◌++◌, map, flat_map, length, length-append, Some, None, le-leb, ltb-false}
 use Rattle.std.specs.List.{enumerate_from, position_or_len}
 use Rattle.std.proofs.lemmas.List.{take_all}
 use Rattle.std.proofs.lemmas.List.Folds.{list_any-append}
-use Rattle.std.proofs.lemmas.Bool.{or_left, or_right}
+use Rattle.std.proofs.lemmas.Bool.{or_left, or_right, or_parts}
 use lib.Pointwise.{pointwise}
 use Rattle.pads_ast.specs.declared.decl.Ast.{Ast}
 use Rattle.pads_ast.specs.declared.decl.Decl.{Decl as WrittenDecl}
@@ -26,7 +26,11 @@ use Rattle.pads_rules.proofs.Faultless.{not-when}
 use Rattle.pads_accepted.proofs.Given.{each-both, decl-given}
 use Rattle.pads_accepted.proofs.Lists.{get-there}
 use Rattle.pads_accepted.proofs.Source.{some-decl}
-use Rattle.pads_accepted.proofs.Types.{or-false, free as free-site}
+use Rattle.pads_accepted.proofs.Types.{free as free-site}
+
+-- what the rules let through has a number of 16 bits
+pub few-enough : (count : ℕ) → count ≤ 4096 → nat_le count 65535 ≡ true
+few-enough count within = le-leb count 65535 (omega arith)
 
 kept-last : (names : List Name) (name other : Name) → is_among names other ≡ true → is_among (names ++ name ∷ []) other ≡ true
 kept-last names name other among =
@@ -165,7 +169,7 @@ module _ (tree : Ast) (none : violations tree ≡ []) where
           let d = get-there tree.decls m (omega arith) in
           let site = site_of tree.decls m d.0 in
           let few = ltb-false 65000 (token_count site)
-          (or-false (nat_le 4096 m || nat_lt 4096 (part_count (d.0).body) || nat_lt 4096 (scope_count (d.0).body)) (nat_lt 65000 (token_count site))
+          (or_parts (nat_le 4096 m || nat_lt 4096 (part_count (d.0).body) || nat_lt 4096 (scope_count (d.0).body)) (nat_lt 65000 (token_count site))
           (not-when _ (breaks 24 (decl_name site).at) (free-site tree none m d.0 d.1).counted)).1 in
           subst (λ (decls : List WrittenDecl). count_of_different (flat_map (λ (d : WrittenDecl). names_in_decl d.body) decls) ≤ 65000) (take_all (suc m) tree.decls (omega arith)) few
 

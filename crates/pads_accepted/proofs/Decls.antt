@@ -1,5 +1,5 @@
 -- The bodies of the declarations that a description without violations resolves to.
-use Rattle.std.proofs.Common.{◌≡◌, ◌∙◌, sym, ap, refl, subst, arith, inl, inr, ℕ, ◌+◌, ◌≤◌, Bool, true, false, not, ◌||◌, nat_le, List, [], ◌∷◌, ◌++◌, map, flat_map, length, take, Option, Some, None, option_map, slice_get, le-leb}
+use Rattle.std.proofs.Common.{◌≡◌, ◌∙◌, sym, ap, refl, subst, inl, inr, ℕ, ◌+◌, ◌≤◌, Bool, true, false, not, ◌||◌, nat_le, List, [], ◌∷◌, ◌++◌, map, flat_map, length, take, Option, Some, None, option_map, slice_get}
 use Rattle.std.proofs.lemmas.List.{length-map}
 use Rattle.std.proofs.lemmas.Bool.{not-false}
 use Rattle.pads_ast.specs.declared.decl.Array.{Array as WrittenArray}
@@ -62,6 +62,7 @@ use Rattle.pads_accepted.proofs.Typed.{sees-hiding}
 use Rattle.pads_accepted.proofs.TypedOperators.{known-operand}
 use Rattle.pads_accepted.proofs.Types.{IsReadAt, env, made, sorts, content-here, is-read}
 use Rattle.pads_accepted.proofs.Uses.{expr-typed, number-typed, truth-typed, type-typed, text-form, sort-is}
+use Rattle.pads_accepted.proofs.Count.{few-enough}
 
 module _ (tree : Ast) (none : violations tree ≡ []) (n : ℕ) (d : WrittenDecl) (there : slice_get tree.decls n ≡ Some d) (reads : IsReadAt tree.decls n d)
     (names : Names) (seen : List RuleNamed) (w : Scope) (before : List Name) (state : State tree none names seen w before) where
@@ -208,9 +209,6 @@ module _ (tree : Ast) (none : violations tree ≡ []) (n : ℕ) (d : WrittenDecl
   union-names : (u : UnionBody) → AreSpelled (names_in_union u) → AreSpelled (flat_map names_in_branch (branches_of u))
   union-names (written_union.Branches branches) spelled = spelled
   union-names (written_union.Switch s) spelled = each-right IsSpelled (names_in_expr s.value) (flat_map names_in_branch (branches_of (written_union.Switch s))) spelled
-
-  few-enough : (count : ℕ) → count ≤ 4096 → nat_le count 65535 ≡ true
-  few-enough count within = le-leb count 65535 (omega arith)
 
   pub union-typed : (ud : WrittenUnion) → d.body ≡ written_body.Union ud → Each Free_here (union_body_pieces types seen ud.body) → AreSpelled (names_in_union ud.body)
       → Again tree none (before ++ []) (map (λ (f : WrittenBranch). f.name) (branches_of ud.body)) → IsUnion (made tree none) (sorts tree none) n w (union_at site names ud.body)

@@ -2,7 +2,7 @@
 use Rattle.std.proofs.Common.{◌≡◌, ◌∙◌, sym, ap, refl, subst, arith, ℕ, ◌<◌, ◌≤◌, Bool, true, false, not, cond, ◌||◌, nat_le, nat_lt, List, [], ◌∷◌, length, take, find, position, Option, Some, None, slice_get, ltb-false, lt-ltb}
 use Rattle.std.specs.List.{list_any, position_or_len}
 use Rattle.std.proofs.lemmas.List.Folds.{find_at}
-use Rattle.std.proofs.lemmas.Bool.{not-false, and_parts}
+use Rattle.std.proofs.lemmas.Bool.{not-false, and_parts, or_parts}
 use Rattle.pads_ast.specs.declared.decl.Ast.{Ast}
 use Rattle.pads_ast.specs.declared.decl.Decl.{Decl as WrittenDecl}
 use Rattle.pads_ast.specs.declared.expr.Expr.{Expr as Tree}
@@ -45,7 +45,7 @@ use Rattle.pads_accepted.proofs.Environment.{site_of, site-back}
 use Rattle.pads_rules.proofs.Faultless.{not-when}
 use Rattle.pads_accepted.proofs.Free.{FreePiece}
 use Rattle.pads_accepted.proofs.TypedOperators.{same-swapped}
-use Rattle.pads_accepted.proofs.Types.{or-false, IsReadRole, IsReadAt, shape-off, Named, base-named, earlier-named, named-at, meaning-base, meaning-earlier, used-known, computed-known, no-list, env, made, sorts, free, decl-settled, used-settled, type-same}
+use Rattle.pads_accepted.proofs.Types.{IsReadRole, IsReadAt, shape-off, Named, base-named, earlier-named, named-at, meaning-base, meaning-earlier, used-known, computed-known, no-list, env, made, sorts, free, decl-settled, used-settled, type-same}
 use Rattle.pads_sorted.proofs.Expressions.{and_then-is}
 
 read-role : (r : Role) (inner found : DeclBody) → if_read r inner ≡ Some found → IsReadRole r
@@ -132,9 +132,9 @@ module _ (tree : Ast) (none : violations tree ≡ []) where
   pub few-parts : (n : ℕ) (d : WrittenDecl) → slice_get tree.decls n ≡ Some d → part_count d.body ≤ 4096
   few-parts n d there =
       ltb-false 4096 (part_count d.body)
-      (or-false (nat_le 4096 n) (nat_lt 4096 (part_count d.body))
-      (or-false _ (nat_lt 4096 (scope_count d.body))
-      (or-false _ (nat_lt 65000 (token_count (site_at n d))) (not-when _ (breaks 24 (decl_name (site_at n d)).at) (free tree none n d there).counted)).0).0).1
+      (or_parts (nat_le 4096 n) (nat_lt 4096 (part_count d.body))
+      (or_parts _ (nat_lt 4096 (scope_count d.body))
+      (or_parts _ (nat_lt 65000 (token_count (site_at n d))) (not-when _ (breaks 24 (decl_name (site_at n d)).at) (free tree none n d there).counted)).0).0).1
 
   -- the type of a field or a branch
   pub used-sort : (n : ℕ) (d : WrittenDecl) (names : Names) (scope : Judging) (t : «Type») → slice_get tree.decls n ≡ Some d → IsReadAt tree.decls n d → FreePiece (site_at n d) (Used scope t)
@@ -168,7 +168,7 @@ module _ (tree : Ast) (none : violations tree ≡ []) where
   computed-rule n d scope t value piece =
       let bare = is_bare is_computable_base (site_at n d) t in
       let same = agree (type_sort (take n env_here) t) (judged env_here value scope).sort in
-      let both = or-false (not bare) (not same) (not-when (not bare || not same) (breaks 18 t.name.at) piece.computed) in
+      let both = or_parts (not bare) (not same) (not-when (not bare || not same) (breaks 18 t.name.at) piece.computed) in
       (not-false bare both.0, not-false same both.1)
 
   pub computed-sort : (n : ℕ) (d : WrittenDecl) (scope : Judging) (t : «Type») (value : Tree) → FreePiece (site_at n d) (Computed scope t value)

@@ -2,6 +2,7 @@
 use Rattle.std.proofs.Common.{◌≡◌, ◌∙◌, sym, ap, refl, subst, ⊎_elim, ℕ, ◌+◌, Bool, true, false, cond, nat_eq, List, [], ◌∷◌, ◌++◌, append_assoc, append-nil, map, take, find, codes, Option, Some, None, option_map}
 use Rattle.std.specs.List.{list_any}
 use Rattle.std.proofs.lemmas.List.Folds.{list_any-append}
+use Rattle.std.proofs.lemmas.Bool.{or_parts}
 use lib.Pointwise.{pointwise, bytes_decides}
 use Rattle.pads_ast.specs.declared.decl.Ast.{Ast}
 use Rattle.pads_ast.specs.declared.decl.Decl.{Decl as WrittenDecl}
@@ -40,7 +41,7 @@ use Rattle.pads_rules.proofs.Faultless.{none-left, none-right, not-when}
 use Rattle.pads_accepted.proofs.Free.{FreePiece}
 use Rattle.pads_accepted.proofs.Typed.{other-meaning}
 use Rattle.pads_accepted.proofs.TypedOperators.{own-text, same-swapped}
-use Rattle.pads_accepted.proofs.Types.{or-false, env, made, sorts}
+use Rattle.pads_accepted.proofs.Types.{env, made, sorts}
 use Rattle.pads_accepted.proofs.Uses.{param-sort}
 
 or_else : Option Known → Option Known → Option Known
@@ -122,9 +123,9 @@ module _ (tree : Ast) (none : violations tree ≡ []) where
         sees = λ text known there. behind names v text known (Goal text known) (λ old. keep text known old (pointwise nat_eq text x.text) refl)
             (λ absent new. let h = alone v text known new in fresh-one text known h.0 h.1) there;
         covered = λ text apart.
-            let both = or-false (list_any (λ (t : Name). same_text text t.text) before) (list_any (λ (t : Name). same_text text t.text) (x ∷ []))
+            let both = or_parts (list_any (λ (t : Name). same_text text t.text) before) (list_any (λ (t : Name). same_text text t.text) (x ∷ []))
             (sym (list_any-append (λ (t : Name). same_text text t.text) before (x ∷ [])) ∙ apart) in
-            none-behind names v text (state.covered text both.0) (other-alone v text (swapped-false text x.text (or-false (same_text text x.text) false both.1).0));
+            none-behind names v text (state.covered text both.0) (other-alone v text (swapped-false text x.text (or_parts (same_text text x.text) false both.1).0));
         variables = λ text known there. behind names v text known ((known.stands ≡ stands.Variable) × IsSpelled text) (state.variables text known)
             (λ absent new. let h = alone v text known new in (sym (ap (λ (k : Known). k.stands) h.1), subst IsSpelled h.0 spelled)) there;
       }

@@ -1,5 +1,6 @@
 -- The declarations that a description without violations resolves to have the sorts that the rules know.
-use Rattle.std.proofs.Common.{◌≡◌, ◌∙◌, ap, refl, subst, arith, ℕ, suc, ◌-◌, ◌≤◌, Bool, true, false, not, ◌&&◌, ◌||◌, ◌==◌, List, [], map, length, take, Some, slice_get}
+use Rattle.std.proofs.Common.{◌≡◌, ◌∙◌, ap, refl, subst, arith, ℕ, suc, ◌-◌, ◌≤◌, false, not, ◌&&◌, ◌||◌, ◌==◌, List, [], map, length, take, Some, slice_get}
+use Rattle.std.proofs.lemmas.Bool.{and_right}
 use Rattle.pads_ast.specs.declared.decl.Ast.{Ast}
 use Rattle.pads_ast.specs.declared.decl.Decl.{Decl as WrittenDecl}
 use Rattle.pads_ast.specs.declared.decl.DeclBody.{DeclBody as WrittenBody}
@@ -29,10 +30,6 @@ use Rattle.pads_rules.proofs.Faultless.{not-when}
 use Rattle.pads_accepted.proofs.Free.{FreePiece}
 use Rattle.pads_accepted.proofs.Types.{unless, IsReadAt, reads-at, env, made, sorts, free, few, body-pieces, earlier-length, sort-here, used-settled, decl-settled, optional-same}
 
-and-false : (a b : Bool) → b ≡ false → (a && b) ≡ false
-and-false true b h = h
-and-false false b h = refl
-
 module _ (tree : Ast) (none : violations tree ≡ []) (n : ℕ) (d : WrittenDecl) (there : slice_get tree.decls n ≡ Some d) where
   abbrev types : List Declared
   types = take n (env tree none)
@@ -41,11 +38,11 @@ module _ (tree : Ast) (none : violations tree ≡ []) (n : ℕ) (d : WrittenDecl
   shapeless : is_record_list_body types d.body ≡ false → is_header_shape types d.body ≡ false → IsReadAt tree.decls n d
   shapeless no_list no_header =
       let site = site_of tree.decls n d in
-      let list = and-false (not (is_precord d.mark)) (is_record_list_body types d.body) no_list in
-      let shape : is_source_shape site ≡ false = ap (λ b. b || (is_psource d.mark && is_header_shape types d.body)) list ∙ and-false (is_psource d.mark) (is_header_shape types d.body) no_header in
+      let list = and_right (not (is_precord d.mark)) (is_record_list_body types d.body) no_list in
+      let shape : is_source_shape site ≡ false = ap (λ b. b || (is_psource d.mark && is_header_shape types d.body)) list ∙ and_right (is_psource d.mark) (is_header_shape types d.body) no_header in
       let marked = unless (is_psource d.mark) ((suc n == length tree.decls) && is_source_shape site)
       (not-when (is_psource d.mark && not ((suc n == length tree.decls) && is_source_shape site)) (breaks 22 (decl_name site).at) (free tree none n d there).misplaced)
-      (and-false (suc n == length tree.decls) (is_source_shape site) shape) in
+      (and_right (suc n == length tree.decls) (is_source_shape site) shape) in
       reads-at tree.decls n d marked list
 
   sorts-by : (inner : WrittenBody) → d.body ≡ inner → sort_known (sort_in types inner) ≡ sorts_of.body_sort (sorts tree none) n (made_body (site_of tree.decls n d) (made_params (site_of tree.decls n d)) inner)

@@ -1,5 +1,5 @@
 -- The structs that a description without violations resolves to: the names of a `Pwhere`.
-use Rattle.std.proofs.Common.{◌≡◌, ◌∙◌, sym, ap, refl, subst, arith, ℕ, zero, suc, ◌+◌, ◌≤◌, true, List, [], ◌∷◌, ◌++◌, append_assoc, append-nil, map, flat_map, length, take, Some, option_and_then, nat_le, slice_get, le-leb}
+use Rattle.std.proofs.Common.{◌≡◌, ◌∙◌, sym, ap, refl, subst, arith, ℕ, zero, suc, ◌+◌, ◌≤◌, List, [], ◌∷◌, ◌++◌, append_assoc, append-nil, map, flat_map, length, take, Some, option_and_then, nat_le, slice_get}
 use Rattle.std.proofs.lemmas.List.{map-append}
 use Rattle.pads_ast.specs.declared.decl.Ast.{Ast}
 use Rattle.pads_ast.specs.declared.decl.Decl.{Decl as WrittenDecl}
@@ -42,6 +42,7 @@ use Rattle.pads_accepted.proofs.Environment.{site_of}
 use Rattle.pads_accepted.proofs.Free.{FreePiece}
 use Rattle.pads_accepted.proofs.Scopes.{State, Again, behind, alone, sees-at}
 use Rattle.pads_accepted.proofs.Types.{IsReadAt, env, made, sorts, is-read}
+use Rattle.pads_accepted.proofs.Count.{few-enough}
 use Rattle.pads_sorted.proofs.Bases.{there-below}
 
 module _ (tree : Ast) (none : violations tree ≡ []) (n : ℕ) (d : WrittenDecl) (there : slice_get tree.decls n ≡ Some d) (reads : IsReadAt tree.decls n d) where
@@ -180,9 +181,6 @@ module _ (tree : Ast) (none : violations tree ≡ []) (n : ℕ) (d : WrittenDecl
   long-parts : (parts : List WrittenPart) (names : Names) → length (parts_at site names parts) ≡ length parts
   long-parts [] names = refl
   long-parts (p ∷ parts) names = ap (λ m. suc m) (long-parts parts (names_after types names p))
-
-  few-enough : (count : ℕ) → count ≤ 4096 → nat_le count 65535 ≡ true
-  few-enough count within = le-leb count 65535 (omega arith)
 
   pub struct-typed : (sd : WrittenStruct) → d.body ≡ written_body.Struct sd → (seen : List RuleNamed) (w : Scope) (before : List Name) → State tree none (made_params site) seen w before
       → Each Free_here (struct_pieces types seen sd) → Again tree none before (flat_map part_names sd.parts) → AreSpelled (flat_map names_in_part sd.parts ++ names_in_option sd.condition)

@@ -1,6 +1,7 @@
 -- The sorts of types and declarations of a description without violations.
 use Rattle.std.proofs.Common.{◌≡◌, ◌∙◌, sym, ap, refl, subst, arith, ℕ, zero, suc, ◌+◌, ◌*◌, ◌-◌, ◌^◌, min, ◌<◌, ◌≤◌, Bool, true, false, not, ◌&&◌, ◌||◌, ◌==◌, if◌then◌else◌, nat_le, nat_lt, List, [], ◌∷◌, map, length, take, position, Option, Some, None, option_and_then, unwrap_or, is_some, slice_get, eqb-true, leb-false}
 use Rattle.std.specs.Prelude.{⊤}
+use Rattle.std.proofs.lemmas.Bool.{or_parts}
 use Rattle.pads_ast.specs.declared.decl.Ast.{Ast}
 use Rattle.pads_ast.specs.declared.decl.Decl.{Decl as WrittenDecl}
 use Rattle.pads_ast.specs.declared.decl.DeclBody.{DeclBody as WrittenBody}
@@ -47,11 +48,6 @@ use Rattle.pads_rules.proofs.Faultless.{not-when}
 use Rattle.pads_accepted.proofs.Free.{Free, FreePiece, free-at}
 use Rattle.pads_accepted.proofs.Lists.{get-there, taken-there, length-taken, found-place}
 use Rattle.pads_sorted.proofs.Bases.{there-below}
-
--- what two tests together tell
-pub or-false : (a b : Bool) → (a || b) ≡ false → (a ≡ false) × (b ≡ false)
-or-false true b h = cc
-or-false false b h = (refl, h)
 
 neither : (u l : Bool) → (u && not l) ≡ false → (u && l) ≡ false → u ≡ false
 neither true true a b = b
@@ -169,7 +165,7 @@ no_records site t = (is_precord_type (meaning (earlier site) t.name.text) || is_
 pub no-list : (site : Site) (t : «Type») → when (no_records site t) (breaks 20 t.name.at) ≡ [] → is_source_shape site ≡ false → is_record_list_type (meaning (earlier site) t.name.text) ≡ false
 no-list site t none off =
     let m = meaning (earlier site) t.name.text in
-    (or-false (is_precord_type m) (is_record_list_type m)
+    (or_parts (is_precord_type m) (is_record_list_type m)
     (unless (is_precord_type m || is_record_list_type m) (is_source_shape site) (not-when (no_records site t) (breaks 20 t.name.at) none) off)).1
 
 module _ (tree : Ast) (none : violations tree ≡ []) where
@@ -192,9 +188,9 @@ module _ (tree : Ast) (none : violations tree ≡ []) where
   few n d there =
       let site = site_of decls n d in
       leb-false 4096 n
-      (or-false (nat_le 4096 n) (nat_lt 4096 (part_count d.body))
-      (or-false _ (nat_lt 4096 (scope_count d.body))
-      (or-false _ (nat_lt 65000 (token_count site)) (not-when _ (breaks 24 (decl_name site).at) (free n d there).counted)).0).0).0
+      (or_parts (nat_le 4096 n) (nat_lt 4096 (part_count d.body))
+      (or_parts _ (nat_lt 4096 (scope_count d.body))
+      (or_parts _ (nat_lt 65000 (token_count site)) (not-when _ (breaks 24 (decl_name site).at) (free n d there).counted)).0).0).0
 
   -- a source declaration is the last one
   pub not-last : (k n : ℕ) (d : WrittenDecl) (later : WrittenDecl) → k < n → slice_get decls k ≡ Some d → slice_get decls n ≡ Some later → is_psource d.mark ≡ false

@@ -1,6 +1,7 @@
 -- Each declaration that a description without violations resolves to is well-sorted.
-use Rattle.std.proofs.Common.{◌≡◌, ◌∙◌, sym, ap, refl, subst, arith, ⊎_elim, ◌⊎◌, inl, inr, ℕ, ◌+◌, ◌≤◌, true, ◌||◌, nat_le, nat_lt, List, [], ◌∷◌, ◌++◌, append-nil, map, flat_map, length, take, Some, slice_get, ltb-false, le-leb}
+use Rattle.std.proofs.Common.{◌≡◌, ◌∙◌, sym, ap, refl, subst, arith, ⊎_elim, ◌⊎◌, inl, inr, ℕ, ◌+◌, ◌≤◌, ◌||◌, nat_le, nat_lt, List, [], ◌∷◌, ◌++◌, append-nil, map, flat_map, length, take, Some, slice_get, ltb-false}
 use Rattle.std.proofs.lemmas.List.{length-map}
+use Rattle.std.proofs.lemmas.Bool.{or_parts}
 use Rattle.pads_ast.specs.declared.decl.Ast.{Ast}
 use Rattle.pads_ast.specs.declared.decl.Decl.{Decl as WrittenDecl}
 use Rattle.pads_ast.specs.declared.decl.DeclBody.{DeclBody as WrittenBody}
@@ -37,11 +38,9 @@ use Rattle.pads_rules.proofs.Faultless.{none-left, not-when}
 use Rattle.pads_accepted.proofs.Free.{FreePiece}
 use Rattle.pads_accepted.proofs.Scopes.{State, start, Again, params-state}
 use Rattle.pads_accepted.proofs.Structs.{struct-typed}
-use Rattle.pads_accepted.proofs.Types.{or-false, IsReadRole, IsReadAt, env, made, sorts, free as free-site, body-pieces}
+use Rattle.pads_accepted.proofs.Types.{IsReadRole, IsReadAt, env, made, sorts, free as free-site, body-pieces}
 use Rattle.pads_accepted.proofs.Uses.{param-sort, type-typed}
-
-few-enough : (count : ℕ) → count ≤ 4096 → nat_le count 65535 ≡ true
-few-enough count within = le-leb count 65535 (omega arith)
+use Rattle.pads_accepted.proofs.Count.{few-enough}
 
 spelled-params : (ps : List WrittenParam) → AreSpelled (flat_map names_in_param ps) → AreSpelled (map (λ (param : WrittenParam). param.name.text) ps)
 spelled-params [] spelled = tt
@@ -84,8 +83,8 @@ module _ (tree : Ast) (none : violations tree ≡ []) (n : ℕ) (d : WrittenDecl
   few-names : scope_count d.body ≤ 4096
   few-names =
       ltb-false 4096 (scope_count d.body)
-      (or-false (nat_le 4096 n || nat_lt 4096 (part_count d.body)) (nat_lt 4096 (scope_count d.body))
-      (or-false _ (nat_lt 65000 (token_count site)) (not-when _ (breaks 24 (decl_name site).at) (free-site tree none n d there).counted)).0).1
+      (or_parts (nat_le 4096 n || nat_lt 4096 (part_count d.body)) (nat_lt 4096 (scope_count d.body))
+      (or_parts _ (nat_lt 65000 (token_count site)) (not-when _ (breaks 24 (decl_name site).at) (free-site tree none n d there).counted)).0).1
 
   all-names : AllAgain (param_names d.body ++ inner_names d.body)
   all-names = none-left (again same_name (λ (name : Name). breaks 4 name.at) [] (param_names d.body ++ inner_names d.body)) (again same_option (λ option. breaks 4 (option_place option)) [] (options_of d.body)) (free-site tree none n d there).again

@@ -1,9 +1,9 @@
 -- What the code finds in the bytes is the address of their points.
-use Rattle.std.proofs.Common.{◌≡◌, ℕ, pos, ◌-◌, ◌<◌, ◌≤◌, Bool, true, false, ◌||◌, cond, length-take-le, min, nat_eq, nat_le, List, [], ◌∷◌, length, take, drop, Option, Some, None, refl, ◌∙◌, arith}
+use Rattle.std.proofs.Common.{◌≡◌, ℕ, pos, ◌-◌, ◌<◌, ◌≤◌, Bool, true, false, cond, length-take-le, min, nat_eq, nat_le, List, [], ◌∷◌, length, take, drop, Option, Some, None, refl, ◌∙◌, arith}
 use Rattle.std.specs.Char.{is_ascii_digit}
 use Rattle.std.specs.List.{prefix_len, list_all}
 use Rattle.std.proofs.lemmas.Bool.{lt-leb, le-leb}
-use Rattle.std.proofs.Math.Bool.{and-false}
+use Rattle.std.proofs.Math.Bool.{and-false, or-false}
 use Rattle.pads_value.specs.declared.reading.Read.TheVariants.{Good, Hard}
 use Rattle.pads_value.specs.declared.cause.Cause.TheVariants as cause
 use Rattle.pads_code.specs.declared.Coding.{Coding}
@@ -14,17 +14,13 @@ use Rattle.pads_code.proofs.NumeralLemmas.{run_passes}
 use Rattle.pads_bases.specs.Classes.{has_point}
 use Rattle.pads_bases.specs.Addresses.{octet, is_octet, Numbered, behind_dot, joined, next_octet, address, ip_reading}
 
-or_false : (b : Bool) → (b || false) ≡ b
-or_false true = refl
-or_false false = refl
-
 prefix_same : (f g : ℕ → Bool) → ((p : ℕ) → f p ≡ g p) → (xs : List ℕ) → prefix_len f xs ≡ prefix_len g xs
 prefix_same f g same [] = refl
 prefix_same f g same (x ∷ xs) = rw (same x, prefix_same f g same xs) refl
 
 -- the class `0-9` has the digits
 pub digits_class : (xs : List ℕ) → prefix_len (has_point (48 ∷ 45 ∷ 57 ∷ [])) xs ≡ prefix_len is_ascii_digit xs
-digits_class xs = prefix_same (has_point (48 ∷ 45 ∷ 57 ∷ [])) is_ascii_digit (λ p. or_false (is_ascii_digit p)) xs
+digits_class xs = prefix_same (has_point (48 ∷ 45 ∷ 57 ∷ [])) is_ascii_digit (λ p. or-false (is_ascii_digit p)) xs
 
 -- what the code finds at the octet in front
 pub record FindsRun (coding : Coding) (bytes digits rest : List ℕ) (n : ℕ) : Type 0 where

@@ -2,12 +2,12 @@
 use Rattle.std.proofs.Common.{◌≡◌, ◌∙◌, sym, ap, refl, ℕ, ◌+◌, ◌<◌, Bool, true, false, ◌||◌, List, [], ◌∷◌, length, take, get_or}
 use Rattle.std.specs.List.{list_any}
 use Rattle.std.proofs.lemmas.List.Folds.{list_any-append}
+use Rattle.std.proofs.Math.Bool.{or-false}
 use Rattle.pads_ast.specs.declared.decl.ArrayOption.{ArrayOption}
 use Rattle.pads_ast.specs.declared.decl.ArrayOption.TheVariants as array_option
 use Rattle.pads_rules.specs.DeclRules.{same_option}
 use Rattle.pads_decl_rules.specs.declared.again.Kinds.{Kinds}
 use Rattle.pads_decl_rules.specs.Kinds.{has_kind, with_kind}
-use Rattle.pads_pieces.proofs.MetNames.{or-false}
 use Rattle.pads_declared.proofs.Lists.{taken}
 
 -- Some kinds are those of some options, and no others.

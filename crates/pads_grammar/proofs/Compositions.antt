@@ -4,7 +4,7 @@ use Rattle.pads_grammar.specs.declared.kind.Kind.{Kind}
 use Rattle.pads_grammar.specs.Kinds.{Tokens, peek}
 use Rattle.pads_grammar.specs.Grammar.{Rule, Split, Maybe, Applied, Outcome, then_read, Apart}
 use Rattle.pads_grammar.specs.Laws.{Found, Told, Lawful, Inhabited}
-use Rattle.pads_grammar.proofs.Parts.{next_peek}
+use Rattle.pads_grammar.proofs.Parts.{next_peek, goes_alike}
 
 -- What is derived is not empty.
 abbrev pub NotEmpty : {A : Type 0} → Rule A → Type 0
@@ -97,20 +97,17 @@ module _ {A : Type 0} (goes : Kind → Bool) (p : Tokens → Outcome A) (P : Rul
   either_second : (ts : Tokens) → goes (peek ts) ≡ false → either_read ts ≡ q ts
   either_second ts h = rw h refl
 
-  peek_stays : (b : Bool) (ts front rest more : Tokens) → goes (peek ts) ≡ b → ts ≡ front ++ rest → peek more ≡ peek rest → goes (peek (front ++ more)) ≡ b
-  peek_stays b ts front rest more h w e = ap goes (next_peek front rest more ts w e) ∙ h
-
   left_told : (ts : Tokens) → goes (peek ts) ≡ true → (r : Outcome A) → Told p P ts r → Told either_read Either ts r
   left_told ts h (Ok read) f = record {
     front = f.front;
     whole = f.whole;
     derived = inl f.derived;
-    stays = λ more e. either_first (f.front ++ more) (peek_stays true ts f.front read.1 more h f.whole e) ∙ f.stays more e;
+    stays = λ more e. either_first (f.front ++ more) (goes_alike goes true ts f.front read.1 more h f.whole e) ∙ f.stays more e;
   }
   left_told ts h (Err rest) f = record {
     front = f.front;
     whole = f.whole;
-    stays = λ more e. either_first (f.front ++ more) (peek_stays true ts f.front rest more h f.whole e) ∙ f.stays more e;
+    stays = λ more e. either_first (f.front ++ more) (goes_alike goes true ts f.front rest more h f.whole e) ∙ f.stays more e;
     value = f.value;
     back = f.back;
     completed = inl f.completed;
@@ -121,12 +118,12 @@ module _ {A : Type 0} (goes : Kind → Bool) (p : Tokens → Outcome A) (P : Rul
     front = f.front;
     whole = f.whole;
     derived = inr f.derived;
-    stays = λ more e. either_second (f.front ++ more) (peek_stays false ts f.front read.1 more h f.whole e) ∙ f.stays more e;
+    stays = λ more e. either_second (f.front ++ more) (goes_alike goes false ts f.front read.1 more h f.whole e) ∙ f.stays more e;
   }
   right_told ts h (Err rest) f = record {
     front = f.front;
     whole = f.whole;
-    stays = λ more e. either_second (f.front ++ more) (peek_stays false ts f.front rest more h f.whole e) ∙ f.stays more e;
+    stays = λ more e. either_second (f.front ++ more) (goes_alike goes false ts f.front rest more h f.whole e) ∙ f.stays more e;
     value = f.value;
     back = f.back;
     completed = inr f.completed;
@@ -163,9 +160,6 @@ module _ {A : Type 0} (goes : Kind → Bool) (p : Tokens → Outcome A) (P : Rul
   abbrev optional_read : Tokens → Outcome (Option A)
   optional_read ts = cond (goes (peek ts)) (then_read (p ts) (λ a rest. Ok (Some a, rest))) (Ok (None, ts))
 
-  optional_stays : (b : Bool) (ts front rest more : Tokens) → goes (peek ts) ≡ b → ts ≡ front ++ rest → peek more ≡ peek rest → goes (peek (front ++ more)) ≡ b
-  optional_stays b ts front rest more h w e = ap goes (next_peek front rest more ts w e) ∙ h
-
   some_stays : (ts : Tokens) (r : Outcome A) → goes (peek ts) ≡ true → p ts ≡ r → optional_read ts ≡ then_read r (λ a rest. Ok (Some a, rest))
   some_stays ts r h e = rw h (rw e refl)
 
@@ -174,12 +168,12 @@ module _ {A : Type 0} (goes : Kind → Bool) (p : Tokens → Outcome A) (P : Rul
     front = f.front;
     whole = f.whole;
     derived = f.derived;
-    stays = λ more e. some_stays (f.front ++ more) (Ok (read.0, more)) (optional_stays true ts f.front read.1 more h f.whole e) (f.stays more e);
+    stays = λ more e. some_stays (f.front ++ more) (Ok (read.0, more)) (goes_alike goes true ts f.front read.1 more h f.whole e) (f.stays more e);
   }
   some_told ts h (Err rest) f = record {
     front = f.front;
     whole = f.whole;
-    stays = λ more e. some_stays (f.front ++ more) (Err more) (optional_stays true ts f.front rest more h f.whole e) (f.stays more e);
+    stays = λ more e. some_stays (f.front ++ more) (Err more) (goes_alike goes true ts f.front rest more h f.whole e) (f.stays more e);
     value = Some f.value;
     back = f.back;
     completed = f.completed;
@@ -191,7 +185,7 @@ module _ {A : Type 0} (goes : Kind → Bool) (p : Tokens → Outcome A) (P : Rul
     front = [];
     whole = refl;
     derived = refl;
-    stays = λ more e. rw (optional_stays false ts [] ts more h refl e) refl;
+    stays = λ more e. rw (goes_alike goes false ts [] ts more h refl e) refl;
   }
 
   pub lawful-optional : (I H F : Kind → Bool) → Lawful p P I F → ((j : Kind) → I j ≡ true → goes j ≡ true) → Apart goes F → ((j : Kind) → I j ≡ true → H j ≡ true) → ((j : Kind) → F j ≡ true → H j ≡ true) → Lawful optional_read (Maybe P) H F

@@ -1,6 +1,6 @@
 -- Each grammar that one token decides: its reader reads what it derives and nothing else.
-use Rattle.std.proofs.Common.{◌≡◌, Bool, true, false, ◌||◌, ◌&&◌, None, [], ◌∷◌, ◌++◌, ◌⊎◌, inl, inr, refl, sym, subst}
-use Rattle.std.proofs.lemmas.Bool.{or_left, or_right}
+use Rattle.std.proofs.Common.{◌≡◌, Bool, true, false, ◌||◌, ◌&&◌, None, [], ◌∷◌, ◌++◌, inl, inr, refl, sym, subst}
+use Rattle.std.proofs.lemmas.Bool.{or_left, or_right, and_cases, or_parts}
 use Rattle.pads_grammar.specs.declared.kind.Kind.{Kind}
 use Rattle.pads_grammar.specs.Kinds.{Tokens, is, peek, sample, kind_of_sample}
 use Rattle.pads_grammar.specs.Grammar.{Grammar, token, pair, apply, either, optional, many, rest_of, Rule, Outcome, Derives, nullable, begins, ahead, reads, Decides}
@@ -31,24 +31,16 @@ back_nil : (xs ys : Tokens) → [] ≡ xs ++ ys → ys ≡ []
 back_nil [] ys h = sym h
 back_nil (x ∷ xs) ys h = cc
 
-pub and_false : (b c : Bool) → (b && c) ≡ false → (b ≡ false) ⊎ (c ≡ false)
-and_false true c h = inr h
-and_false false c h = inl refl
-
-pub or_false : (b c : Bool) → (b || c) ≡ false → (b ≡ false) × (c ≡ false)
-or_false true c h = cc
-or_false false c h = (refl, h)
-
 -- What is not nullable doesn't derive the empty list.
 pub not_empty : {A : Type 0} (g : Grammar A) → nullable g ≡ false → NotEmpty (Derives g)
 not_empty (token k take) n a d = let e = d.alone in cc
-not_empty (pair g h) n a d = elim (and_false (nullable g) (nullable h) n) [
+not_empty (pair g h) n a d = elim (and_cases (nullable g) (nullable h) n) [
   | inl e ↦ not_empty g e a.0 (subst (λ (ts : Tokens). Derives g a.0 ts) (front_nil d.front d.back d.whole) d.first)
   | inr e ↦ not_empty h e a.1 (subst (λ (ts : Tokens). Derives h a.1 ts) (back_nil d.front d.back d.whole) d.second)
 ]
 not_empty (apply f g) n a d = not_empty g n d.value d.derived
-not_empty (either g h) n a (inl d) = not_empty g (or_false (nullable g) (nullable h) n).0 a d
-not_empty (either g h) n a (inr d) = not_empty h (or_false (nullable g) (nullable h) n).1 a d
+not_empty (either g h) n a (inl d) = not_empty g (or_parts (nullable g) (nullable h) n).0 a d
+not_empty (either g h) n a (inr d) = not_empty h (or_parts (nullable g) (nullable h) n).1 a d
 not_empty (optional g) n a d = cc
 not_empty (many g) n a d = cc
 not_empty (rest_of k g) n a d = cc

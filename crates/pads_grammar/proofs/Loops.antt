@@ -1,12 +1,12 @@
 -- What a loop over the items of a repetition keeps: the whole equals what is done, then the rest.
 use Rattle.std.proofs.Common.{◌≡◌, ℕ, zero, suc, ◌≤◌, ◌<◌, Bool, true, false, Ok, Err, List, [], ◌∷◌, ◌++◌, length, cond, inl, inr, refl, sym, ◌∙◌, ap, subst, append_assoc, arith}
 use Rattle.std.proofs.lemmas.List.{append-nil}
+use Rattle.std.proofs.lemmas.Bool.{and_cases, or_parts}
 use Rattle.pads_lex.specs.declared.token.Token.{Token}
 use Rattle.pads_grammar.specs.declared.kind.Kind.{Kind}
 use Rattle.pads_grammar.specs.declared.kind.Kind.TheVariants as kind
 use Rattle.pads_grammar.specs.Kinds.{Tokens, is, peek, kind_of}
 use Rattle.pads_grammar.specs.Grammar.{Grammar, token, pair, apply, either, optional, many, rest_of, Outcome, then_read, read_token, read_many, read_rest, behind, reads, nullable, begins}
-use Rattle.pads_grammar.proofs.Grammars.{and_false, or_false}
 
 -- What is read leaves no more tokens than that number.
 abbrev pub Leaves : {A : Type 0} → ℕ → Outcome A → Type 0
@@ -90,12 +90,12 @@ shorter_token k take (t ∷ ts) = shorter_if (suc (length ts)) (is k (kind_of t.
 -- What is not nullable takes a token.
 pub shortens : {A : Type 0} (g : Grammar A) → nullable g ≡ false → (ts : Tokens) → Shorter (length ts) (reads g ts)
 shortens (token k take) h ts = shorter_token k take ts
-shortens (pair g k) h ts = elim (and_false (nullable g) (nullable k) h) [
+shortens (pair g k) h ts = elim (and_cases (nullable g) (nullable k) h) [
   | inl e ↦ shorter_then (length ts) (reads g ts) _ (shortens g e ts) (λ a mid l. leaves_shorter (length mid) (length ts) (reads k mid) _ (within k mid) (λ b rest m. let x : length rest < length ts = omega arith in x))
   | inr e ↦ leaves_shorter (length ts) (length ts) (reads g ts) _ (within g ts) (λ a mid m. shorter_then (length ts) (reads k mid) _ (above (length mid) (length ts) (reads k mid) m (shortens k e mid)) (λ b rest m. m))
 ]
 shortens (apply f g) h ts = shorter_then (length ts) (reads g ts) _ (shortens g h ts) (λ a rest k. k)
-shortens (either g k) h ts = let e = or_false (nullable g) (nullable k) h in shorter_if (length ts) (begins g (peek ts)) (reads g ts) (reads k ts) (shortens g e.0 ts) (shortens k e.1 ts)
+shortens (either g k) h ts = let e = or_parts (nullable g) (nullable k) h in shorter_if (length ts) (begins g (peek ts)) (reads g ts) (reads k ts) (shortens g e.0 ts) (shortens k e.1 ts)
 shortens (optional g) h ts = cc
 shortens (many g) h ts = cc
 shortens (rest_of k g) h ts = cc

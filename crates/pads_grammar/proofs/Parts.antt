@@ -1,5 +1,5 @@
 -- The laws of the parts of a grammar but the repetitions.
-use Rattle.std.proofs.Common.{◌≡◌, Bool, true, false, ◌||◌, ◌&&◌, Ok, Err, [], ◌∷◌, ◌++◌, cond, ◌⊎◌, inl, inr, refl, sym, ◌∙◌, ap}
+use Rattle.std.proofs.Common.{◌≡◌, Bool, true, false, ◌||◌, ◌&&◌, Ok, Err, [], ◌∷◌, ◌++◌, cond, refl, sym, ◌∙◌, ap}
 use denote.Enum.Bare.{same_true, true_same}
 use Rattle.pads_lex.specs.declared.token.Token.{Token}
 use Rattle.pads_grammar.specs.declared.kind.Kind.{Kind}
@@ -8,10 +8,6 @@ use Rattle.pads_grammar.specs.contracts.kind.Kind.{the_type}
 use Rattle.pads_grammar.specs.Kinds.{Tokens, is, peek, kind_of}
 use Rattle.pads_grammar.specs.Grammar.{IsToken, read_token}
 use Rattle.pads_grammar.specs.Laws.{Told, Lawful, Inhabited}
-
-pub or-cases : (a b : Bool) → (a || b) ≡ true → (a ≡ true) ⊎ (b ≡ true)
-or-cases true b h = inl refl
-or-cases false b h = inr h
 
 pub or-only : (a b c : Bool) → a ≡ false → (b || (a && c)) ≡ true → b ≡ true
 or-only true b c e h = cc
@@ -25,6 +21,10 @@ front_peek (t ∷ front) ts more h = refl
 -- The peek of what is put together, read from the whole.
 pub next_peek : (front rest more whole : Tokens) → whole ≡ front ++ rest → peek more ≡ peek rest → peek (front ++ more) ≡ peek whole
 next_peek front rest more whole w h = rw w (front_peek front rest more h)
+
+-- what goes on at these tokens goes on where others follow that begin alike
+pub goes_alike : (goes : Kind → Bool) (b : Bool) (whole front rest more : Tokens) → goes (peek whole) ≡ b → whole ≡ front ++ rest → peek more ≡ peek rest → goes (peek (front ++ more)) ≡ b
+goes_alike goes b whole front rest more h w e = ap goes (next_peek front rest more whole w e) ∙ h
 
 pub is-same : (k j : Kind) → is k j ≡ true → k ≡ j
 is-same k j h = same_true the_type tt k j h

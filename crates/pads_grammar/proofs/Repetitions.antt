@@ -1,12 +1,13 @@
 -- The law of what may come any number of times.
 use Rattle.std.proofs.Common.{◌≡◌, ℕ, zero, suc, ◌≤◌, Bool, true, false, ◌||◌, Ok, Err, List, [], ◌∷◌, ◌++◌, length, cond, refl, sym, ◌∙◌, ap, subst, append_assoc, length-append, arith}
 use Rattle.std.proofs.lemmas.Bool.{or_left, or_right}
+use Rattle.std.proofs.lemmas.List.{append-nil}
 use Rattle.pads_grammar.specs.declared.kind.Kind.{Kind}
 use Rattle.pads_grammar.specs.declared.kind.Kind.TheVariants as kind
 use Rattle.pads_grammar.specs.Kinds.{Tokens, peek}
 use Rattle.pads_grammar.specs.Grammar.{Rule, Many, Outcome, then_read, read_many, Apart}
 use Rattle.pads_grammar.specs.Laws.{Found, Told, Lawful}
-use Rattle.pads_grammar.proofs.Parts.{next_peek}
+use Rattle.pads_grammar.proofs.Parts.{next_peek, goes_alike}
 use Rattle.pads_grammar.proofs.Compositions.{NotEmpty}
 
 pub longer : (front rest : Tokens) (n : ℕ) → (front ≡ [] → ⊥) → length (front ++ rest) ≤ suc n → length rest ≤ n
@@ -59,9 +60,6 @@ module _ {A : Type 0} (goes : Kind → Bool) (p : Tokens → Outcome A) (P : Rul
   ManyTold ts (Err rest) = ManyFault ts rest
 
   module _ (solid : NotEmpty P) where
-    goes_stays : (b : Bool) (ts front rest more : Tokens) → goes (peek ts) ≡ b → ts ≡ front ++ rest → peek more ≡ peek rest → goes (peek (front ++ more)) ≡ b
-    goes_stays b ts front rest more h w e = ap goes (next_peek front rest more ts w e) ∙ h
-
     more_stays : (ts : Tokens) (a : A) (mid : Tokens) (f : Found p P ts a mid) (g rest more : Tokens) (s : Outcome (List A)) (m : ℕ) → goes (peek ts) ≡ true → mid ≡ g ++ rest → peek more ≡ peek rest → length ((f.front ++ g) ++ more) ≤ m
         → ((k : ℕ) → length (g ++ more) ≤ k → read_many goes p k (g ++ more) ≡ s)
         → read_many goes p m ((f.front ++ g) ++ more) ≡ then_read s (λ xs rest. Ok (a ∷ xs, rest))
@@ -70,7 +68,7 @@ module _ {A : Type 0} (goes : Kind → Bool) (p : Tokens → Outcome A) (P : Rul
         let l2 : length (f.front ++ (g ++ more)) ≤ m = subst (λ (us : Tokens). length us ≤ m) at l in
         let hs : peek (g ++ more) ≡ peek mid = next_peek g rest more mid w e in
         let found : p (f.front ++ (g ++ more)) ≡ Ok (a, g ++ more) = f.stays (g ++ more) hs in
-        let h2 : goes (peek (f.front ++ (g ++ more))) ≡ true = goes_stays true ts f.front mid (g ++ more) h f.whole hs in
+        let h2 : goes (peek (f.front ++ (g ++ more))) ≡ true = goes_alike goes true ts f.front mid (g ++ more) h f.whole hs in
         let one = many_goes m (f.front ++ (g ++ more)) (Ok (a, g ++ more)) h2 l2 found in
         let l3 : length (g ++ more) ≤ one.0 = longer f.front (g ++ more) one.0 (not_nil P solid a f.front f.derived) (subst (λ (n : ℕ). length (f.front ++ (g ++ more)) ≤ n) one.1 l2) in
         ap (λ (us : Tokens). read_many goes p m us) at ∙ (one.2 ∙ ap (λ r. then_read r (λ xs rest. Ok (a ∷ xs, rest))) (back one.0 l3))
@@ -98,22 +96,18 @@ module _ {A : Type 0} (goes : Kind → Bool) (p : Tokens → Outcome A) (P : Rul
     item_told n ts h l (Err rest) f told = record {
       front = f.front;
       whole = f.whole;
-      stays = λ m more l e. (many_goes m (f.front ++ more) (Err more) (goes_stays true ts f.front rest more h f.whole e) l (f.stays more e)).2;
+      stays = λ m more l e. (many_goes m (f.front ++ more) (Err more) (goes_alike goes true ts f.front rest more h f.whole e) l (f.stays more e)).2;
       value = f.value ∷ [];
       back = f.back;
-      completed = record { front = f.front ++ f.back; back = []; whole = sym (append_nil (f.front ++ f.back)); first = f.completed; second = refl };
+      completed = record { front = f.front ++ f.back; back = []; whole = sym (append-nil (f.front ++ f.back)); first = f.completed; second = refl };
     }
-      where
-        append_nil : (us : Tokens) → us ++ [] ≡ us
-        append_nil [] = refl
-        append_nil (t ∷ us) = ap (λ vs. t ∷ vs) (append_nil us)
 
     stop_told : (ts : Tokens) → goes (peek ts) ≡ false → ManyTold ts (Ok ([], ts))
     stop_told ts h = record {
       front = [];
       whole = refl;
       derived = refl;
-      stays = λ m more l e. many_stops m more (goes_stays false ts [] ts more h refl e);
+      stays = λ m more l e. many_stops m more (goes_alike goes false ts [] ts more h refl e);
     }
 
     told_by : (n : ℕ) (ts : Tokens) (b : Bool) → goes (peek ts) ≡ b → length ts ≤ suc n → Told p P ts (p ts) → ((mid : Tokens) → length mid ≤ n → ManyTold mid (read_many goes p n mid)) → ManyTold ts (cond b (step n ts (p ts)) (Ok ([], ts)))

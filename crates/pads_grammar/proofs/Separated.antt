@@ -1,22 +1,19 @@
 -- The law of what may come any number of times behind a separator that may also stand last.
 use Rattle.std.proofs.Common.{◌≡◌, ℕ, zero, suc, ◌≤◌, Bool, true, false, ◌||◌, Ok, Err, List, [], ◌∷◌, ◌++◌, length, cond, inl, inr, refl, sym, ◌∙◌, ap, subst, append_assoc, arith}
 use Rattle.std.proofs.lemmas.Bool.{or_left, or_right}
+use Rattle.std.proofs.lemmas.List.{append-nil}
 use Rattle.pads_lex.specs.declared.token.Token.{Token}
 use Rattle.pads_grammar.specs.declared.kind.Kind.{Kind}
 use Rattle.pads_grammar.specs.declared.kind.Kind.TheVariants as kind
 use Rattle.pads_grammar.specs.Kinds.{Tokens, is, peek, kind_of}
 use Rattle.pads_grammar.specs.Grammar.{Rule, IsToken, Rest, Outcome, then_read, read_rest, Apart}
 use Rattle.pads_grammar.specs.Laws.{Found, Told, Lawful}
-use Rattle.pads_grammar.proofs.Parts.{next_peek, is-same, same-is}
+use Rattle.pads_grammar.proofs.Parts.{next_peek, is-same, same-is, goes_alike}
 use Rattle.pads_grammar.proofs.Repetitions.{falsum, none_left}
 
 less : (front rest : Tokens) (n : ℕ) → length (front ++ rest) ≤ n → length rest ≤ n
 less [] rest n h = h
 less (t ∷ front) rest n h = let e : suc (length (front ++ rest)) ≤ n = h in less front rest n (omega arith)
-
-append_nil : (us : Tokens) → us ++ [] ≡ us
-append_nil [] = refl
-append_nil (t ∷ us) = ap (λ vs. t ∷ vs) (append_nil us)
 
 module _ {A : Type 0} (k : Kind) (goes : Kind → Bool) (p : Tokens → Outcome A) (P : Rule A) (quiet : is k kind.End ≡ false) where
   abbrev pub rest_read : Tokens → Outcome (List A)
@@ -58,9 +55,6 @@ module _ {A : Type 0} (k : Kind) (goes : Kind → Bool) (p : Tokens → Outcome 
   separator : (t : Token) → is k (kind_of t.kind) ≡ true → (s : Token) × IsToken k (λ s. s) s (t ∷ [])
   separator t h = (t, record { token = t; alone = refl; kind = sym (is-same k (kind_of t.kind) h); taken = refl })
 
-  goes_stays : (b : Bool) (ts front rest more : Tokens) → goes (peek ts) ≡ b → ts ≡ front ++ rest → peek more ≡ peek rest → goes (peek (front ++ more)) ≡ b
-  goes_stays b ts front rest more h w e = ap goes (next_peek front rest more ts w e) ∙ h
-
   shorter : (t : Token) (f more : Tokens) (m n : ℕ) → length (t ∷ (f ++ more)) ≤ m → m ≡ suc n → length more ≤ n
   shorter t f more m n l e =
       let a : suc (length (f ++ more)) ≤ m = l in
@@ -75,7 +69,7 @@ module _ {A : Type 0} (k : Kind) (goes : Kind → Bool) (p : Tokens → Outcome 
       let l2 : length (t ∷ (f.front ++ (g ++ more))) ≤ m = subst (λ (us : Tokens). length (t ∷ us) ≤ m) at l in
       let hs : peek (g ++ more) ≡ peek mid = next_peek g rest more mid w e in
       let found : p (f.front ++ (g ++ more)) ≡ Ok (a, g ++ more) = f.stays (g ++ more) hs in
-      let go2 : goes (peek (f.front ++ (g ++ more))) ≡ true = goes_stays true ts f.front mid (g ++ more) go f.whole hs in
+      let go2 : goes (peek (f.front ++ (g ++ more))) ≡ true = goes_alike goes true ts f.front mid (g ++ more) go f.whole hs in
       let one = rest_goes m t (f.front ++ (g ++ more)) (Ok (a, g ++ more)) h go2 l2 found in
       ap (λ (us : Tokens). read_rest k goes p m (t ∷ us)) at ∙ (one.2 ∙ ap (λ r. then_read r (λ xs rest. Ok (a ∷ xs, rest))) (back one.0 (shorter t f.front (g ++ more) m one.0 l2 one.1)))
 
@@ -102,10 +96,10 @@ module _ {A : Type 0} (k : Kind) (goes : Kind → Bool) (p : Tokens → Outcome 
   item_told n t ts h go l (Err rest) f told = record {
     front = t ∷ f.front;
     whole = ap (λ us. t ∷ us) f.whole;
-    stays = λ m more l e. (rest_goes m t (f.front ++ more) (Err more) h (goes_stays true ts f.front rest more go f.whole e) l (f.stays more e)).2;
+    stays = λ m more l e. (rest_goes m t (f.front ++ more) (Err more) h (goes_alike goes true ts f.front rest more go f.whole e) l (f.stays more e)).2;
     value = f.value ∷ [];
     back = f.back;
-    completed = record { front = t ∷ []; back = f.front ++ f.back; whole = refl; first = separator t h; second = record { front = f.front ++ f.back; back = []; whole = sym (append_nil (f.front ++ f.back)); first = f.completed; second = inl refl } };
+    completed = record { front = t ∷ []; back = f.front ++ f.back; whole = refl; first = separator t h; second = record { front = f.front ++ f.back; back = []; whole = sym (append-nil (f.front ++ f.back)); first = f.completed; second = inl refl } };
   }
 
   stop_told : (ts : Tokens) → is k (peek ts) ≡ false → RestTold ts (Ok ([], ts))

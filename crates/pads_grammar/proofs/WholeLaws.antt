@@ -1,6 +1,6 @@
 -- What a reader that stops tells of the whole list of tokens.
 use Rattle.std.proofs.Common.{◌≡◌, ℕ, suc, ◌+◌, ◌-◌, Bool, true, false, Ok, Err, [], ◌∷◌, ◌++◌, length, take, drop, ◌⊎◌, inl, inr, refl, sym, ◌∙◌, ap, subst, append_assoc, length-append, arith, add-one}
-use Rattle.std.proofs.lemmas.List.{take-append-drop}
+use Rattle.std.proofs.lemmas.List.{take-append-drop, append-nil}
 use Rattle.pads_lex.specs.declared.token.Token.{Token}
 use Rattle.pads_grammar.specs.declared.kind.Kind.TheVariants as kind
 use Rattle.pads_grammar.specs.Kinds.{Tokens, is, peek, kind_of, sample}
@@ -38,10 +38,6 @@ cut (t ∷ f) r b (s ∷ g) e h =
     let y : t ≡ s = cc in
     cut_more t s f r g e y (cut f r b g e x)
 
-append_nil : (us : Tokens) → us ++ [] ≡ us
-append_nil [] = refl
-append_nil (t ∷ us) = ap (λ vs. t ∷ vs) (append_nil us)
-
 abbrev value_or : {A : Type 0} → A → Outcome A → A
 value_or a (Ok read) = read.0
 value_or a (Err rest) = a
@@ -66,14 +62,14 @@ unlike r a xs ys h k = let e : false ≡ true = ap fails (sym h ∙ k) in cc
 module _ {A B : Type 0} (g : Grammar A) (make : A → Token → B) (d : Decides g (is kind.End)) where
   -- What is derived is read to its end.
   read_whole : (a : A) (us : Tokens) → Derives g a us → reads g us ≡ Ok (a, [])
-  read_whole a us h = ap (reads g) (sym (append_nil us)) ∙ (lawful g (is kind.End) d).only a us [] h refl
+  read_whole a us h = ap (reads g) (sym (append-nil us)) ∙ (lawful g (is kind.End) d).only a us [] h refl
 
   -- The tree of what was read to the end is the one tree.
   pub whole_read : (us : Tokens) (end : Token) (a : A) → kind_of end.kind ≡ kind.End → reads g us ≡ Ok (a, []) → Whole g make (make a end) (us ++ end ∷ [])
   whole_read us end a h e = go (subst (Told (reads g) (Derives g) us) e ((lawful g (is kind.End) d).told us))
     where
       go : Found (reads g) (Derives g) us a [] → Whole g make (make a end) (us ++ end ∷ [])
-      go f = record { front = us; end = end; value = a; whole = refl; last = h; derived = subst (λ (vs : Tokens). Derives g a vs) (sym (f.whole ∙ append_nil f.front)) f.derived; made = refl }
+      go f = record { front = us; end = end; value = a; whole = refl; last = h; derived = subst (λ (vs : Tokens). Derives g a vs) (sym (f.whole ∙ append-nil f.front)) f.derived; made = refl }
 
   same_end : (us : Tokens) (end : Token) (w : Tokens) (e : Token) → us ++ end ∷ [] ≡ w ++ e ∷ [] → (w ≡ us) × (end ≡ e)
   same_end [] end [] e h = let x : end ≡ e = cc in (refl, x)
@@ -108,7 +104,7 @@ module _ {A B : Type 0} (g : Grammar A) (make : A → Token → B) (d : Decides 
     where
       go : Cut f r b.derived.front b.derived.end → ⊥
       go (inl c) = halts [] (sym b.derived.last ∙ ap (λ (t : Token). kind_of t.kind) (sym c.1)) b.derived.value
-          (ap (reads g) (append_nil f ∙ sym c.0) ∙ read_whole b.derived.value b.derived.front b.derived.derived)
+          (ap (reads g) (append-nil f ∙ sym c.0) ∙ read_whole b.derived.value b.derived.front b.derived.derived)
       go (inr c) = halts (r ∷ c.0) refl b.derived.value (ap (reads g) (sym c.1) ∙ read_whole b.derived.value b.derived.front b.derived.derived)
 
   begun : (us : Tokens) (a : A) (back : Tokens) → Derives g a (us ++ back) → Begins g make us
@@ -163,7 +159,7 @@ module _ {A B : Type 0} (g : Grammar A) (make : A → Token → B) (d : Decides 
     where
       go : Found (reads g) (Derives g) us a (t ∷ rest) → IsFirstFault g make (us ++ end ∷ []) (length us - length (t ∷ rest))
       go f = placed f.front (t ∷ rest) us end (length us - length (t ∷ rest)) f.whole (left us f.front (t ∷ rest) f.whole)
-          (begun f.front a [] (subst (λ (vs : Tokens). Derives g a vs) (sym (append_nil f.front)) f.derived))
+          (begun f.front a [] (subst (λ (vs : Tokens). Derives g a vs) (sym (append-nil f.front)) f.derived))
           (never f.front t (λ more p b r. other (sym p ∙ ap peek (same_rest (reads g (f.front ++ more)) a b more [] (f.stays more p) r))))
 
   -- The same, where an end token stands there: it ends a tree, and the token behind it is the first that
@@ -178,7 +174,7 @@ module _ {A B : Type 0} (g : Grammar A) (make : A → Token → B) (d : Decides 
       go f =
           let w : us ≡ (f.front ++ t ∷ []) ++ rest = f.whole ∙ sym (append_assoc f.front (t ∷ []) rest) in
           placed (f.front ++ t ∷ []) rest us end (length us - length rest) w (left us (f.front ++ t ∷ []) rest w)
-          (record { tree = make a t; back = []; derived = record { front = f.front; end = t; value = a; whole = append_nil (f.front ++ t ∷ []); last = same; derived = f.derived; made = refl } })
+          (record { tree = make a t; back = []; derived = record { front = f.front; end = t; value = a; whole = append-nil (f.front ++ t ∷ []); last = same; derived = f.derived; made = refl } })
           (never (f.front ++ t ∷ []) (next rest end) (λ more p b r.
           let x : reads g (f.front ++ t ∷ more) ≡ Ok (b, []) = ap (reads g) (sym (append_assoc f.front (t ∷ []) more)) ∙ r in
           not_nil t more (same_rest (reads g (f.front ++ t ∷ more)) a b (t ∷ more) [] (f.stays (t ∷ more) refl) x)))

@@ -4,6 +4,7 @@ use Rattle.std.specs.List.{list_any}
 use Rattle.std.specs.Ordering.{int_eq}
 use Rattle.std.proofs.lemmas.List.Folds.{list_any-append}
 use Rattle.std.proofs.lemmas.Bool.Decides.{Decides-int_eq}
+use Rattle.std.proofs.Math.Bool.{or-false}
 use Rattle.indexmap.specs.IndexSet.{insert_key}
 use Rattle.pads_ast.specs.declared.decl.Case.{Case}
 use Rattle.pads_ast.specs.declared.types.Const.{Const}
@@ -15,7 +16,7 @@ use Rattle.pads_rules.specs.Texts.{is_among}
 use Rattle.pads_rules.specs.Trees.{points_of}
 use Rattle.pads_pieces.specs.declared.const_set.ConstSet.{ConstSet}
 use Rattle.pads_pieces.specs.ConstSets.{has_const, AddsConst}
-use Rattle.pads_pieces.proofs.MetNames.{or-false, with-name}
+use Rattle.pads_pieces.proofs.MetNames.{with-name}
 use Rattle.pads_declared.proofs.Lists.{taken}
 
 known : (keys : List ℤ) (key k : ℤ) (s : Bool) → list_any (int_eq key) keys ≡ true → int_eq k key ≡ s → list_any (int_eq k) keys ≡ (list_any (int_eq k) keys || s)

@@ -2,6 +2,7 @@
 use Rattle.std.proofs.Common.{◌≡◌, ◌∙◌, sym, ap, refl, ℕ, ◌+◌, ◌<◌, Bool, true, false, ◌||◌, if◌then◌else◌, List, [], ◌∷◌, ◌++◌, length, take, get_or}
 use Rattle.std.specs.List.{list_any}
 use Rattle.std.proofs.lemmas.List.Folds.{list_any-append}
+use Rattle.std.proofs.Math.Bool.{or-false}
 use Rattle.pads_rules.specs.NameTokens.{with_name}
 use Rattle.pads_rules.specs.Texts.{same_text, is_among}
 use Rattle.pads_rules.proofs.SameTexts.{same-is}
@@ -10,10 +11,6 @@ use Rattle.pads_declared.proofs.Lists.{taken}
 -- A set has the texts of some things, and no others.
 abbrev pub Has : {X : Type 0} → (X → List ℕ) → List (List ℕ) → List X → Type 0
 Has text names xs = (t : List ℕ) → is_among names t ≡ list_any (λ x. same_text t (text x)) xs
-
-pub or-false : (b : Bool) → (b || false) ≡ b
-or-false true = refl
-or-false false = refl
 
 known : (names : List (List ℕ)) (name t : List ℕ) (s : Bool) → is_among names name ≡ true → same_text t name ≡ s → is_among names t ≡ (is_among names t || s)
 known names name t false there same = sym (or-false (is_among names t))

@@ -1,6 +1,6 @@
 -- Tokens derive at most one tree, have at most one first fault, and do either where an end token stands last.
 use Rattle.std.proofs.Common.{◌≡◌, ℕ, ◌+◌, ◌-◌, ◌<◌, ◌≤◌, Ok, Err, [], ◌∷◌, ◌++◌, length, take, drop, ◌⊎◌, inl, inr, refl, sym, ◌∙◌, ap, subst, append_assoc, arith}
-use Rattle.std.proofs.lemmas.List.{take-append-drop, take-take}
+use Rattle.std.proofs.lemmas.List.{take-append-drop, take-take, append-nil}
 use Rattle.std.proofs.lemmas.Bool.{cases_lt}
 use Rattle.pads_lex.specs.Answers.{EndsLast}
 use Rattle.pads_lex.specs.declared.token.Token.{Token}
@@ -12,10 +12,6 @@ use Rattle.pads_grammar.proofs.Grammars.{lawful}
 use Rattle.pads_grammar.proofs.WholeLaws.{whole_read, fault_met, one_tree, no_tree}
 use Rattle.pads_syntax.specs.Answers.{past_end}
 use Rattle.pads_syntax.proofs.Stops.{Ends, left_behind}
-
-append_nil : (us : Tokens) → us ++ [] ≡ us
-append_nil [] = refl
-append_nil (t ∷ us) = ap (λ vs. t ∷ vs) (append_nil us)
 
 -- The list of tokens in two, where an end token stands last.
 pub record Ended (ts : Tokens) : Type 0 where
@@ -34,7 +30,7 @@ ended (t ∷ next ∷ ts) h = ended_more t (next ∷ ts) (ended (next ∷ ts) h)
 module _ {A B : Type 0} (g : Grammar A) (make : A → Token → B) (d : Decides g (is kind.End)) where
   pub one : (ts : Tokens) (tree other : B) → Whole g make tree ts → Whole g make other ts → tree ≡ other
   one ts tree other v w =
-      let r : reads g v.front ≡ Ok (v.value, []) = ap (reads g) (sym (append_nil v.front)) ∙ (lawful g (is kind.End) d).only v.value v.front [] v.derived refl in
+      let r : reads g v.front ≡ Ok (v.value, []) = ap (reads g) (sym (append-nil v.front)) ∙ (lawful g (is kind.End) d).only v.value v.front [] v.derived refl in
       sym v.made ∙ sym (one_tree g make d v.front v.end v.value other r (subst (λ (us : Tokens). Whole g make other us) v.whole w))
 
   -- What begins some tree's tokens does so from the left on.
