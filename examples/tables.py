@@ -1,17 +1,18 @@
 #!/usr/bin/env python3
-"""Says what the tables of `crates/pads_walk_table` must tell.
+"""Says what must be told of the rows of `crates/test_walk/data`.
 
 A second reader of descriptions and records, written from the rules in docs/ and not from the program. It
 takes every description to be accepted.
 
-    examples/tables.py            writes what must be told of data/rows.txt and data/modules.txt
-    examples/tables.py --check    tells whether the crate's `stdout` is that
+    examples/tables.py            writes the tables with what must be told below each row
+    examples/tables.py --check    tells whether the tables have that
 """
+import json
 import os
 import re
 import sys
 
-CRATE = os.path.join(os.path.dirname(os.path.abspath(__file__)), '..', 'crates', 'pads_walk_table')
+TABLES = os.path.join(os.path.dirname(os.path.abspath(__file__)), '..', 'crates', 'test_walk', 'data')
 KINDS = {f'{sign}int{bits}': (f'{"i" if not sign else "u"}{bits}',
                               0 if sign else -2 ** (bits - 1), 2 ** (bits - (not sign)) - 1)
          for sign in ('', 'u') for bits in (8, 16, 32, 64)}
@@ -864,16 +865,81 @@ def value_text(found):
     return found[0]
 
 
-def row_text(module, number, mark, first, word):
-    if mark in ('long', 'broken'):
-        node = Node(0, int(word) - first, cause=f'RECORD_{mark.upper()}', fails=True)
-        return f'- | {node.text(first)} | {first}'
-    data = word[1:-1].encode() if word.startswith('"') else bytes.fromhex(word)
-    each = module.head if number == 0 and module.head is not None else module.each
-    found, node, j = Reader(module, data).Call(128, ('Call', each, []), {}, 0)
-    kids = [node, *[Node(j, len(data), cause='EXTRA_BEFORE_EOR')] * (j < len(data))]
-    whole = Node(0, len(data), kids, 'RECORD_SHORT' if mark == 'short' else None)
-    return f'{value_text(found)} | {whole.text(first)} | {first + j}'
+class Row:
+    def __init__(self, module, words):
+        number, mark, first, data = words.split(' ', 3)
+        self.module, self.number, self.first = module, int(number), int(first)
+        self.each = module.head if self.number == 0 and module.head is not None else module.each
+        if mark in ('long', 'broken'):
+            self.value, self.next = MISSING, 0
+            self.node = Node(0, int(data) - self.first, cause=f'RECORD_{mark.upper()}', fails=True)
+            return
+        data = data[1:-1].encode() if data.startswith('"') else bytes.fromhex(data)
+        self.value, node, self.next = Reader(module, data).Call(128, ('Call', self.each, []), {}, 0)
+        kids = [node, *[Node(self.next, len(data), cause='EXTRA_BEFORE_EOR')] * (self.next < len(data))]
+        self.node = Node(0, len(data), kids, 'RECORD_SHORT' if mark == 'short' else None)
+
+    def text(self):
+        return f'{value_text(self.value)} | {self.node.text(self.first)} | {self.first + self.next}'
+
+    def json(self):
+        """The line of JSON, its keys in the order of their bytes."""
+        term = ('Call', self.each, [])
+        body, faults = self.node.kids[:1], self.fault('.', self.node)
+        for node in body:
+            faults += self.faults(term, self.value, '', node)
+        for node in self.node.kids[1:]:
+            faults += self.fault('.', node)
+        words, span = self.node.text(0).split('{')[0].split(' '), self.span(self.node)
+        line = {'class': words[0], 'faults': faults, 'nerr': int(words[-2]), 'next': self.first + self.next,
+                'record': self.number, 'span': span, 'value': self.shown(term, self.value)}
+        return json.dumps(line, ensure_ascii=False, separators=(',', ':'), sort_keys=True)
+
+    def span(self, node):
+        return [self.first + node.begin, self.first + node.end]
+
+    def fault(self, at, node):
+        return [{'at': at, 'cause': node.cause, 'span': self.span(node)}] if node.cause else []
+
+    def inner(self, t):
+        """The term below its wrappers and calls."""
+        while t[0] in ('Guard', 'Scan', 'Absorb', 'Call'):
+            t = self.module.terms[t[1]] if t[0] == 'Call' else t[1]
+        return t
+
+    def arms(self, t):
+        return t[1] if t[0] == 'Alt' else [arm for _, arm in t[2]]
+
+    def faults(self, t, found, at, node):
+        t, faults = self.inner(t), self.fault(at or '$', node)
+        if t[0] == 'Struct' and found != MISSING:
+            for number, ((name, term), part, kid) in enumerate(zip(t[1], found[1], node.kids)):
+                below = name or f'#{number}'
+                faults += self.faults(term, part, f'{at}.{below}' if at else below, kid)
+        elif t[0] in ('Alt', 'Switch') and found != MISSING:
+            name, term = self.arms(t)[found[1]]
+            faults += self.faults(term, found[2], f'{at}.{name}' if at else name, node.kids[0])
+        elif t[0] == 'Seq' and found != MISSING:
+            for number, (element, kid) in enumerate(zip(found[1], node.kids)):
+                faults += self.faults(t[1], element, f'{at or "$"}[{number}]', kid)
+        return faults
+
+    def shown(self, t, found):
+        t = self.inner(t)
+        if found in (MISSING, UNIT):
+            return None
+        if t[0] == 'Struct':
+            return {name: self.shown(term, part) for (name, term), part in zip(t[1], found[1]) if name}
+        if t[0] in ('Alt', 'Switch'):
+            name, term = self.arms(t)[found[1]]
+            return {name: self.shown(term, found[2])}
+        if t[0] == 'Seq':
+            return [self.shown(t[1], element) for element in found[1]]
+        if t[0] == 'Base' and t[1][0] == 'Enum':
+            return t[1][2][found[1]][0]
+        if t[0] == 'Base' and t[1][0] == 'Ip':
+            return '.'.join(map(str, found.to_bytes(4, 'big')))
+        return found
 
 
 def nested(depth):
@@ -882,6 +948,7 @@ def nested(depth):
 
 
 def told(lines):
+    """The lines of a table, and below each what must be told of it."""
     module = None
     for line in lines:
         yield line
@@ -892,29 +959,28 @@ def told(lines):
             module = Translation(nested(int(rest)), 'latin-1')
         elif word == 'terms':
             yield from ('    ' + text for text in module_text(module))
+        elif word == 'json':
+            yield '    ' + Row(module, rest).json()
         elif line and not line.startswith('#'):
-            mark, first, data = rest.split(' ', 2)
-            yield '    ' + row_text(module, int(word), mark, int(first), data)
+            yield '    ' + Row(module, line).text()
 
 
 def main():
     sys.setrecursionlimit(10000)
-    lines = []
-    for name in ('rows.txt', 'modules.txt'):
-        with open(os.path.join(CRATE, 'data', name)) as it:
-            lines += told(it.read().splitlines())
-    if sys.argv[1:] != ['--check']:
-        print('\n'.join(lines))
-        return 0
-    with open(os.path.join(CRATE, 'stdout')) as it:
-        wanted = it.read().splitlines()
     wrong = 0
-    for at, (one, other) in enumerate(zip(wanted, lines), 1):
-        if one != other:
-            print(f'line {at}\n  stdout: {one}\n  reader: {other}')
-            wrong += 1
-    print(f'{len(wanted)} lines in stdout, {len(lines)} by the reader, {wrong} differ')
-    return int(bool(wrong) or len(wanted) != len(lines))
+    for name in ('rows.txt', 'modules.txt', 'lines.txt'):
+        with open(os.path.join(TABLES, name), encoding='utf-8') as it:
+            table = it.read().split('\n')[:-1]
+        found = list(told(line for line in table if not line.startswith('    ')))
+        if sys.argv[1:] != ['--check']:
+            print('\n'.join(found))
+            continue
+        differ = [(at, *pair) for at, pair in enumerate(zip(table, found), 1) if pair[0] != pair[1]]
+        for at, one, other in differ[:9]:
+            print(f'{name}: line {at}\n  table:  {one}\n  reader: {other}')
+        print(f'{name}: {len(table)} lines, {len(found)} by the reader, {len(differ)} differ')
+        wrong += bool(differ) or len(table) != len(found)
+    return int(bool(wrong))
 
 
 if __name__ == '__main__':

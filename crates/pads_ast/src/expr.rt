@@ -1,4 +1,5 @@
 use crate::{Name, Number, Word};
+use pads_expr::BinOp;
 use pads_value::{Boxed, Items};
 
 /// An expression. A part of it that stands alone at its level is that part itself: a `Chain` has at least
@@ -55,7 +56,7 @@ pub enum Expr {
 /// An operator and the operand behind it.
 #[derive(Debug, Drop)]
 pub struct Link<E> {
-    pub operator: BinaryOperator,
+    pub operator: BinOp,
     pub operand: E,
 }
 
@@ -78,34 +79,4 @@ pub enum UnaryOperator {
     Minus,
     /// `!`
     Not,
-}
-
-#[derive(Clone, Copy, Debug, PartialEq, Eq)]
-pub enum BinaryOperator {
-    /// `||`
-    Or,
-    /// `&&`
-    And,
-    /// `==`
-    EqualTo,
-    /// `!=`
-    NotEqualTo,
-    /// `<`
-    LessThan,
-    /// `<=`
-    AtMost,
-    /// `>`
-    GreaterThan,
-    /// `>=`
-    AtLeast,
-    /// `+`
-    Plus,
-    /// `-`
-    Minus,
-    /// `*`
-    Times,
-    /// `/`
-    Divide,
-    /// `%`
-    Remainder,
 }

@@ -16,7 +16,7 @@ pub use decl::{
     Array, ArrayOption, Ast, Case, Constraint, Decl, DeclBody, DeclMark, Enum, ExprAst, Label, Opt,
     Part, Struct, Switch, Typedef, Union, UnionBody,
 };
-pub use expr::{BinaryOperator, Expr, Link, Links, Step, Steps, UnaryOperator};
+pub use expr::{Expr, Link, Links, Step, Steps, UnaryOperator};
 pub use name::{Name, Word};
 pub use number::Number;
 pub use types::{Arg, Branch, Const, Literal, Param, Params, Type};

@@ -18,8 +18,8 @@ use Rattle.pads_base_names.specs.declared.meaning.BaseName.{BaseName}
 use Rattle.pads_base_names.specs.declared.meaning.BaseName.TheVariants as base
 use Rattle.pads_base_names.specs.declared.meaning.NamedCoding.{NamedCoding}
 use Rattle.pads_base_names.specs.declared.meaning.NamedCoding.TheVariants as coding
-use Rattle.pads_base_names.specs.declared.meaning.ByteOrder.{ByteOrder}
-use Rattle.pads_base_names.specs.declared.meaning.ByteOrder.TheVariants as order
+use Rattle.pads_bases.specs.declared.binary.Order.{Order}
+use Rattle.pads_bases.specs.declared.binary.Order.TheVariants as order
 use Rattle.pads_base_names.specs.declared.meaning.Takes.{Takes}
 use Rattle.pads_base_names.specs.declared.meaning.Takes.TheVariants as takes_form
 
@@ -63,7 +63,7 @@ coded c word = or_else (option_map (base.Int c) (kind_of word)) (or_else (option
 abbrev pub binary : List ℕ → Option BaseName
 binary word = option_map base.Bin (kind_of word)
 
-abbrev pub sized : ByteOrder → List ℕ → Option BaseName
+abbrev pub sized : Order → List ℕ → Option BaseName
 sized o word = option_map (base.SizedBin o) (kind_of word)
 
 -- what stands behind a prefix of a word, where it has that prefix
@@ -79,7 +79,7 @@ of_coding word = or_else (prefixed (codes "Pa_") (coded coding.Ascii) word)
 
 abbrev pub of_binary : List ℕ → Option BaseName
 of_binary word = or_else (prefixed (codes "Pb_") binary word)
-    (or_else (prefixed (codes "Psbl_") (sized order.LowFirst) word) (prefixed (codes "Psbh_") (sized order.HighFirst) word))
+    (or_else (prefixed (codes "Psbl_") (sized order.Low) word) (prefixed (codes "Psbh_") (sized order.High) word))
 
 -- The base type that a name means.
 unfoldable pub base_name : List ℕ → Option BaseName

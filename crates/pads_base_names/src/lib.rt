@@ -10,4 +10,4 @@ mod meaning;
 mod tests;
 
 pub use lookup::base_name;
-pub use meaning::{BaseName, ByteOrder, NamedCoding, Takes};
+pub use meaning::{BaseName, NamedCoding, Takes};

@@ -4,7 +4,8 @@ ghost use Rattle.std.specs.Prelude.{◌≡◌, codes, option_map};
 ghost use Rattle.pads_base_names.specs.Names as names;
 ghost use Rattle.pads_base_names.specs.Names.{is_word, find_word, texts};
 
-use crate::{BaseName, ByteOrder, NamedCoding};
+use crate::{BaseName, NamedCoding};
+use pads_bases::Order;
 use pads_int::Kind;
 
 #[tactic(auto, unfolding(crate::specs::Names::is_word))]
@@ -134,7 +135,7 @@ fn binary(word: &[u8]) -> Option<BaseName>
     Some(BaseName::Bin(kind))
 }
 
-fn sized(word: &[u8], prefix: &[u8], order: ByteOrder) -> Option<BaseName>
+fn sized(word: &[u8], prefix: &[u8], order: Order) -> Option<BaseName>
     ensures found { result ≡ names.prefixed prefix.now (names.sized order) word.now }
 {
     let kind = kind_of(behind(word, prefix)?)?;
@@ -159,10 +160,10 @@ fn of_binary(word: &[u8]) -> Option<BaseName>
     if let Some(name) = binary(word) {
         return Some(name);
     }
-    if let Some(name) = sized(word, b"Psbl_", ByteOrder::LowFirst) {
+    if let Some(name) = sized(word, b"Psbl_", Order::Low) {
         return Some(name);
     }
-    sized(word, b"Psbh_", ByteOrder::HighFirst)
+    sized(word, b"Psbh_", Order::High)
 }
 
 /// The base type that a name means; `None` exactly where it is none's.

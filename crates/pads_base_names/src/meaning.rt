@@ -1,6 +1,7 @@
 ghost use Rattle.std.specs.Prelude.{◌≡◌};
 ghost use Rattle.pads_base_names.specs.Names.{takes};
 
+use pads_bases::Order;
 use pads_int::Kind;
 
 /// The coding of text that a name says.
@@ -10,13 +11,6 @@ pub enum NamedCoding {
     Ambient,
     Ascii,
     Ebcdic,
-}
-
-/// Which byte of a binary integer comes first.
-#[derive(Clone, Copy, Debug, PartialEq, Eq)]
-pub enum ByteOrder {
-    LowFirst,
-    HighFirst,
 }
 
 /// What the name of a base type means.
@@ -29,7 +23,7 @@ pub enum BaseName {
     /// A binary integer of its kind's size, low byte first.
     Bin(Kind),
     /// A binary integer, maybe of a size of its own.
-    SizedBin(ByteOrder, Kind),
+    SizedBin(Order, Kind),
     /// A text up to a stop character or the record's end.
     Until(NamedCoding),
     /// A text in a field.

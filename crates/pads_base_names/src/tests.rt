@@ -1,4 +1,5 @@
 use super::*;
+use pads_bases::Order;
 use pads_int::Kind;
 use std::test::Fail;
 
@@ -20,7 +21,7 @@ fn names_by_prefix(rt: HostRuntime) -> Result<(), Fail> {
         (b"Pb_uint16".as_slice(), Some(BaseName::Bin(Kind::U16))),
         (
             b"Psbh_int32".as_slice(),
-            Some(BaseName::SizedBin(ByteOrder::HighFirst, Kind::I32)),
+            Some(BaseName::SizedBin(Order::High, Kind::I32)),
         ),
         (b"Pip".as_slice(), Some(BaseName::Ip(NamedCoding::Ambient))),
     ] {

@@ -20,7 +20,7 @@ pub use bytes::{read_bin, spell_bin};
 pub use choice::read_enum;
 pub use class::{in_class, read_class};
 pub use dotted::spell_ip;
-pub use enums::{Label, Labels};
+pub use enums::{Label, Labels, copy_labels};
 pub use laws::{
     addresses_read_what_they_spell, binary_integers_read_what_they_spell,
     characters_read_what_they_spell, class_texts_read_what_they_spell, enums_read_what_they_spell,

@@ -12,7 +12,7 @@ use Rattle.pads_calc.specs.declared.turn.Ending.TheVariants as ending
 use Rattle.pads_calc.specs.declared.turn.Turn.{Turn}
 use Rattle.pads_calc.specs.declared.turn.Turn.TheVariants as turn
 use Rattle.pads_calc.specs.Arrays.{SeqReader, Elements, elements, no_more, unless_ended, and_then, ending_at, turn_from, is_empty, array_of, soft, turns_from, size_at, seq_of}
-use Rattle.pads_calc.specs.Readings.{node, fails, values, pds, end_of}
+use Rattle.pads_calc.specs.Readings.{Subject, node, fails, values, pds, end_of}
 use Rattle.pads_calc.proofs.Runs.{Follows, follows-start, follows-push, append-none}
 use Rattle.pads_calc.proofs.Turns.{elements-next}
 
@@ -72,9 +72,9 @@ gathers-start bytes s size env i =
     let all : turns_from bytes i - 0 ≡ turns_from bytes i = omega arith in
     rw all (record { own_is = refl; follows = follows-start _ i })
 
-pub seq-unsized : (origin : ℕ) (bytes : List ℕ) (s : SeqReader) (env : Pairs) (i : ℕ) → size_at s.size env ≡ None → seq_of origin bytes s env i ≡ fails origin cause.ArrayBound i
-seq-unsized origin bytes s env i none = rw none refl
+pub seq-unsized : (subject : Subject) (s : SeqReader) (env : Pairs) (i : ℕ) → size_at s.size env ≡ None → seq_of subject s env i ≡ fails subject.origin cause.ArrayBound i
+seq-unsized subject s env i none = rw none refl
 
-pub seq-sized : (origin : ℕ) (bytes : List ℕ) (s : SeqReader) (env : Pairs) (i : ℕ) (size : Option ℕ) → size_at s.size env ≡ Some size →
-    seq_of origin bytes s env i ≡ array_of origin (elements bytes s size env (turns_from bytes i) [] i) i
-seq-sized origin bytes s env i size there = rw there refl
+pub seq-sized : (subject : Subject) (s : SeqReader) (env : Pairs) (i : ℕ) (size : Option ℕ) → size_at s.size env ≡ Some size →
+    seq_of subject s env i ≡ array_of subject.origin (elements subject.bytes s size env (turns_from subject.bytes i) [] i) i
+seq-sized subject s env i size there = rw there refl

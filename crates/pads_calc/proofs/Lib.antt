@@ -2,9 +2,14 @@ pub mod Bindings
 pub mod Calls
 pub mod Cases
 pub mod Choices
+pub mod CleanArrays
+pub mod CleanForms
+pub mod CleanNodes
 pub mod CountRolls
 pub mod Elements
 pub mod ExprRolls
+pub mod Induction
+pub mod KeptTurns
 pub mod Lists
 pub mod Positions
 pub mod Rolls

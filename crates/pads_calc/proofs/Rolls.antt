@@ -18,7 +18,7 @@ use Rattle.pads_calc.specs.Arrays.{SeqReader, seq_of}
 use Rattle.pads_calc.specs.Calculus.{Caller, read, part_reader, arm_reader, case_reader, option_reader, seq_reader, term_step, arm_step, case_step, part_step, seq_step}
 use Rattle.pads_calc.specs.Choices.{Keyed, alt_from, chosen, switch_of}
 use Rattle.pads_calc.specs.Leaves.{unit_of, lit_of, eor_of, base_of, compute_of}
-use Rattle.pads_calc.specs.Readings.{Reader}
+use Rattle.pads_calc.specs.Readings.{Subject, Reader}
 use Rattle.pads_calc.specs.Structs.{Named, in_turn, struct_of}
 use Rattle.pads_calc.specs.Wrappers.{guard_of, absorb_of, scan}
 
@@ -33,12 +33,12 @@ sep-mapped f (Some x) = refl
 pub mapped : {A B : Type 0} (f g : A → B) → ((x : A) → f x ≡ g x) → (xs : List A) → map f xs ≡ map g xs
 mapped f g same xs = ap (λ h. map h xs) (λ i x. same x i)
 
-module _ (origin : ℕ) (bytes : List ℕ) (call : Caller) where
+module _ (subject : Subject) (call : Caller) where
   abbrev keyed : Case → Keyed
-  keyed case = record { key = case.key; reader = case_reader origin bytes call case }
+  keyed case = record { key = case.key; reader = case_reader subject call case }
 
   abbrev step_of : Term-F Reader Reader Keyed Named SeqReader → Reader
-  step_of = term_step origin bytes call
+  step_of = term_step subject call
 
   abbrev of_arm : Arm → Reader
   of_arm = fold-Arm Reader Reader Keyed Named SeqReader step_of arm_step case_step part_step seq_step
@@ -52,11 +52,11 @@ module _ (origin : ℕ) (bytes : List ℕ) (call : Caller) where
   abbrev of_seq : Seq → SeqReader
   of_seq = fold-Seq Reader Reader Keyed Named SeqReader step_of arm_step case_step part_step seq_step
 
-  of_part-is : (part : Part) → of_part part ≡ part_reader origin bytes call part
+  of_part-is : (part : Part) → of_part part ≡ part_reader subject call part
   unfolding read
   of_part-is part = fold_out-Part Reader Reader Keyed Named SeqReader step_of arm_step case_step part_step seq_step part
 
-  of_arm-is : (arm : Arm) → of_arm arm ≡ arm_reader origin bytes call arm
+  of_arm-is : (arm : Arm) → of_arm arm ≡ arm_reader subject call arm
   unfolding read
   of_arm-is arm = fold_out-Arm Reader Reader Keyed Named SeqReader step_of arm_step case_step part_step seq_step arm
 
@@ -68,76 +68,76 @@ module _ (origin : ℕ) (bytes : List ℕ) (call : Caller) where
   abbrev with_terms : Reader → Option Reader → Option Reader → Seq → SeqReader
   with_terms elem sep stop s = record { elem = elem; sep = sep; size = s.size; last = s.last; stop = stop; elts = s.elts }
 
-  of_seq-is : (s : Seq) → of_seq s ≡ seq_reader origin bytes call s
+  of_seq-is : (s : Seq) → of_seq s ≡ seq_reader subject call s
   unfolding read
   of_seq-is s =
       fold_out-Seq Reader Reader Keyed Named SeqReader step_of arm_step case_step part_step seq_step s
-      ∙ ap (λ sep. with_terms (read origin bytes call s.elem) sep ((former-Seq-sep).map Term Reader (read origin bytes call) s.stop) s) (sep-mapped (read origin bytes call) s.sep)
-      ∙ ap (λ stop. with_terms (read origin bytes call s.elem) (option_reader origin bytes call s.sep) stop s) (sep-mapped (read origin bytes call) s.stop)
+      ∙ ap (λ sep. with_terms (read subject call s.elem) sep ((former-Seq-sep).map Term Reader (read subject call) s.stop) s) (sep-mapped (read subject call) s.sep)
+      ∙ ap (λ stop. with_terms (read subject call s.elem) (option_reader subject call s.sep) stop s) (sep-mapped (read subject call) s.stop)
 
   -- one layer
-  read-roll : (layer : Term-F Term Arm Case Part Seq) → read origin bytes call (roll-Term layer)
-      ≡ step_of (map-Term Term Arm Case Part Seq Reader Reader Keyed Named SeqReader (read origin bytes call) of_arm of_case of_part of_seq layer)
+  read-roll : (layer : Term-F Term Arm Case Part Seq) → read subject call (roll-Term layer)
+      ≡ step_of (map-Term Term Arm Case Part Seq Reader Reader Keyed Named SeqReader (read subject call) of_arm of_case of_part of_seq layer)
   unfolding read
   read-roll layer = fold-roll-Term Reader Reader Keyed Named SeqReader step_of arm_step case_step part_step seq_step layer
 
-  pub read-Unit : (env : Pairs) (i : ℕ) → read origin bytes call term.Unit env i ≡ unit_of origin i
-  read-Unit env i = ap (λ t. read origin bytes call t env i) (sym term.rolls-Unit) ∙ ap (λ (r : Reader). r env i) (read-roll Term-F.Unit)
+  pub read-Unit : (env : Pairs) (i : ℕ) → read subject call term.Unit env i ≡ unit_of subject.origin i
+  read-Unit env i = ap (λ t. read subject call t env i) (sym term.rolls-Unit) ∙ ap (λ (r : Reader). r env i) (read-roll Term-F.Unit)
 
   pub read-Base : (base : Base) (args : List Expr) (env : Pairs) (i : ℕ) →
-      read origin bytes call (term.Base base args) env i ≡ base_of origin bytes base (arguments args env) i
+      read subject call (term.Base base args) env i ≡ base_of subject base (arguments args env) i
   read-Base base args env i =
-      ap (λ t. read origin bytes call t env i) (sym (term.rolls-Base base args)) ∙ ap (λ (r : Reader). r env i) (read-roll (Term-F.Base base args))
+      ap (λ t. read subject call t env i) (sym (term.rolls-Base base args)) ∙ ap (λ (r : Reader). r env i) (read-roll (Term-F.Base base args))
 
   pub read-Struct : (parts : List Part) (env : Pairs) (i : ℕ) →
-      read origin bytes call (term.Struct parts) env i ≡ struct_of origin (in_turn (map (part_reader origin bytes call) parts) env i) i
+      read subject call (term.Struct parts) env i ≡ struct_of subject.origin (in_turn (map (part_reader subject call) parts) env i) i
   read-Struct parts env i =
-      ap (λ t. read origin bytes call t env i) (sym (term.rolls-Struct parts)) ∙ ap (λ (r : Reader). r env i) (read-roll (Term-F.Struct parts))
-      ∙ ap (λ (parts : List Named). struct_of origin (in_turn parts env i) i) (mapped of_part (part_reader origin bytes call) of_part-is parts)
+      ap (λ t. read subject call t env i) (sym (term.rolls-Struct parts)) ∙ ap (λ (r : Reader). r env i) (read-roll (Term-F.Struct parts))
+      ∙ ap (λ (parts : List Named). struct_of subject.origin (in_turn parts env i) i) (mapped of_part (part_reader subject call) of_part-is parts)
 
-  pub read-Lit : (literal : List ℕ) (env : Pairs) (i : ℕ) → read origin bytes call (term.Lit literal) env i ≡ lit_of origin bytes literal i
+  pub read-Lit : (literal : List ℕ) (env : Pairs) (i : ℕ) → read subject call (term.Lit literal) env i ≡ lit_of subject literal i
   read-Lit literal env i =
-      ap (λ t. read origin bytes call t env i) (sym (term.rolls-Lit literal)) ∙ ap (λ (r : Reader). r env i) (read-roll (Term-F.Lit literal))
+      ap (λ t. read subject call t env i) (sym (term.rolls-Lit literal)) ∙ ap (λ (r : Reader). r env i) (read-roll (Term-F.Lit literal))
 
-  pub read-Eor : (env : Pairs) (i : ℕ) → read origin bytes call term.Eor env i ≡ eor_of origin bytes i
-  read-Eor env i = ap (λ t. read origin bytes call t env i) (sym term.rolls-Eor) ∙ ap (λ (r : Reader). r env i) (read-roll Term-F.Eor)
+  pub read-Eor : (env : Pairs) (i : ℕ) → read subject call term.Eor env i ≡ eor_of subject i
+  read-Eor env i = ap (λ t. read subject call t env i) (sym term.rolls-Eor) ∙ ap (λ (r : Reader). r env i) (read-roll Term-F.Eor)
 
-  pub read-Alt : (arms : List Arm) (env : Pairs) (i : ℕ) → read origin bytes call (term.Alt arms) env i ≡ alt_from origin 0 (map (arm_reader origin bytes call) arms) env i
+  pub read-Alt : (arms : List Arm) (env : Pairs) (i : ℕ) → read subject call (term.Alt arms) env i ≡ alt_from subject.origin 0 (map (arm_reader subject call) arms) env i
   read-Alt arms env i =
-      ap (λ t. read origin bytes call t env i) (sym (term.rolls-Alt arms)) ∙ ap (λ (r : Reader). r env i) (read-roll (Term-F.Alt arms))
-      ∙ ap (λ arms. alt_from origin 0 arms env i) (mapped of_arm (arm_reader origin bytes call) of_arm-is arms)
+      ap (λ t. read subject call t env i) (sym (term.rolls-Alt arms)) ∙ ap (λ (r : Reader). r env i) (read-roll (Term-F.Alt arms))
+      ∙ ap (λ arms. alt_from subject.origin 0 arms env i) (mapped of_arm (arm_reader subject call) of_arm-is arms)
 
-  pub read-Switch : (e : Expr) (cases : List Case) (env : Pairs) (i : ℕ) → read origin bytes call (term.Switch e cases) env i ≡ switch_of origin (chosen (argument e env) (map (λ c. c.key) cases)) (map (case_reader origin bytes call) cases) env i
+  pub read-Switch : (e : Expr) (cases : List Case) (env : Pairs) (i : ℕ) → read subject call (term.Switch e cases) env i ≡ switch_of subject.origin (chosen (argument e env) (map (λ c. c.key) cases)) (map (case_reader subject call) cases) env i
   read-Switch e cases env i =
-      ap (λ t. read origin bytes call t env i) (sym (term.rolls-Switch e cases)) ∙ ap (λ (r : Reader). r env i) (read-roll (Term-F.Switch e cases))
-      ∙ ap (λ (cases : List Keyed). switch_of origin (chosen (argument e env) (map (λ c. c.key) cases)) (map (λ c. c.reader) cases) env i) (mapped of_case keyed of_case-is cases)
-      ∙ ap (λ keys. switch_of origin (chosen (argument e env) keys) (map (λ c. c.reader) (map keyed cases)) env i) (map-map keyed (λ c. c.key) cases)
-      ∙ ap (λ readers. switch_of origin (chosen (argument e env) (map (λ c. c.key) cases)) readers env i) (map-map keyed (λ c. c.reader) cases)
+      ap (λ t. read subject call t env i) (sym (term.rolls-Switch e cases)) ∙ ap (λ (r : Reader). r env i) (read-roll (Term-F.Switch e cases))
+      ∙ ap (λ (cases : List Keyed). switch_of subject.origin (chosen (argument e env) (map (λ c. c.key) cases)) (map (λ c. c.reader) cases) env i) (mapped of_case keyed of_case-is cases)
+      ∙ ap (λ keys. switch_of subject.origin (chosen (argument e env) keys) (map (λ c. c.reader) (map keyed cases)) env i) (map-map keyed (λ c. c.key) cases)
+      ∙ ap (λ readers. switch_of subject.origin (chosen (argument e env) (map (λ c. c.key) cases)) readers env i) (map-map keyed (λ c. c.reader) cases)
 
-  pub read-Guard : (inner : Term) (binder : ℕ) (condition : Expr) (env : Pairs) (i : ℕ) → read origin bytes call (term.Guard inner binder condition) env i ≡ guard_of binder condition env (read origin bytes call inner env i)
+  pub read-Guard : (inner : Term) (binder : ℕ) (condition : Expr) (env : Pairs) (i : ℕ) → read subject call (term.Guard inner binder condition) env i ≡ guard_of binder condition env (read subject call inner env i)
   read-Guard inner binder condition env i =
-      ap (λ t. read origin bytes call t env i) (sym (term.rolls-Guard inner binder condition)) ∙ ap (λ (r : Reader). r env i) (read-roll (Term-F.Guard inner binder condition))
+      ap (λ t. read subject call t env i) (sym (term.rolls-Guard inner binder condition)) ∙ ap (λ (r : Reader). r env i) (read-roll (Term-F.Guard inner binder condition))
 
-  pub read-Seq : (s : Seq) (env : Pairs) (i : ℕ) → read origin bytes call (term.Seq s) env i ≡ seq_of origin bytes (seq_reader origin bytes call s) env i
+  pub read-Seq : (s : Seq) (env : Pairs) (i : ℕ) → read subject call (term.Seq s) env i ≡ seq_of subject (seq_reader subject call s) env i
   read-Seq s env i =
-      ap (λ t. read origin bytes call t env i) (sym (term.rolls-Seq s)) ∙ ap (λ (r : Reader). r env i) (read-roll (Term-F.Seq s))
-      ∙ ap (λ s. seq_of origin bytes s env i) (of_seq-is s)
+      ap (λ t. read subject call t env i) (sym (term.rolls-Seq s)) ∙ ap (λ (r : Reader). r env i) (read-roll (Term-F.Seq s))
+      ∙ ap (λ s. seq_of subject s env i) (of_seq-is s)
 
-  pub read-Call : (number : ℕ) (args : List Expr) (env : Pairs) (i : ℕ) → read origin bytes call (term.Call number args) env i ≡ call number args env i
+  pub read-Call : (number : ℕ) (args : List Expr) (env : Pairs) (i : ℕ) → read subject call (term.Call number args) env i ≡ call number args env i
   read-Call number args env i =
-      ap (λ t. read origin bytes call t env i) (sym (term.rolls-Call number args)) ∙ ap (λ (r : Reader). r env i) (read-roll (Term-F.Call number args))
+      ap (λ t. read subject call t env i) (sym (term.rolls-Call number args)) ∙ ap (λ (r : Reader). r env i) (read-roll (Term-F.Call number args))
 
-  pub read-Compute : (e : Expr) (form : Result2) (env : Pairs) (i : ℕ) → read origin bytes call (term.Compute e form) env i ≡ compute_of origin form (told (value e env)) i
+  pub read-Compute : (e : Expr) (form : Result2) (env : Pairs) (i : ℕ) → read subject call (term.Compute e form) env i ≡ compute_of subject.origin form (told (value e env)) i
   read-Compute e form env i =
-      ap (λ t. read origin bytes call t env i) (sym (term.rolls-Compute e form)) ∙ ap (λ (r : Reader). r env i) (read-roll (Term-F.Compute e form))
+      ap (λ t. read subject call t env i) (sym (term.rolls-Compute e form)) ∙ ap (λ (r : Reader). r env i) (read-roll (Term-F.Compute e form))
 
-  pub read-Absorb : (inner : Term) (env : Pairs) (i : ℕ) → read origin bytes call (term.Absorb inner) env i ≡ absorb_of (read origin bytes call inner env i)
+  pub read-Absorb : (inner : Term) (env : Pairs) (i : ℕ) → read subject call (term.Absorb inner) env i ≡ absorb_of (read subject call inner env i)
   read-Absorb inner env i =
-      ap (λ t. read origin bytes call t env i) (sym (term.rolls-Absorb inner)) ∙ ap (λ (r : Reader). r env i) (read-roll (Term-F.Absorb inner))
+      ap (λ t. read subject call t env i) (sym (term.rolls-Absorb inner)) ∙ ap (λ (r : Reader). r env i) (read-roll (Term-F.Absorb inner))
 
-  pub read-Scan : (inner : Term) (env : Pairs) (i : ℕ) → read origin bytes call (term.Scan inner) env i ≡ scan origin bytes (read origin bytes call inner) env i
+  pub read-Scan : (inner : Term) (env : Pairs) (i : ℕ) → read subject call (term.Scan inner) env i ≡ scan subject (read subject call inner) env i
   read-Scan inner env i =
-      ap (λ t. read origin bytes call t env i) (sym (term.rolls-Scan inner)) ∙ ap (λ (r : Reader). r env i) (read-roll (Term-F.Scan inner))
+      ap (λ t. read subject call t env i) (sym (term.rolls-Scan inner)) ∙ ap (λ (r : Reader). r env i) (read-roll (Term-F.Scan inner))
 
 -- every form's equation
 pub ruleset read_rules = (

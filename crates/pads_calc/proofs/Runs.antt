@@ -10,7 +10,7 @@ use Rattle.pads_expr.specs.Value.{Pairs}
 use Rattle.pads_calc.specs.declared.term.Part.{Part}
 use Rattle.pads_calc.specs.declared.reading.Reading.{Reading}
 use Rattle.pads_calc.specs.Calculus.{Caller, read, part_reader}
-use Rattle.pads_calc.specs.Readings.{node, values, pds, end_of}
+use Rattle.pads_calc.specs.Readings.{Subject, node, values, pds, end_of}
 use Rattle.pads_calc.specs.Structs.{Named, bind, in_turn, struct_of}
 use Rattle.pads_calc.proofs.Lists.{drop-next}
 
@@ -56,14 +56,14 @@ extends-bind outer inner (Some name) value h =
     let more : suc (length inner) - length outer ≡ suc (length inner - length outer) = omega (arith, h.longer) in
     record { longer = omega (arith, h.longer); same = rw more h.same }
 
-module _ (origin : ℕ) (bytes : List ℕ) (call : Caller) where
+module _ (subject : Subject) (call : Caller) where
   -- the next part of a struct
   pub parts-next : (parts : List Part) (n : ℕ) (part : Part) (env : Pairs) (place : ℕ) → n < length parts → part ≡ get_or parts n part →
-      let r = read origin bytes call part.term env place in
-      in_turn (map (part_reader origin bytes call) (drop n parts)) env place
-      ≡ r ∷ in_turn (map (part_reader origin bytes call) (drop (n + 1) parts)) (bind part.name r.value env) r.place
+      let r = read subject call part.term env place in
+      in_turn (map (part_reader subject call) (drop n parts)) env place
+      ≡ r ∷ in_turn (map (part_reader subject call) (drop (n + 1) parts)) (bind part.name r.value env) r.place
   parts-next parts n part env place more here =
-      ap (λ rest. in_turn (map (part_reader origin bytes call) rest) env place)
+      ap (λ rest. in_turn (map (part_reader subject call) rest) env place)
       (drop-next parts n part more ∙ ap (λ first. first ∷ drop (n + 1) parts) (sym here))
 
 -- what holds of all items holds of each

@@ -5,7 +5,7 @@ use Rattle.pads_value.specs.declared.cause.Cause.TheVariants as cause
 use Rattle.pads_value.specs.Header.{with_cause}
 use Rattle.pads_expr.specs.Value.{Pairs}
 use Rattle.pads_calc.specs.declared.reading.Reading.{Reading}
-use Rattle.pads_calc.specs.Readings.{Reader, fails, is_ok, blame}
+use Rattle.pads_calc.specs.Readings.{Subject, Reader, fails, is_ok, blame}
 use Rattle.pads_calc.specs.Wrappers.{found_at, scan, scan_from}
 
 pub found-here : (origin i : ℕ) (r : Reading) → found_at origin i i r ≡ r
@@ -38,15 +38,22 @@ module _ (origin : ℕ) (inner : Reader) (env : Pairs) (i : ℕ) where
       let places : end - j ≡ zero = omega arith in
       rw places (scan-none j)
 
-  pub scan-here : (bytes : List ℕ) → is_ok (inner env i) ≡ true → scan origin bytes inner env i ≡ inner env i
-  scan-here bytes ok =
-      scan-step (length bytes - i) i
-      ∙ ap (λ (found : Bool). if found then found_at origin i i (inner env i) else scan_from origin (length bytes - i) inner env i (i + 1)) ok
-      ∙ found-here origin i (inner env i)
+module _ (subject : Subject) (inner : Reader) (env : Pairs) (i : ℕ) where
+  abbrev from : ℕ → ℕ → Reading
+  from places j = scan_from subject.origin places inner env i j
 
-  pub scan-on : (bytes : List ℕ) → i ≤ length bytes → is_ok (inner env i) ≡ false →
-      scan origin bytes inner env i ≡ scan_from origin (length bytes + 1 - (i + 1)) inner env i (i + 1)
-  scan-on bytes within bad =
-      let places : length bytes + 1 - (i + 1) ≡ length bytes - i = omega arith in
-      rw places (scan-step (length bytes - i) i
-      ∙ ap (λ (found : Bool). if found then found_at origin i i (inner env i) else scan_from origin (length bytes - i) inner env i (i + 1)) bad)
+  -- the search, with its first place looked at
+  scan-first : scan subject inner env i ≡ (if is_ok (inner env i) then found_at subject.origin i i (inner env i) else from (length subject.bytes - i) (i + 1))
+  scan-first = scan-step subject.origin inner env i (length subject.bytes - i) i
+
+  pub scan-here : is_ok (inner env i) ≡ true → scan subject inner env i ≡ inner env i
+  scan-here ok =
+      scan-first
+      ∙ ap (λ (found : Bool). if found then found_at subject.origin i i (inner env i) else from (length subject.bytes - i) (i + 1)) ok
+      ∙ found-here subject.origin i (inner env i)
+
+  pub scan-on : i ≤ length subject.bytes → is_ok (inner env i) ≡ false → scan subject inner env i ≡ from (length subject.bytes + 1 - (i + 1)) (i + 1)
+  scan-on within bad =
+      let places : length subject.bytes + 1 - (i + 1) ≡ length subject.bytes - i = omega arith in
+      rw places (scan-first
+      ∙ ap (λ (found : Bool). if found then found_at subject.origin i i (inner env i) else from (length subject.bytes - i) (i + 1)) bad)

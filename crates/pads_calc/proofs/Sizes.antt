@@ -1,5 +1,5 @@
 -- A term is larger than the terms in it.
-use Rattle.std.proofs.Common.{◌≡◌, ℕ, zero, suc, ◌+◌, ◌<◌, ◌≤◌, List, [], ◌∷◌, Some, slice_get, arith}
+use Rattle.std.proofs.Common.{◌≡◌, ℕ, zero, suc, ◌<◌, ◌≤◌, List, [], ◌∷◌, Some, slice_get, arith}
 use denote.Param.Weighed.{most}
 use Rattle.pads_expr.specs.declared.expr.Expr.{Expr}
 use Rattle.pads_calc.specs.declared.term.Arm.{Arm, size-Arm}
@@ -50,3 +50,6 @@ size-elem s = grind (arith, the_lemmas)
 
 pub size-sep : (s : Seq) (t : Term) → s.sep ≡ Some t → size-Term t < size-Seq s
 size-sep s t there = grind (arith, the_lemmas)
+
+pub size-stop : (s : Seq) (t : Term) → s.stop ≡ Some t → size-Term t < size-Seq s
+size-stop s t there = grind (arith, the_lemmas)

@@ -19,7 +19,7 @@ use Rattle.pads_calc.specs.declared.turn.Turn.{Turn}
 use Rattle.pads_calc.specs.declared.turn.Turn.TheVariants as turn
 use Rattle.pads_calc.specs.Arguments.{argument, is_true}
 use Rattle.pads_calc.specs.Leaves.{at_end}
-use Rattle.pads_calc.specs.Readings.{Reader, node, fails, is_ok, values, pds, end_of}
+use Rattle.pads_calc.specs.Readings.{Subject, Reader, node, fails, is_ok, values, pds, end_of}
 
 -- what the parts of an array read as
 pub record SeqReader : Type 0 where
@@ -143,9 +143,9 @@ array_of origin e i = node origin (soft e.own) (val.Array (values e.rest)) i (en
 abbrev pub turns_from : List ℕ → ℕ → ℕ
 turns_from bytes i = length bytes + 2 - i
 
-abbrev pub sized : ℕ → List ℕ → SeqReader → Option (Option ℕ) → Pairs → ℕ → Reading
-sized origin bytes s None env i = fails origin cause.ArrayBound i
-sized origin bytes s (Some size) env i = array_of origin (elements bytes s size env (turns_from bytes i) [] i) i
+abbrev pub sized : Subject → SeqReader → Option (Option ℕ) → Pairs → ℕ → Reading
+sized subject s None env i = fails subject.origin cause.ArrayBound i
+sized subject s (Some size) env i = array_of subject.origin (elements subject.bytes s size env (turns_from subject.bytes i) [] i) i
 
-abbrev pub seq_of : ℕ → List ℕ → SeqReader → Reader
-seq_of origin bytes s env i = sized origin bytes s (size_at s.size env) env i
+abbrev pub seq_of : Subject → SeqReader → Reader
+seq_of subject s env i = sized subject s (size_at s.size env) env i

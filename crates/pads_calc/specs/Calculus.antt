@@ -17,7 +17,7 @@ use Rattle.pads_calc.specs.Arguments.{argument, arguments, bound_to}
 use Rattle.pads_calc.specs.Arrays.{SeqReader, seq_of}
 use Rattle.pads_calc.specs.Choices.{Keyed, alt_from, chosen, switch_of}
 use Rattle.pads_calc.specs.Leaves.{unit_of, lit_of, eor_of, base_of, compute_of}
-use Rattle.pads_calc.specs.Readings.{Reader, fails}
+use Rattle.pads_calc.specs.Readings.{Subject, Reader, fails}
 use Rattle.pads_calc.specs.Structs.{Named, in_turn, struct_of}
 use Rattle.pads_calc.specs.Wrappers.{guard_of, absorb_of, scan}
 use Rattle.pads_expr.specs.Value.{value}
@@ -27,23 +27,23 @@ use Rattle.pads_expr.specs.Worth.{told}
 abbrev pub Caller : Type 0
 Caller = ℕ → List Expr → Reader
 
-module _ (origin : ℕ) (bytes : List ℕ) (call : Caller) where
+module _ (subject : Subject) (call : Caller) where
   -- one equation for each form
   abbrev pub term_step : Term-F Reader Reader Keyed Named SeqReader → Reader
-  term_step Term-F.Unit env i = unit_of origin i
-  term_step (Term-F.Base base args) env i = base_of origin bytes base (arguments args env) i
-  term_step (Term-F.Lit literal) env i = lit_of origin bytes literal i
-  term_step Term-F.Eor env i = eor_of origin bytes i
-  term_step (Term-F.Struct parts) env i = struct_of origin (in_turn parts env i) i
-  term_step (Term-F.Alt arms) env i = alt_from origin 0 arms env i
+  term_step Term-F.Unit env i = unit_of subject.origin i
+  term_step (Term-F.Base base args) env i = base_of subject base (arguments args env) i
+  term_step (Term-F.Lit literal) env i = lit_of subject literal i
+  term_step Term-F.Eor env i = eor_of subject i
+  term_step (Term-F.Struct parts) env i = struct_of subject.origin (in_turn parts env i) i
+  term_step (Term-F.Alt arms) env i = alt_from subject.origin 0 arms env i
   term_step (Term-F.Switch e cases) env i =
-      switch_of origin (chosen (argument e env) (map (λ c. c.key) cases)) (map (λ c. c.reader) cases) env i
+      switch_of subject.origin (chosen (argument e env) (map (λ c. c.key) cases)) (map (λ c. c.reader) cases) env i
   term_step (Term-F.Guard inner binder condition) env i = guard_of binder condition env (inner env i)
-  term_step (Term-F.Seq s) env i = seq_of origin bytes s env i
+  term_step (Term-F.Seq s) env i = seq_of subject s env i
   term_step (Term-F.Call number args) env i = call number args env i
-  term_step (Term-F.Compute e form) env i = compute_of origin form (told (value e env)) i
+  term_step (Term-F.Compute e form) env i = compute_of subject.origin form (told (value e env)) i
   term_step (Term-F.Absorb inner) env i = absorb_of (inner env i)
-  term_step (Term-F.Scan inner) env i = scan origin bytes inner env i
+  term_step (Term-F.Scan inner) env i = scan subject inner env i
 
 abbrev pub arm_step : Arm-F Reader Reader Keyed Named SeqReader → Reader
 arm_step arm = arm.term
@@ -58,26 +58,26 @@ abbrev pub seq_step : Seq-F Reader Reader Keyed Named SeqReader → SeqReader
 seq_step s = record { elem = s.elem; sep = s.sep; size = s.size; last = s.last; stop = s.stop; elts = s.elts }
 
 -- the reading of a term, where the calls read so
-unfoldable pub read : ℕ → List ℕ → Caller → Term → Reader
-read origin bytes call = fold-Term Reader Reader Keyed Named SeqReader (term_step origin bytes call) arm_step case_step part_step seq_step
+unfoldable pub read : Subject → Caller → Term → Reader
+read subject call = fold-Term Reader Reader Keyed Named SeqReader (term_step subject call) arm_step case_step part_step seq_step
 
 -- what the parts of a term read as
-module _ (origin : ℕ) (bytes : List ℕ) (call : Caller) where
+module _ (subject : Subject) (call : Caller) where
   abbrev pub part_reader : Part → Named
-  part_reader part = record { name = part.name; reader = read origin bytes call part.term }
+  part_reader part = record { name = part.name; reader = read subject call part.term }
 
   abbrev pub arm_reader : Arm → Reader
-  arm_reader arm = read origin bytes call arm.term
+  arm_reader arm = read subject call arm.term
 
   abbrev pub case_reader : Case → Reader
-  case_reader case = read origin bytes call case.arm.term
+  case_reader case = read subject call case.arm.term
 
   abbrev pub option_reader : Option Term → Option Reader
-  option_reader t = option_map (read origin bytes call) t
+  option_reader t = option_map (read subject call) t
 
   abbrev pub seq_reader : Seq → SeqReader
   seq_reader s = record {
-    elem = read origin bytes call s.elem;
+    elem = read subject call s.elem;
     sep = option_reader s.sep;
     size = s.size;
     last = s.last;
@@ -92,11 +92,11 @@ body_of origin reader None (Some args) i = fails origin cause.BadParam i
 body_of origin reader (Some decl) (Some args) i = reader decl.body (bound_to decl.params args []) i
 
 -- a call where calls may be nested so deep; below, one less
-unfoldable pub caller : ℕ → List ℕ → List Decl → ℕ → Caller
-caller origin bytes decls zero number args env i = fails origin cause.Depth i
-caller origin bytes decls (suc depth) number args env i =
-    body_of origin (read origin bytes (caller origin bytes decls depth)) (slice_get decls number) (arguments args env) i
+unfoldable pub caller : Subject → List Decl → ℕ → Caller
+caller subject decls zero number args env i = fails subject.origin cause.Depth i
+caller subject decls (suc depth) number args env i =
+    body_of subject.origin (read subject (caller subject decls depth)) (slice_get decls number) (arguments args env) i
 
 -- the reading of a term of a module, inside of which calls may be nested so deep
-abbrev pub meaning : ℕ → List ℕ → List Decl → ℕ → Term → Reader
-meaning origin bytes decls depth = read origin bytes (caller origin bytes decls depth)
+abbrev pub meaning : Subject → List Decl → ℕ → Term → Reader
+meaning subject decls depth = read subject (caller subject decls depth)

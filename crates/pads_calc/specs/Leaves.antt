@@ -14,24 +14,24 @@ use Rattle.pads_dispatch.specs.Readings.{base_reading}
 use Rattle.pads_calc.specs.declared.reading.Reading.{Reading}
 use Rattle.pads_calc.specs.declared.term.Result2.{Result2}
 use Rattle.pads_calc.specs.declared.term.Result2.TheVariants as form
-use Rattle.pads_calc.specs.Readings.{leaf, fails, faulty}
+use Rattle.pads_calc.specs.Readings.{Subject, leaf, fails, faulty}
 
 -- nothing
 abbrev pub unit_of : ℕ → ℕ → Reading
 unit_of origin i = leaf origin val.Unit i i
 
 -- the literal's bytes stand here
-abbrev pub lit_of : ℕ → List ℕ → List ℕ → ℕ → Reading
-lit_of origin bytes literal i =
-    if starts_with nat_eq (drop i bytes) literal then leaf origin val.Unit i (i + length literal)
-    else fails origin cause.MissingLiteral i
+abbrev pub lit_of : Subject → List ℕ → ℕ → Reading
+lit_of subject literal i =
+    if starts_with nat_eq (drop i subject.bytes) literal then leaf subject.origin val.Unit i (i + length literal)
+    else fails subject.origin cause.MissingLiteral i
 
 -- no byte is left
 abbrev pub at_end : List ℕ → ℕ → Bool
 at_end bytes i = not (nat_lt i (length bytes))
 
-abbrev pub eor_of : ℕ → List ℕ → ℕ → Reading
-eor_of origin bytes i = if at_end bytes i then leaf origin val.Unit i i else fails origin cause.MissingEor i
+abbrev pub eor_of : Subject → ℕ → Reading
+eor_of subject i = if at_end subject.bytes i then leaf subject.origin val.Unit i i else fails subject.origin cause.MissingEor i
 
 -- what a base type's reading is as a node
 abbrev pub base_node : ℕ → ℕ → Read Val → Reading
@@ -40,9 +40,9 @@ base_node origin i (Soft size cause) = faulty origin cause i (i + size)
 base_node origin i (Hard cause) = fails origin cause i
 
 -- a base type on the bytes from here on; an argument without a value is a bad one
-abbrev pub base_of : ℕ → List ℕ → Base → Option (List Arg) → ℕ → Reading
-base_of origin bytes base None i = fails origin cause.BadParam i
-base_of origin bytes base (Some args) i = base_node origin i (base_reading base args (drop i bytes))
+abbrev pub base_of : Subject → Base → Option (List Arg) → ℕ → Reading
+base_of subject base None i = fails subject.origin cause.BadParam i
+base_of subject base (Some args) i = base_node subject.origin i (base_reading base args (drop i subject.bytes))
 
 -- the value of a computed field: a number in the range, or a text
 abbrev pub computed : Result2 → Worth → Option Val

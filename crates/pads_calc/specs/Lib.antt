@@ -5,6 +5,7 @@ pub mod Calculus
 pub mod Choices
 pub mod Counts
 pub mod Leaves
+pub mod Modules
 pub mod Places
 pub mod Readings
 pub mod Rows

@@ -1,6 +1,6 @@
--- What a reading is, and the readings that the rules are made of. A place counts the bytes of the record
--- before it. Spans are offsets in the whole input, in which the record's first byte has the offset
--- `origin`.
+-- What a reading is of, what it is, and the readings that the rules are made of. A place counts the bytes
+-- of the record before it. Spans are offsets in the whole input, in which the record's first byte has the
+-- offset `origin`.
 use Rattle.std.specs.Prelude.{ℕ, ◌+◌, Bool, true, false, List, [], ◌∷◌, map, Option, Some, None, if◌then◌else◌}
 use Rattle.pads_value.specs.declared.cause.Cause.{Cause}
 use Rattle.pads_value.specs.declared.cause.Cause.TheVariants as cause
@@ -11,6 +11,16 @@ use Rattle.pads_value.specs.declared.value.Val.TheVariants as val
 use Rattle.pads_value.specs.Header.{head, is_clean}
 use Rattle.pads_expr.specs.Value.{Pairs}
 use Rattle.pads_calc.specs.declared.reading.Reading.{Reading}
+use Rattle.pads_calc.specs.declared.record.Record.{Record}
+
+-- what is read: the bytes of a record, and the offset of the first of them in the whole input
+pub record Subject : Type 0 where
+  pub origin : ℕ
+  pub bytes : List ℕ
+
+-- what the code reads, as the rules have it
+abbrev pub subject_of : Record → Subject
+subject_of from = record { origin = from.origin; bytes = from.bytes.now }
 
 -- what a term reads as in an environment at a place
 abbrev pub Reader : Type 0

@@ -16,10 +16,10 @@ use Rattle.pads_calc.specs.declared.decl.Decl.{Decl}
 use Rattle.pads_calc.specs.declared.decl.Shape.{Shape}
 use Rattle.pads_calc.specs.declared.reading.Reading.{Reading}
 use Rattle.pads_calc.specs.Calculus.{caller}
-use Rattle.pads_calc.specs.Readings.{faulty}
+use Rattle.pads_calc.specs.Readings.{Subject, faulty}
 
 -- how deep calls of declarations may be nested
-unfoldable pub deepest : ℕ
+abbrev pub deepest : ℕ
 deepest = 128
 
 abbrev pub head_or : Option ℕ → ℕ → ℕ
@@ -31,8 +31,12 @@ abbrev pub type_of : Shape → ℕ → ℕ
 type_of shape zero = head_or shape.head shape.each
 type_of shape (suc number) = shape.each
 
+-- what is read of a record
+abbrev pub subject_of_cut : Cut → Subject
+subject_of_cut cut = record { origin = cut.first; bytes = cut.bytes }
+
 abbrev pub body_reading : List Decl → ℕ → Cut → Reading
-body_reading decls number cut = caller cut.first cut.bytes decls deepest number [] [] 0
+body_reading decls number cut = caller (subject_of_cut cut) decls deepest number [] [] 0
 
 -- the bytes behind the body
 abbrev pub extra : Cut → ℕ → List Pd

@@ -8,7 +8,7 @@ use Rattle.pads_expr.specs.Value.{Pairs}
 use Rattle.pads_expr.specs.declared.expr.Expr.{Expr}
 use Rattle.pads_calc.specs.declared.reading.Reading.{Reading}
 use Rattle.pads_calc.specs.Arguments.{is_true}
-use Rattle.pads_calc.specs.Readings.{Reader, fails, is_ok, blame}
+use Rattle.pads_calc.specs.Readings.{Subject, Reader, fails, is_ok, blame}
 
 -- a constraint that isn't true of a clean reading's value; the value stays
 abbrev pub constrained : Reading → Reading
@@ -35,5 +35,5 @@ scan_from origin (suc places) inner env i j =
     else scan_from origin places inner env i (j + 1)
 
 -- the least place from here to the record's end at which the reading is clean
-abbrev pub scan : ℕ → List ℕ → Reader → Reader
-scan origin bytes inner env i = scan_from origin (suc (length bytes - i)) inner env i i
+abbrev pub scan : Subject → Reader → Reader
+scan subject inner env i = scan_from subject.origin (suc (length subject.bytes - i)) inner env i i

@@ -1,10 +1,10 @@
-ghost use Rattle.std.specs.Prelude.{◌≡◌, ◌∷◌, [], IfOk, OnOk};
-ghost use Rattle.pads_calc.specs.Arguments.{arg_told, argument as argument_of, arguments as arguments_of, is_true as is_true_in, value_of_arg, bound_to};
+ghost use Rattle.std.specs.Prelude.{◌≡◌, ◌∷◌, [], reverse, IfOk};
+ghost use Rattle.pads_calc.specs.Arguments.{arg_told, argument as argument_of, arguments as arguments_of, is_true as is_true_by, is_true_told, value_of_arg, bound_to};
 ghost use Rattle.pads_expr.specs.Seen.{seen};
 ghost use Rattle.std.specs.Option.{option_map};
 
 use pads_dispatch::{Arg, Args};
-use pads_expr::{Env, Expr, Res, eval};
+use pads_expr::{Binding, Env, Expr, Res, eval_in, eval_with};
 use pads_value::{Items, Memory, Val};
 use std::alloc::Global;
 
@@ -19,20 +19,25 @@ fn arg_of(alloc: Global, found: Option<Res>) -> Result<Option<Arg>, Memory>
     })
 }
 
-/// The argument that an expression stands for, if it stands for one.
-pub fn argument(alloc: Global, e: &Expr, env: &Env) -> Result<Option<Arg>, Memory>
-    ensures argument { IfOk result (λ arg. arg ≡ argument_of e.now env.now.pairs) }
+/// The argument that an expression stands for over bindings of which the last counts, if it stands for
+/// one.
+pub fn argument_in(alloc: Global, e: &Expr, bindings: &[Binding]) -> Result<Option<Arg>, Memory>
+    ensures argument { IfOk result (λ arg. arg ≡ argument_of e.now (reverse bindings.now)) }
 {
-    arg_of(alloc, eval(e, env))
+    arg_of(alloc, eval_in(e, bindings))
 }
 
-/// The arguments that expressions stand for; none where one of them stands for none.
-pub fn arguments(alloc: Global, es: &[Expr], env: &Env) -> Result<Option<Args>, Memory>
-    ensures arguments { IfOk result (λ args. args ≡ arguments_of es.now env.now.pairs) }
+/// The arguments that expressions stand for over bindings; none where one of them stands for none.
+pub fn arguments_in(
+    alloc: Global,
+    es: &[Expr],
+    bindings: &[Binding],
+) -> Result<Option<Args>, Memory>
+    ensures arguments { IfOk result (λ args. args ≡ arguments_of es.now (reverse bindings.now)) }
 {
     let mut args = Items::new(alloc);
     for e in es {
-        match argument(alloc, e, env)? {
+        match argument_in(alloc, e, bindings)? {
             Some(arg) => args.push(arg)?,
             None => return Ok(None),
         }
@@ -40,14 +45,35 @@ pub fn arguments(alloc: Global, es: &[Expr], env: &Env) -> Result<Option<Args>, 
     Ok(Some(args))
 }
 
-/// Whether an expression is true. One without a value isn't.
-pub fn is_true(e: &Expr, env: &Env) -> bool
-    ensures truth { result ≡ is_true_in e.now env.now.pairs }
+/// The same in an environment.
+pub fn arguments(alloc: Global, es: &[Expr], env: &Env) -> Result<Option<Args>, Memory>
+    ensures arguments { IfOk result (λ args. args ≡ arguments_of es.now env.now.pairs) }
 {
-    match eval(e, env) {
+    arguments_in(alloc, es, env.as_slice())
+}
+
+/// Whether what an expression is worth is that it is true. Without a value it isn't.
+fn is_truth(found: Option<Res>) -> bool
+    ensures truth { result ≡ is_true_told (option_map seen found.entry) }
+{
+    match found {
         Some(Res::Truth(truth)) => truth,
         _ => false,
     }
+}
+
+/// Whether an expression is true over bindings. One without a value isn't.
+pub fn is_true_in(e: &Expr, bindings: &[Binding]) -> bool
+    ensures truth { result ≡ is_true_by e.now (reverse bindings.now) }
+{
+    is_truth(eval_in(e, bindings))
+}
+
+/// Whether a condition is true over bindings of a value that goes by a name in it.
+pub fn is_true_of(condition: &Expr, name: u16, value: &Val, bindings: &[Binding]) -> bool
+    ensures truth { result ≡ is_true_by condition.now ((name, value.now) ∷ reverse bindings.now) }
+{
+    is_truth(eval_with(condition, name, value, bindings))
 }
 
 /// What an argument is as a value.
@@ -58,25 +84,6 @@ fn value_of(alloc: Global, arg: &Arg) -> Result<Val, Memory>
         Arg::Num(number) => Val::Num(*number),
         Arg::Text(text) => Val::Text(Items::from_slice(alloc, text.as_slice())?),
     })
-}
-
-/// Whether a condition is true of a value that goes by a name in it. Gives the value back.
-pub fn is_true_of(
-    condition: &Expr,
-    name: u16,
-    value: Val,
-    env: &mut Env,
-) -> Result<(bool, Val), Memory>
-    ensures truth { IfOk result (λ answer. answer.0 ≡ is_true_in condition.now ((name, value) ∷ env.old.pairs)) }
-    ensures value { IfOk result (λ answer. answer.1 ≡ value) }
-    ensures env { OnOk result (env.new.pairs ≡ env.old.pairs) }
-{
-    env.bind(name, value)?;
-    let truth = is_true(condition, env);
-    let Some((_, value)) = env.pop() else {
-        unreachable!()
-    };
-    Ok((truth, value))
 }
 
 /// The environment of a declaration's body: its parameters, bound to the arguments.

@@ -1,11 +1,11 @@
 ghost use Rattle.std.specs.List.{position};
-ghost use Rattle.std.specs.Prelude.{◌≡◌, map, Some, IfOk};
+ghost use Rattle.std.specs.Prelude.{◌≡◌, map, reverse, Some, IfOk};
 ghost use Rattle.pads_calc.specs.Arguments.{argument as argument_of};
 ghost use Rattle.pads_calc.specs.Choices.{is_key as is_key_of, has_key as has_key_of, has_no_key, chosen as chosen_of};
 
-use crate::args::argument;
+use crate::args::argument_in;
 use crate::{Arg, Case, Key};
-use pads_expr::{Env, Expr};
+use pads_expr::{Binding, Env, Expr};
 use pads_value::Memory;
 use std::alloc::Global;
 
@@ -55,12 +55,25 @@ fn chosen_by(found: &Arg, cases: &[Case]) -> Option<usize>
     }
 }
 
-/// The number of the case that an expression's value chooses, if there is one.
-pub fn chosen(alloc: Global, e: &Expr, env: &Env, cases: &[Case]) -> Result<Option<usize>, Memory>
-    ensures chosen { IfOk result (λ number. number ≡ chosen_of (argument_of e.now env.now.pairs) (map (λ c. c.key) cases.now)) }
+/// The number of the case that an expression's value chooses over bindings of which the last counts, if
+/// there is one.
+pub fn chosen_in(
+    alloc: Global,
+    e: &Expr,
+    bindings: &[Binding],
+    cases: &[Case],
+) -> Result<Option<usize>, Memory>
+    ensures chosen { IfOk result (λ number. number ≡ chosen_of (argument_of e.now (reverse bindings.now)) (map (λ c. c.key) cases.now)) }
 {
-    match argument(alloc, e, env)? {
+    match argument_in(alloc, e, bindings)? {
         None => Ok(None),
         Some(found) => Ok(chosen_by(&found, cases)),
     }
+}
+
+/// The same in an environment.
+pub fn chosen(alloc: Global, e: &Expr, env: &Env, cases: &[Case]) -> Result<Option<usize>, Memory>
+    ensures chosen { IfOk result (λ number. number ≡ chosen_of (argument_of e.now env.now.pairs) (map (λ c. c.key) cases.now)) }
+{
+    chosen_in(alloc, e, env.as_slice(), cases)
 }

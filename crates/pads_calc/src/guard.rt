@@ -1,31 +1,30 @@
-ghost use Rattle.std.specs.Prelude.{◌≡◌, IfOk, OnOk};
+ghost use Rattle.std.specs.Prelude.{◌≡◌, reverse};
 ghost use Rattle.pads_calc.specs.Wrappers.{guard_of};
 
 use crate::Reading;
 use crate::args::is_true_of;
-use pads_expr::{Env, Expr};
-use pads_value::Memory;
+use pads_expr::{Binding, Env, Expr};
 
-/// A reading under a constraint, which is asked of a clean reading alone.
-pub fn guarded(
-    reading: Reading,
-    binder: u16,
-    condition: &Expr,
-    env: &mut Env,
-) -> Result<Reading, Memory>
-    ensures guarded { IfOk result (λ r. r ≡ guard_of binder condition.now env.old.pairs reading) }
-    ensures place { IfOk result (λ r. r.place ≡ reading.place) }
-    ensures env { OnOk result (env.new.pairs ≡ env.old.pairs) }
+/// A reading under a constraint over bindings of which the last counts. It is asked of a clean reading
+/// alone.
+pub fn guarded_in(reading: Reading, binder: u16, condition: &Expr, bindings: &[Binding]) -> Reading
+    ensures guarded { result ≡ guard_of binder condition.now (reverse bindings.now) reading }
+    ensures place { result.place ≡ reading.place }
 {
     if !reading.is_ok() {
-        return Ok(reading);
+        return reading;
     }
-    let Reading { value, pd, place } = reading;
-    let (truth, value) = is_true_of(condition, binder, value, env)?;
-    let reading = Reading { value, pd, place };
-    if truth {
-        Ok(reading)
+    if is_true_of(condition, binder, &reading.value, bindings) {
+        reading
     } else {
-        Ok(reading.constrained())
+        reading.constrained()
     }
+}
+
+/// The same in an environment.
+pub fn guarded(reading: Reading, binder: u16, condition: &Expr, env: &Env) -> Reading
+    ensures guarded { result ≡ guard_of binder condition.now env.now.pairs reading }
+    ensures place { result.place ≡ reading.place }
+{
+    guarded_in(reading, binder, condition, env.as_slice())
 }

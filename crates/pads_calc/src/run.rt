@@ -1,12 +1,13 @@
-ghost use Rattle.std.specs.Prelude.{◌≡◌, ◌≤◌, ◌^◌, [], ◌∷◌, ◌++◌, None, IfOk, OnOk};
+ghost use Rattle.std.specs.Prelude.{◌≡◌, ◌≤◌, ◌^◌, [], ◌∷◌, ◌++◌, None, reverse, OnOk};
 ghost use Rattle.std.specs.Option.{option_copied};
+ghost use Rattle.pads_calc.specs.Arguments.{is_true};
 ghost use Rattle.pads_calc.specs.Arrays.{soft, is_empty as has_no_element, is_last as is_last_of};
 ghost use Rattle.pads_calc.specs.Readings.{node};
 ghost use Rattle.pads_value.specs.declared.value.Val.TheVariants as val;
 
 use crate::Reading;
 use crate::args::is_true_of;
-use pads_expr::{Env, Expr};
+use pads_expr::{Binding, Env, Expr};
 use pads_value::{Cause, Items, Memory, Own, Pds, Val, Vals};
 use std::alloc::Global;
 use std::mem;
@@ -76,30 +77,53 @@ impl Run {
         matches!(self.values.as_slice(), [])
     }
 
-    /// Whether the latest element is the last one, by a condition over the elements so far.
+    /// Whether the latest element is the last one, by a condition over the elements so far and over
+    /// bindings of which the last counts.
+    pub fn is_last_in(
+        &mut self,
+        alloc: Global,
+        last: Option<&Expr>,
+        elements_name: u16,
+        bindings: &[Binding],
+    ) -> bool
+        ensures last { result ≡ is_last_of (option_copied last.entry) elements_name self.old.values (reverse bindings.now) }
+        ensures kept { self.new ≡ self.old }
+    {
+        let Some(condition) = last else {
+            return false;
+        };
+        if self.is_empty() {
+            return false;
+        }
+        let elements = mem::replace(&mut self.values, Items::new(alloc));
+        let (truth, value) = asked(condition, elements_name, Val::Array(elements), bindings);
+        let Val::Array(elements) = value else {
+            unreachable!()
+        };
+        self.values = elements;
+        truth
+    }
+
+    /// The same in an environment.
     pub fn is_last(
         &mut self,
         alloc: Global,
         last: Option<&Expr>,
         elements_name: u16,
-        env: &mut Env,
-    ) -> Result<bool, Memory>
-        ensures last { IfOk result (λ answer. answer ≡ is_last_of (option_copied last.entry) elements_name self.old.values env.old.pairs) }
-        ensures kept { OnOk result (self.new ≡ self.old) }
-        ensures env { OnOk result (env.new.pairs ≡ env.old.pairs) }
+        env: &Env,
+    ) -> bool
+        ensures last { result ≡ is_last_of (option_copied last.entry) elements_name self.old.values env.now.pairs }
+        ensures kept { self.new ≡ self.old }
     {
-        let Some(condition) = last else {
-            return Ok(false);
-        };
-        if self.is_empty() {
-            return Ok(false);
-        }
-        let elements = mem::replace(&mut self.values, Items::new(alloc));
-        let (truth, value) = is_true_of(condition, elements_name, Val::Array(elements), env)?;
-        let Val::Array(elements) = value else {
-            unreachable!()
-        };
-        self.values = elements;
-        Ok(truth)
+        self.is_last_in(alloc, last, elements_name, env.as_slice())
     }
+}
+
+/// Whether a condition is true of a value that goes by a name in it. Gives the value back.
+fn asked(condition: &Expr, name: u16, value: Val, bindings: &[Binding]) -> (bool, Val)
+    ensures truth { result.0 ≡ is_true condition.now ((name, value) ∷ reverse bindings.now) }
+    ensures value { result.1 ≡ value }
+{
+    let truth = is_true_of(condition, name, &value, bindings);
+    (truth, value)
 }

@@ -1,11 +1,11 @@
-ghost use Rattle.std.specs.Prelude.{◌≡◌};
+ghost use Rattle.std.specs.Prelude.{◌≡◌, reverse};
 ghost use Rattle.std.specs.Option.{option_map, option_copied};
 ghost use Rattle.pads_calc.specs.Arguments.{arg_told};
 ghost use Rattle.pads_calc.specs.Arrays.{size_of_arg, size_at as size_of, is_full as is_full_at, below_size, turn_of};
 ghost use Rattle.pads_expr.specs.Seen.{seen};
 
 use crate::Reading;
-use pads_expr::{Env, Expr, Res, eval};
+use pads_expr::{Binding, Env, Expr, Res, eval_in};
 use pads_value::{Cause, Class};
 
 /// Whether an array ends before the next element.
@@ -41,15 +41,22 @@ fn size_of_worth(found: Option<Res>) -> Option<u128>
     }
 }
 
-/// The size that an array is to have, or that none is asked for; none where the expression has no value
-/// that is a size.
-pub fn size_at(size: Option<&Expr>, env: &Env) -> Option<Option<u128>>
-    ensures size { result ≡ size_of (option_copied size.entry) env.now.pairs }
+/// The size that an array is to have over bindings of which the last counts, or that none is asked for;
+/// none where the expression has no value that is a size.
+pub fn size_in(size: Option<&Expr>, bindings: &[Binding]) -> Option<Option<u128>>
+    ensures size { result ≡ size_of (option_copied size.entry) (reverse bindings.now) }
 {
     match size {
         None => Some(None),
-        Some(e) => Some(Some(size_of_worth(eval(e, env))?)),
+        Some(e) => Some(Some(size_of_worth(eval_in(e, bindings))?)),
     }
+}
+
+/// The same in an environment.
+pub fn size_at(size: Option<&Expr>, env: &Env) -> Option<Option<u128>>
+    ensures size { result ≡ size_of (option_copied size.entry) env.now.pairs }
+{
+    size_in(size, env.as_slice())
 }
 
 /// Whether so many elements reach the size.

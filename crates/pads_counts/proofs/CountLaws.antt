@@ -1,6 +1,5 @@
 -- How many names are in scope, by the parameters' and the others.
 use Rattle.std.proofs.Common.{◌≡◌, ◌∙◌, sym, ap, refl, ℕ, ◌+◌, nat_lt, Bool, List, [], ◌∷◌, ◌++◌, length, not, add-zero, append-nil}
-use Rattle.std.specs.Prelude.{is_some}
 use Rattle.std.proofs.lemmas.List.{map-append}
 use Rattle.pads_ast.specs.declared.decl.DeclBody.{DeclBody}
 use Rattle.pads_ast.specs.declared.decl.DeclBody.TheVariants as decl
@@ -16,7 +15,7 @@ unfolding met
 scope-count (decl.Struct d) = sym (add-zero _)
 scope-count (decl.Array d) = sym (add-zero _)
 scope-count (decl.Union d) = ap (λ names. length (met [] names) + one_if (not (is_empty (branches_of d.body)))) (sym (append-nil (texts (param_names (decl.Union d)))))
-scope-count (decl.Typedef d) = ap (λ names. length (met [] names) + one_if (is_some d.constraint)) (sym (append-nil (texts (param_names (decl.Typedef d)))))
+scope-count (decl.Typedef d) = sym (add-zero _)
 scope-count (decl.Opt d) = sym (add-zero _) ∙ ap (λ names. length (met [] names) + 0) (sym (append-nil (texts (param_names (decl.Opt d)))))
 scope-count (decl.Enum d) = refl
 

@@ -3,12 +3,12 @@
 ghost use Rattle.std.specs.Prelude.{◌≡◌, IfOk};
 ghost use Rattle.pads_rules.specs.DeclRules as rules;
 ghost use Rattle.pads_rules.specs.Faults.{least};
-ghost use Rattle.pads_pieces.specs.Told.{stands};
+ghost use Rattle.pads_piece_rules.specs.Told.{stands};
 
 use crate::in_scope::too_many_in_scope;
 use crate::parts::part_count;
 use pads_declared::name_of;
-use pads_pieces::Site;
+use pads_piece_rules::Site;
 use pads_rules::{CheckFault, fault_if};
 use pads_value::Memory;
 use std::alloc::Global;

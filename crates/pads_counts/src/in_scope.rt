@@ -9,7 +9,7 @@ ghost use Rattle.pads_counts.specs.Counted.{beside_params, one_more};
 
 use crate::in_expr::meet_name;
 use crate::parts::branch_count;
-use pads_ast::{DeclBody, Param, Part, UnionBody};
+use pads_ast::{Constraint, DeclBody, Param, Part, UnionBody};
 use pads_declared::{NameSet, params_of};
 use pads_value::Memory;
 use std::alloc::Global;
@@ -52,6 +52,16 @@ fn add_elements(names: &mut NameSet) -> Result<(), Memory>
     Ok(())
 }
 
+/// The variable of a typedef's constraint.
+fn add_variable(names: &mut NameSet, constraint: &Option<Constraint>) -> Result<(), Memory>
+    ensures met { OnOk result (names.new ≡ met names.old (rules.texts (rules.variable_names constraint.now))) }
+{
+    match constraint {
+        Some(constraint) => meet_name(names, &constraint.variable),
+        None => Ok(()),
+    }
+}
+
 /// The names beside the parameters that a declaration has for itself.
 fn add_own(names: &mut NameSet, body: &DeclBody) -> Result<(), Memory>
     ensures met { OnOk result (names.new ≡ met names.old (beside_params body.now)) }
@@ -59,11 +69,12 @@ fn add_own(names: &mut NameSet, body: &DeclBody) -> Result<(), Memory>
     match body {
         DeclBody::Struct(d) => add_parts(names, d.parts.as_slice()),
         DeclBody::Array(_) => add_elements(names),
-        DeclBody::Union(_) | DeclBody::Enum(_) | DeclBody::Typedef(_) | DeclBody::Opt(_) => Ok(()),
+        DeclBody::Typedef(d) => add_variable(names, &d.constraint),
+        DeclBody::Union(_) | DeclBody::Enum(_) | DeclBody::Opt(_) => Ok(()),
     }
 }
 
-/// How many different names there are but for the one of a branch or a typedef's variable.
+/// How many different names there are but for the one of a branch.
 fn different(alloc: Global, body: &DeclBody) -> Result<u64, Memory>
     ensures count { IfOk result (λ count. count ≡ length (met [] (rules.texts (trees.param_names body.now) ++ beside_params body.now))) }
 {
@@ -79,14 +90,17 @@ fn has_branch(body: &UnionBody) -> bool
     0 < branch_count(body)
 }
 
-/// Whether a branch or a typedef's variable is in scope somewhere.
+/// Whether a branch is in scope somewhere.
 fn has_one_more(body: &DeclBody) -> bool
     ensures one { result ≡ one_more body.now }
 {
     match body {
         DeclBody::Union(d) => has_branch(&d.body),
-        DeclBody::Typedef(d) => d.constraint.is_some(),
-        DeclBody::Struct(_) | DeclBody::Array(_) | DeclBody::Enum(_) | DeclBody::Opt(_) => false,
+        DeclBody::Struct(_)
+        | DeclBody::Array(_)
+        | DeclBody::Enum(_)
+        | DeclBody::Typedef(_)
+        | DeclBody::Opt(_) => false,
     }
 }
 

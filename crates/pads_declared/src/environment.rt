@@ -10,8 +10,7 @@ use crate::trees::{branches_of, name_of, params_of};
 use crate::types::type_sort;
 use crate::{EarlierTypes, TypeTable};
 use pads_ast::{Decl, DeclBody, Part, Union};
-use pads_rules::{Content, Declared, ExprSort, Named};
-use pads_sorts::Form;
+use pads_rules::{Content, Declared, ExprSort, Form, Named};
 use pads_value::{Items, Memory};
 use std::alloc::Global;
 

@@ -8,8 +8,7 @@ ghost use Rattle.pads_declared.specs.Numbered.{choice_position};
 
 use crate::TypeTable;
 use crate::types::same_text;
-use pads_rules::{Content, ExprSort};
-use pads_sorts::{Form, Sort};
+use pads_rules::{Content, ExprSort, Form, Sort};
 
 /// The sort of a field or branch by its number.
 fn sort_at(content: &Content, number: usize) -> Option<ExprSort>

@@ -9,8 +9,7 @@ ghost use Rattle.pads_declared.specs.Meanings.{meant};
 use crate::EarlierTypes;
 use pads_ast::Type;
 use pads_base_names::{BaseName, base_name};
-use pads_rules::{Declared, ExprSort};
-use pads_sorts::Form;
+use pads_rules::{Declared, ExprSort, Form};
 
 /// What a type name means where it stands.
 #[derive(Clone, Copy)]

@@ -9,12 +9,13 @@ use Rattle.pads_rules.specs.Faults.{breaks, least}
 use Rattle.pads_rules.specs.Violations.{violations}
 use Rattle.pads_syntax.specs.Trees.{IsTree, IsTreeFault, StandsAt, description}
 use Rattle.pads_syntax.proofs.TreeLaws as trees
-use Rattle.pads_syntax_decl.specs.Declarations.{decls}
-use Rattle.pads_syntax_decl.proofs.DeclDecides.{decls_ok}
-use Rattle.pads_verdicts.specs.declared.verdict.Verdict.{Verdict}
-use Rattle.pads_verdicts.specs.declared.verdict.Verdict.TheVariants as verdict
+use Rattle.pads_syntax.specs.Declarations.{decls}
+use Rattle.pads_syntax.proofs.DeclDecides.{decls_ok}
+use Rattle.pads_describe.specs.declared.verdict.Verdict.{Verdict}
+use Rattle.pads_describe.specs.declared.verdict.Verdict.TheVariants as verdict
 use Rattle.pads_code.specs.declared.Coding.{Coding}
-use Rattle.pads_trans.specs.Modules.{Contents, is_module}
+use Rattle.pads_calc.specs.Modules.{Contents}
+use Rattle.pads_trans.specs.Modules.{is_module}
 use Rattle.pads_describe.specs.Describing.{Describes, contents_in}
 use Rattle.pads_describe.specs.Trees.{HasTokens, HasTree, IsAccepted}
 use Rattle.pads_describe.specs.Verdicts.{IsLexical, IsSyntax, IsRule, IsRefused}

@@ -1,18 +1,19 @@
 -- What an accepted text describes is a module, well-sorted and plain.
 use Rattle.std.proofs.Common.{◌≡◌, ◌∙◌, sym, ap, refl, subst, ℕ, true, false, List}
-use Rattle.pads_accepted.proofs.Sorted.{well-sorted}
+use Rattle.law_descriptions.proofs.Sorted.{well-sorted}
 use Rattle.pads_ast.specs.declared.decl.Ast.{Ast}
 use Rattle.pads_code.specs.declared.Coding.{Coding}
 use Rattle.pads_resolution.specs.Resolution.{resolved}
-use Rattle.pads_resolved.specs.declared.decl.Description.{Description}
-use Rattle.pads_sorted.specs.Plain.{Plain}
-use Rattle.pads_sorted.specs.Sorted.{Sorted}
-use Rattle.pads_spelled.proofs.Whole.{tree-spelled}
-use Rattle.pads_trans.specs.Modules.{Contents, is_module, module_of}
-use Rattle.pads_well_sorted.proofs.Formed.{module-formed}
-use Rattle.pads_well_sorted.proofs.PlainTerms.{module-plain}
-use Rattle.pads_well_sorted.proofs.SortedTerms.{module-sorted}
-use Rattle.pads_well_sorted.specs.WellSorted.{WellSorted}
+use Rattle.pads_typed_tree.specs.declared.decl.Description.{Description}
+use Rattle.law_calculus.specs.Plain.{Plain}
+use Rattle.law_calculus.specs.Sorted.{Sorted}
+use Rattle.law_descriptions.proofs.SpelledWhole.{tree-spelled}
+use Rattle.pads_calc.specs.Modules.{Contents}
+use Rattle.pads_trans.specs.Modules.{is_module, module_of}
+use Rattle.law_descriptions.proofs.Formed.{module-formed}
+use Rattle.law_descriptions.proofs.PlainTerms.{module-plain}
+use Rattle.law_descriptions.proofs.SortedTerms.{module-sorted}
+use Rattle.law_descriptions.specs.WellSorted.{WellSorted}
 use Rattle.pads_describe.specs.Describing.{Describes, contents_in}
 use Rattle.pads_describe.specs.Trees.{IsAccepted}
 

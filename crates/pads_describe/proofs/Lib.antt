@@ -1,3 +1,5 @@
+pub mod Clean
+pub mod JoinedWords
 -- The lemmas of this crate.
 pub mod AnswerLaws
 pub mod Described

@@ -1,3 +1,5 @@
+pub mod Checked
+pub mod VerdictLines
 pub mod Answers
 pub mod Describing
 pub mod Trees

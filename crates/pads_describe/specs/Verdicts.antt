@@ -8,8 +8,8 @@ use Rattle.pads_lex.specs.declared.fault.LexKind.{LexKind}
 use Rattle.pads_rules.specs.Faults.{breaks, least}
 use Rattle.pads_rules.specs.Violations.{violations}
 use Rattle.pads_syntax.specs.Trees.{IsTreeFault, StandsAt}
-use Rattle.pads_verdicts.specs.declared.verdict.Verdict.{Verdict}
-use Rattle.pads_verdicts.specs.declared.verdict.Verdict.TheVariants as verdict
+use Rattle.pads_describe.specs.declared.verdict.Verdict.{Verdict}
+use Rattle.pads_describe.specs.declared.verdict.Verdict.TheVariants as verdict
 use Rattle.pads_describe.specs.Trees.{HasTokens, HasTree, longest}
 
 -- It first breaks the rules of tokens there, and so.

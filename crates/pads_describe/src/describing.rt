@@ -4,17 +4,17 @@ ghost use Rattle.std.specs.Prelude.{IfOk};
 ghost use Rattle.pads_describe.specs.Answers.{OnFault};
 ghost use Rattle.pads_describe.specs.Describing.{Describes};
 ghost use Rattle.pads_describe.specs.Verdicts.{IsRefused};
-ghost use Rattle.pads_sorted.specs.Plain.{Plain};
-ghost use Rattle.pads_sorted.specs.Sorted.{Sorted};
-ghost use Rattle.pads_trans.specs.Modules.{contents};
+ghost use Rattle.law_calculus.specs.Plain.{Plain};
+ghost use Rattle.law_calculus.specs.Sorted.{Sorted};
+ghost use Rattle.pads_calc.specs.Modules.{contents};
 
-use crate::accepting::checked;
 use crate::reading::tree_in;
+use crate::text_check::checked;
+use crate::verdict::Verdict;
 use pads_calc::Module;
 use pads_code::Coding;
 use pads_trans::translate;
 use pads_value::Refusal;
-use pads_verdicts::Verdict;
 use std::alloc::Global;
 
 /// The module of an accepted text whose data is in this coding, well-sorted and plain, or why it is refused. Every

@@ -6,10 +6,11 @@ ghost use Rattle.pads_describe.specs.Trees.{IsAccepted};
 ghost use Rattle.pads_code.specs.declared.Coding.{Coding};
 ghost use Rattle.pads_describe.specs.Describing.{Describes};
 ghost use Rattle.pads_describe.specs.Verdicts.{IsRefused};
-ghost use Rattle.pads_sorted.specs.Plain.{Plain};
-ghost use Rattle.pads_sorted.specs.Sorted.{Sorted};
-ghost use Rattle.pads_trans.specs.Modules.{Contents, is_module};
-ghost use Rattle.pads_verdicts.specs.declared.verdict.Verdict.{Verdict};
+ghost use Rattle.law_calculus.specs.Plain.{Plain};
+ghost use Rattle.law_calculus.specs.Sorted.{Sorted};
+ghost use Rattle.pads_calc.specs.Modules.{Contents};
+ghost use Rattle.pads_trans.specs.Modules.{is_module};
+ghost use Rattle.pads_describe.specs.declared.verdict.Verdict.{Verdict};
 
 /// Each text has at most one answer: it is accepted with one tree, or it is refused for one reason.
 pub fn each_text_has_one_answer()

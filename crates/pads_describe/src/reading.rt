@@ -6,11 +6,11 @@ ghost use Rattle.pads_describe.specs.Answers.{OnFault};
 ghost use Rattle.pads_describe.specs.Trees.{HasTokens, HasTree, longest};
 ghost use Rattle.pads_describe.specs.Verdicts.{IsRefused};
 
+use crate::verdict::Verdict;
 use pads_ast::Ast;
 use pads_lex::{Tokens, lex};
 use pads_syntax::parse;
 use pads_value::Refusal;
-use pads_verdicts::Verdict;
 use std::alloc::Global;
 
 /// The most bytes that a description may have.

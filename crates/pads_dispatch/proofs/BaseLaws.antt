@@ -1,21 +1,17 @@
 -- Base types read what they spell: each of their forms by its own law.
-use Rattle.std.proofs.Common.{zero, suc, nat_lt, ◌≡◌, ◌∙◌, ℕ, ℤ, pos, negsuc, ◌≤ℤ◌, ◌<◌, ◌≤◌, ◌+◌, List, length, take, replicate, Option, Some, None, refl, sym, ap, arith, length-append, ◌++◌, true, nat_eq, not, ◌&&◌}
+use Rattle.std.proofs.Common.{nat_lt, ◌≡◌, ℕ, ℤ, pos, negsuc, ◌≤ℤ◌, ◌≤◌, List, length, take, Option, Some, None, refl, sym, ap, arith}
 use Rattle.std.specs.Option.{IsSomeAnd, option_and_then}
 use Rattle.std.proofs.lemmas.Int.{ints}
-use Rattle.std.proofs.lemmas.Bool.{and_parts}
 use Rattle.pads_value.specs.declared.value.Val.{Val}
 use Rattle.pads_value.specs.declared.value.Val.TheVariants as val
-use Rattle.pads_value.specs.declared.reading.Read.{Read}
-use Rattle.pads_value.specs.declared.reading.Read.TheVariants.{Good, Soft, Hard}
+use Rattle.pads_value.specs.declared.reading.Read.TheVariants.{Good}
 use Rattle.pads_value.specs.declared.cause.Cause.TheVariants as cause
 use Rattle.pads_code.specs.declared.Coding.{Coding}
 use Rattle.pads_code.specs.CodePage.{points_of}
-use Rattle.pads_code.proofs.TextLemmas.{length-points}
-use Rattle.pads_int.specs.declared.kind.Kind.{Kind}
-use Rattle.pads_int.specs.Readings.{blank, int_reading, int_fw_reading}
+use Rattle.pads_int.specs.Readings.{int_reading, int_fw_reading}
 use Rattle.pads_int.specs.Spellings.{int_spelling, int_fw_spelling}
 use Rattle.pads_int.specs.Texts.{SpellsInt, SpellsIntFw}
-use Rattle.pads_int.proofs.LawLemmas.{int_within, int_spelled, int_canonical, int_reads_back, int_canonical_reads_back, int_fw_within, int_fw_spelled, int_fw_canonical, int_fw_reads_back, int_fw_canonical_reads_back}
+use Rattle.pads_int.proofs.LawLemmas.{int_spelled, int_canonical, int_reads_back, int_canonical_reads_back, int_fw_within, int_fw_spelled, int_fw_canonical, int_fw_reads_back, int_fw_canonical_reads_back}
 use Rattle.pads_bases.specs.Addresses.{ip_reading, ip_spelling, SpellsIp}
 use Rattle.pads_bases.specs.Binaries.{bin_reading, bin_spelling, SpellsBin}
 use Rattle.pads_bases.specs.Classes.{class_reading, class_spelling, SpellsClass}
@@ -31,23 +27,12 @@ use Rattle.pads_dispatch.specs.declared.base.Base.{Base}
 use Rattle.pads_dispatch.specs.Applied.{Applied, applied, integer, field, binary, until, fixed, class, char, address, labelled}
 use Rattle.pads_dispatch.specs.Conditions.{Holds, IsNarrow, HasNoStopOf, LabelsDiffer}
 use Rattle.pads_dispatch.specs.Kinds.{range_of}
-use Rattle.pads_dispatch.specs.Readings.{as_value, reading_of, reading_or_bad_param, base_reading}
+use Rattle.pads_dispatch.specs.Readings.{reading_of, reading_or_bad_param, base_reading}
 use Rattle.pads_dispatch.specs.Spellings.{number_of, text_of, label_of, spelling_of, base_spelling}
-use Rattle.pads_dispatch.specs.Texts.{Spelled, SpellsApplied, SpellsBase}
-use Rattle.pads_dispatch.proofs.Lifts.{lift_spelled, lift_reads_back, lift_canonical, lift_canonical_reads_back, lift_within}
+use Rattle.pads_dispatch.specs.Texts.{SpellsApplied, SpellsBase}
+use Rattle.pads_dispatch.proofs.Lifts.{lift_spelled, lift_reads_back, lift_canonical, lift_canonical_reads_back}
 use Rattle.pads_dispatch.proofs.Takes.{base-takes}
 use Rattle.pads_dispatch.proofs.Values.{number_of-Num, text_of-Text, label_of-Enum, is-Num, is-Text, is-Enum}
-
--- a field that spells an integer has a digit
-some_digit : (n : ℕ) → not (nat_eq n 0) ≡ true → 0 < n
-some_digit zero h = absurd cc
-some_digit (suc n) h = omega arith
-
-has_digits : (kind : Kind) (coding : Coding) (width v : ℤ) (bytes : List ℕ) → SpellsIntFw kind coding width v bytes → 0 < length bytes
-has_digits kind coding width v bytes spells =
-    let text = spells.integer in
-    let some : 0 < length text.digits = some_digit (length text.digits) (and_parts _ _ text.numeral).0 in
-    omega (arith, some, length-points coding bytes, ap length spells.parts, length-append (replicate spells.blanks blank) spells.text, ap length text.parts, length-append text.sign text.digits)
 
 fixed_width : (coding : Coding) (width : ℤ) (bytes : List ℕ) (n : ℕ) (v : List ℕ) → fixed_reading coding width bytes ≡ Good n v → width ≡ pos n
 unfolding fixed_reading
@@ -84,7 +69,7 @@ canonical (labelled coding labels) bytes n v _ e = lift_canonical val.Enum label
 
 pub reads_back : (whole : Applied) (v : Val) (bytes : List ℕ) → LabelsDiffer whole → SpellsApplied whole v bytes → reading_of whole bytes ≡ Good (length bytes) v
 reads_back (integer kind coding) v bytes _ spelled = lift_reads_back val.Num (SpellsInt kind coding) (int_reading kind coding bytes) (length bytes) v bytes (λ x. int_reads_back kind coding x bytes) spelled
-reads_back (field kind coding width) v bytes _ spelled = lift_reads_back val.Num (SpellsIntFw kind coding width) (int_fw_reading kind coding width bytes) (length bytes) v bytes (λ x spells. int_fw_reads_back kind coding width x bytes (has_digits kind coding width x bytes spells) spells) spelled
+reads_back (field kind coding width) v bytes _ spelled = lift_reads_back val.Num (SpellsIntFw kind coding width) (int_fw_reading kind coding width bytes) (length bytes) v bytes (λ x. int_fw_reads_back kind coding width x bytes) spelled
 reads_back (binary kind order size) v bytes _ spelled = lift_reads_back val.Num (SpellsBin (range_of kind) order size) (bin_reading (range_of kind) order size bytes) (length bytes) v bytes (λ x. bin_reads_back (range_of kind) order size x bytes) spelled
 reads_back (until coding stop) v bytes _ spelled = lift_reads_back val.Text (SpellsUntil coding stop) (until_reading coding stop bytes) (length bytes) v bytes (λ x. until_reads_back coding stop x bytes) spelled
 reads_back (fixed coding width) v bytes _ spelled = lift_reads_back val.Text (SpellsFixed coding width) (fixed_reading coding width bytes) (length bytes) v bytes (λ x. fixed_reads_back coding width x bytes) spelled

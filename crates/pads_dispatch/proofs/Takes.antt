@@ -1,7 +1,7 @@
 -- A base type takes no more bytes than there are.
-use Rattle.std.proofs.Common.{suc, not, Option, Some, None, ◌≡◌, ℕ, ◌+◌, ◌≤◌, Bool, true, false, if◌then◌else◌, ℤ, pos, negsuc, nat_lt, nat_eq, List, [], ◌∷◌, length, take, drop, map, refl, sym, ap, ◌∙◌, arith, length-drop, length-take}
+use Rattle.std.proofs.Common.{not, Option, Some, None, ◌≡◌, ℕ, ◌+◌, ◌≤◌, Bool, true, false, if◌then◌else◌, ℤ, pos, negsuc, nat_lt, nat_eq, List, [], ◌∷◌, length, take, drop, refl, arith, length-drop, length-take}
 use Rattle.std.specs.Char.{is_ascii_digit}
-use Rattle.std.specs.List.{prefix_len, take_while, list_all, position_or_len}
+use Rattle.std.specs.List.{prefix_len, take_while, position_or_len}
 use Rattle.std.proofs.lemmas.Grind.{common_steps}
 use Rattle.std.proofs.lemmas.Bool.{ltb-false}
 use Rattle.std.proofs.lemmas.List.{length-map}

@@ -1,5 +1,5 @@
 -- The number, text or label that a value is, and that only such a value is.
-use Rattle.std.proofs.Common.{◌≡◌, ◌∙◌, ℕ, ℤ, List, Option, Some, None, ap, sym}
+use Rattle.std.proofs.Common.{◌≡◌, ◌∙◌, ℕ, ℤ, List, Some, None, ap, sym}
 use Rattle.pads_value.specs.declared.value.Val.{Val, Val-F, out-Val, roll-Val, out-roll-Val, roll-out-Val}
 use Rattle.pads_value.specs.declared.value.Val.TheVariants as val
 use Rattle.pads_dispatch.specs.Spellings.{number_in, text_in, label_in, number_of, text_of, label_of}

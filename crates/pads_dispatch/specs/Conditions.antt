@@ -1,6 +1,6 @@
 -- On what the law that bases read what they spell depends: a field isn't too wide to be spelled, a text has
 -- no stop character, the spellings of an enum's labels differ.
-use Rattle.std.specs.Prelude.{◌≡◌, ℕ, ℤ, pos, ◌≤ℤ◌, List, Option, Some}
+use Rattle.std.specs.Prelude.{◌≡◌, ℕ, pos, ◌≤ℤ◌, List, Some}
 use Rattle.pads_value.specs.declared.value.Val.{Val}
 use Rattle.pads_value.specs.declared.value.Val.TheVariants as val
 use Rattle.pads_bases.specs.Enums.{SpellingsDiffer}

@@ -1,5 +1,5 @@
 -- Which bytes spell a value as a base type has it, by their form alone.
-use Rattle.std.specs.Prelude.{◌≡◌, ℕ, ℤ, pos, ◌≤ℤ◌, List, Option, Some}
+use Rattle.std.specs.Prelude.{◌≡◌, ℕ, List, Some}
 use Rattle.pads_value.specs.declared.value.Val.{Val}
 use Rattle.pads_value.specs.declared.value.Val.TheVariants as val
 use Rattle.pads_int.specs.Texts.{SpellsInt, SpellsIntFw}

@@ -1,10 +1,11 @@
-ghost use Rattle.std.specs.Prelude.{◌≡◌};
+ghost use Rattle.std.specs.Prelude.{◌≡◌, IfOk};
 ghost use Rattle.pads_dispatch.specs.Labels.{labels_fit as labels_fit_of};
 
-use pads_bases::{Labels, Order};
+use pads_bases::{Labels, Order, copy_labels};
 use pads_code::Coding;
 use pads_int::Kind;
-use pads_value::{Bytes, Items};
+use pads_value::{Bytes, Items, Memory};
+use std::alloc::Global;
 
 /// A base type of the language, without its arguments.
 #[derive(Debug, Drop)]
@@ -30,6 +31,28 @@ pub enum Base {
     Ip(Coding),
     /// One of these labels, by its spelling. No argument.
     Enum(Coding, Labels),
+}
+
+impl Base {
+    /// A base type equal to this one.
+    pub fn copy(&self, alloc: Global) -> Result<Base, Memory>
+        ensures equal { IfOk result (λ copied. copied ≡ self.now) }
+    {
+        Ok(match self {
+            Base::Int(kind, coding) => Base::Int(*kind, *coding),
+            Base::IntFw(kind, coding) => Base::IntFw(*kind, *coding),
+            Base::Bin(kind, order) => Base::Bin(*kind, *order),
+            Base::Until(coding) => Base::Until(*coding),
+            Base::UntilEor(coding) => Base::UntilEor(*coding),
+            Base::Fixed(coding) => Base::Fixed(*coding),
+            Base::Class(coding) => Base::Class(*coding),
+            Base::Char(coding) => Base::Char(*coding),
+            Base::Ip(coding) => Base::Ip(*coding),
+            Base::Enum(coding, labels) => {
+                Base::Enum(*coding, copy_labels(alloc, labels.as_slice())?)
+            }
+        })
+    }
 }
 
 /// What an argument of a base type or of a declaration stands for.

@@ -1,10 +1,13 @@
 -- The lemmas of this crate.
-pub mod Outputs
-pub mod Growing
-pub mod Waiting
-pub mod Refilling
-pub mod Progress
+pub mod Ahead
+pub mod Behind
 pub mod Blame
-pub mod ReadSteps
 pub mod Driven
+pub mod Growing
 pub mod Halting
+pub mod Outputs
+pub mod Progress
+pub mod ReadSteps
+pub mod Refilling
+pub mod Small
+pub mod Waiting

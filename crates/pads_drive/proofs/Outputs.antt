@@ -1,69 +1,75 @@
--- What is written for frames that follow each other, and for one more.
-use Rattle.std.proofs.Common.{◌≡◌, ℕ, ◌+◌, ◌<◌, Bool, true, false, ◌&&◌, List, [], ◌∷◌, ◌++◌, length, take, get_or, map, refl, sym, ap, ◌∙◌, append_assoc, append-nil, length-take, arith}
+-- The rows of frames that follow each other, what is written for them, and for one more.
+use Rattle.std.proofs.Common.{◌≡◌, ℕ, ◌+◌, ◌<◌, true, List, [], ◌∷◌, ◌++◌, length, take, drop, get_or, map, refl, sym, ap, subst, ◌∙◌, append_assoc, append-nil, take-append-drop, length-take, arith}
+use Rattle.std.proofs.lemmas.Grind.{flat_map-append}
 use Rattle.std.proofs.lemmas.List.{take_more, map-append, length-map}
 use Rattle.pads_value.specs.Cuts.{Cut, cut_of_kept}
 use Rattle.pads_value.specs.declared.frame.Kept.{Kept}
+use Rattle.pads_value.specs.declared.memory.Refusal.{Refusal}
+use Rattle.pads_value.specs.declared.memory.Refusal.TheVariants as refusal
+use Rattle.pads_drive.specs.Counting.{Refuses}
+use Rattle.pads_drive.specs.Outputs.{Work, Tallies, added, output_of, rows_of}
+use Rattle.pads_drive.specs.declared.limit.Limit.{Limit}
 use Rattle.pads_drive.specs.declared.output.Output.{Output}
-use Rattle.pads_drive.specs.Outputs.{written_for, are_clean, added, output_of}
 
-pub written_for-append : (line : ℕ → Cut → List ℕ) (number : ℕ) (xs ys : List Cut)
-    → written_for line number (xs ++ ys) ≡ written_for line number xs ++ written_for line (number + length xs) ys
-unfolding written_for
-written_for-append line number [] ys = ap (λ n. written_for line n ys) (omega arith)
-written_for-append line number (x ∷ xs) ys =
-    let rest = written_for-append line (number + 1) xs ys in
-    let count : number + 1 + length xs ≡ number + length (x ∷ xs) = omega arith in
-    ap (λ l. line number x ++ l) rest ∙ sym (append_assoc (line number x) (written_for line (number + 1) xs) (written_for line (number + 1 + length xs) ys))
-    ∙ ap (λ n. line number x ++ written_for line (number + 1) xs ++ written_for line n ys) count
+module _ {Row Tally : Type 0} (work : Work Row Tally) where
+  pub rows_of-append : (number : ℕ) (xs ys : List Cut) → rows_of work number (xs ++ ys) ≡ rows_of work number xs ++ rows_of work (number + length xs) ys
+  unfolding rows_of
+  rows_of-append number [] ys = ap (λ n. rows_of work n ys) (omega arith)
+  rows_of-append number (x ∷ xs) ys =
+      let rest = rows_of-append (number + 1) xs ys in
+      let count : number + 1 + length xs ≡ number + length (x ∷ xs) = omega arith in
+      ap (λ l. work.row number x ∷ l) rest ∙ ap (λ n. work.row number x ∷ rows_of work (number + 1) xs ++ rows_of work n ys) count
 
-pub &&-assoc : (a b c : Bool) → (a && (b && c)) ≡ ((a && b) && c)
-&&-assoc true b c = refl
-&&-assoc false b c = refl
+  pub rows_of-none : (number : ℕ) → rows_of work number [] ≡ []
+  unfolding rows_of
+  rows_of-none number = refl
 
-pub are_clean-append : (clean : ℕ → Cut → Bool) (number : ℕ) (xs ys : List Cut)
-    → are_clean clean number (xs ++ ys) ≡ (are_clean clean number xs && are_clean clean (number + length xs) ys)
-unfolding are_clean
-are_clean-append clean number [] ys = ap (λ n. are_clean clean n ys) (omega arith)
-are_clean-append clean number (x ∷ xs) ys =
-    let rest = are_clean-append clean (number + 1) xs ys in
-    let count : number + 1 + length xs ≡ number + length (x ∷ xs) = omega arith in
-    ap (λ b. clean number x && b) rest ∙ &&-assoc (clean number x) _ _ ∙ ap (λ n. (clean number x && are_clean clean (number + 1) xs) && are_clean clean n ys) count
+  rows_of-one : (number : ℕ) (cut : Cut) → rows_of work number (cut ∷ []) ≡ work.row number cut ∷ []
+  unfolding rows_of
+  rows_of-one number cut = refl
 
-written_for-one : (line : ℕ → Cut → List ℕ) (number : ℕ) (cut : Cut) → written_for line number (cut ∷ []) ≡ line number cut
-unfolding written_for
-written_for-one line number cut = append-nil (line number cut)
-
-pub &&-true : (a : Bool) → (a && true) ≡ a
-&&-true true = refl
-&&-true false = refl
-
-are_clean-one : (clean : ℕ → Cut → Bool) (number : ℕ) (cut : Cut) → are_clean clean number (cut ∷ []) ≡ clean number cut
-unfolding are_clean
-are_clean-one clean number cut = &&-true (clean number cut)
-
-module _ (out notes : ℕ → Cut → List ℕ) (clean : ℕ → Cut → Bool) where
-  pub output_of-none : (number : ℕ) → output_of out notes clean number [] ≡ record { out = []; notes = []; clean = true }
-  unfolding written_for are_clean
-  output_of-none number = refl
-
-  -- one frame more
-  pub output_of-more : (number : ℕ) (cuts : List Cut) (cut : Cut) → output_of out notes clean number (cuts ++ cut ∷ []) ≡ added out notes clean (number + length cuts) cut (output_of out notes clean number cuts)
-  output_of-more number cuts cut =
-      rw (
-        written_for-append out number cuts (cut ∷ []),
-        written_for-append notes number cuts (cut ∷ []),
-        are_clean-append clean number cuts (cut ∷ []),
-        written_for-one out (number + length cuts) cut,
-        written_for-one notes (number + length cuts) cut,
-        are_clean-one clean (number + length cuts) cut,
-      ) refl
-
-  -- one frame of a batch more
-  pub batch-more : (number next i : ℕ) (frames : List Kept) (kept : Kept) (cut : Cut) (old new : Output) → i < length frames → kept ≡ get_or frames i kept → next ≡ number + i
-      → cut ≡ cut_of_kept kept → old ≡ output_of out notes clean number (map cut_of_kept (take i frames)) → new ≡ added out notes clean next cut old
-      → new ≡ output_of out notes clean number (map cut_of_kept (take (i + 1) frames))
-  batch-more number next i frames kept cut old new within is counted same before e =
+  -- One frame of a batch more, for a command that makes rows one by one.
+  pub rows-more : (number next i : ℕ) (frames : List Kept) (kept : Kept) (cut : Cut) (old new : List Row) (row : Row) → i < length frames → kept ≡ get_or frames i kept → next ≡ number + i
+      → cut ≡ cut_of_kept kept → old ≡ rows_of work number (map cut_of_kept (take i frames)) → row ≡ work.row next cut → new ≡ old ++ row ∷ [] → new ≡ rows_of work number (map cut_of_kept (take (i + 1) frames))
+  rows-more number next i frames kept cut old new row within is counted same before made e =
       let taken : take (i + 1) frames ≡ take i frames ++ kept ∷ [] = take_more frames i kept within ∙ ap (λ k. take i frames ++ k ∷ []) (sym is) in
       let cuts : map cut_of_kept (take (i + 1) frames) ≡ map cut_of_kept (take i frames) ++ cut ∷ [] = rw (taken, map-append, same) refl in
       let count : length (map cut_of_kept (take i frames)) ≡ i = rw (length-map, length-take) (omega arith) in
-      rw (e, before, cuts, output_of-more number (map cut_of_kept (take i frames)) cut, count, counted) refl
+      rw (e, before, cuts, rows_of-append number (map cut_of_kept (take i frames)) (cut ∷ []), count, rows_of-one, made, counted) refl
+
+  -- no frame is like no frame behind the rows before
+  pub tallies-none : (before : List Row) (number : ℕ) (old new : Tally) → new ≡ old → Tallies work before old → Tallies work (before ++ rows_of work number []) new
+  tallies-none before number old new same t = rw (same, rows_of-none number, append-nil before) t
+
+  -- the row at a place of a batch, behind those before it
+  front_more : (i : ℕ) (rows : List Row) (row : Row) → i < length rows → row ≡ get_or rows i row → take (i + 1) rows ≡ take i rows ++ row ∷ []
+  front_more i rows row within is = take_more rows i row within ∙ ap (λ r. take i rows ++ r ∷ []) (sym is)
+
+  pub output-more : (i : ℕ) (rows : List Row) (row : Row) (old new : Output) → i < length rows → row ≡ get_or rows i row → old ≡ output_of work (take i rows) → new ≡ added work row old
+      → new ≡ output_of work (take (i + 1) rows)
+  output-more i rows row old new within is before e =
+      let front = front_more i rows row within is in
+      rw (e, before, front, flat_map-append work.out (take i rows) (row ∷ []), flat_map-append work.notes (take i rows) (row ∷ []), append-nil (work.out row), append-nil (work.notes row)) refl
+
+  -- a row more is counted
+  pub tally-more : (i : ℕ) (rows : List Row) (row : Row) (start old new : Tally) → i < length rows → row ≡ get_or rows i row
+      → ((before : List Row) → Tallies work before start → Tallies work (before ++ take i rows) old) → ((before : List Row) → Tallies work before old → Tallies work (before ++ row ∷ []) new)
+      → (before : List Row) → Tallies work before start → Tallies work (before ++ take (i + 1) rows) new
+  tally-more i rows row start old new within is so_far more before t =
+      let step = more (before ++ take i rows) (so_far before t) in
+      subst (λ l. Tallies work l new) (append_assoc before (take i rows) (row ∷ []) ∙ ap (λ l. before ++ l) (sym (front_more i rows row within is))) step
+
+  -- a row more is too many, and so are all of them
+  over-more : ((rows more : List Row) → work.is_over rows ≡ true → work.is_over (rows ++ more) ≡ true) → (i : ℕ) (rows : List Row) (row : Row) → i < length rows → row ≡ get_or rows i row
+      → (before : List Row) → work.is_over ((before ++ take i rows) ++ row ∷ []) ≡ true → work.is_over (before ++ rows) ≡ true
+  over-more stays i rows row within is before over =
+      let front : (before ++ take i rows) ++ row ∷ [] ≡ before ++ take (i + 1) rows = append_assoc before (take i rows) (row ∷ []) ∙ ap (λ l. before ++ l) (sym (front_more i rows row within is)) in
+      let all : (before ++ take (i + 1) rows) ++ drop (i + 1) rows ≡ before ++ rows = append_assoc before (take (i + 1) rows) (drop (i + 1) rows) ∙ ap (λ l. before ++ l) (take-append-drop (i + 1) rows) in
+      subst (λ l. work.is_over l ≡ true) all (stays (before ++ take (i + 1) rows) (drop (i + 1) rows) (subst (λ l. work.is_over l ≡ true) front over))
+
+  -- a row was refused, and so is the batch
+  pub refused-more : ((rows more : List Row) → work.is_over rows ≡ true → work.is_over (rows ++ more) ≡ true) → (i : ℕ) (rows : List Row) (row : Row) (start old : Tally) → i < length rows
+      → row ≡ get_or rows i row → ((before : List Row) → Tallies work before start → Tallies work (before ++ take i rows) old) → (r : Refusal Limit)
+      → ((before : List Row) → Tallies work before old → Refuses work before (row ∷ []) r) → (before : List Row) → Tallies work before start → Refuses work before rows r
+  refused-more stays i rows row start old within is so_far (refusal.Fault limit) gives before t = over-more stays i rows row within is before (gives (before ++ take i rows) (so_far before t))
+  refused-more stays i rows row start old within is so_far refusal.Memory gives before t = tt

@@ -1,34 +1,70 @@
 -- Progress over two stretches of time is progress.
-use Rattle.std.proofs.Common.{◌≡◌, ℕ, ◌+◌, Bool, false, Option, List, [], ◌∷◌, ◌++◌, length, refl, sym, ap, ◌∙◌, append_assoc, length-append, arith}
+use Rattle.std.proofs.Common.{◌≡◌, ℕ, ◌+◌, Bool, true, false, Option, List, [], ◌∷◌, ◌++◌, length, refl, sym, ap, subst, ◌∙◌, append_assoc, length-append, arith}
 use Rattle.std.proofs.lemmas.Bool.{true≢false}
+use Rattle.std.proofs.lemmas.Grind.{flat_map-append}
 use Rattle.std.proofs.KnownBytes.{Appends-nil, Appends-trans}
+use Rattle.std.specs.List.{flat_map}
 use Rattle.pads_value.specs.Cuts.{Cut}
 use Rattle.pads_frame.specs.State.{MayCome, reach, rest}
 use Rattle.pads_drive.specs.declared.output.Output.{Output}
-use Rattle.pads_drive.specs.Outputs.{are_clean, output_of, written_for}
+use Rattle.pads_drive.specs.declared.stop.Stop.{Stop}
+use Rattle.pads_drive.specs.declared.stop.Stop.TheVariants as stop
+use Rattle.pads_drive.specs.Outputs.{Work, Tallies, output_of, rows_of}
+use Rattle.pads_drive.specs.Stopping.{AtLimit, AtSink}
 use Rattle.pads_drive.specs.Writing.{Grows, GrowsPrefix}
 use Rattle.pads_drive.specs.Driving.{Collects}
 use Rattle.pads_drive.specs.Progress.{Moment, Progresses, Stops}
 use Rattle.pads_drive.proofs.Growing.{AppendsPrefix-after}
-use Rattle.pads_drive.proofs.Outputs.{written_for-append, are_clean-append, &&-assoc, &&-true}
+use Rattle.pads_drive.proofs.Outputs.{rows_of-append, tallies-none}
 
-module _ (out notes : ℕ → Cut → List ℕ) (clean : ℕ → Cut → Bool) where
-  grows-trans : (o o' o'' n n' n'' : Option (List ℕ)) (number next : ℕ) (xs ys : List Cut) → next ≡ number + length xs → Grows o o' n n' (output_of out notes clean number xs)
-      → Grows o' o'' n' n'' (output_of out notes clean next ys) → Grows o o'' n n'' (output_of out notes clean number (xs ++ ys))
+pub at-limit-map : (P Q : Type 0) (s : Stop) → (P → Q) → AtLimit P s → AtLimit Q s
+at-limit-map P Q stop.Limit f p = f p
+at-limit-map P Q stop.Out f p = tt
+at-limit-map P Q stop.Notes f p = tt
+at-limit-map P Q stop.Memory f p = tt
+
+pub at-sink-map : (P Q : Type 0) (s : Stop) → (P → Q) → AtSink P s → AtSink Q s
+at-sink-map P Q stop.Out f p = f p
+at-sink-map P Q stop.Notes f p = f p
+at-sink-map P Q stop.Limit f p = tt
+at-sink-map P Q stop.Memory f p = tt
+
+pub at-sink : (P : Type 0) (s : Stop) → P → AtSink P s
+at-sink P stop.Out p = p
+at-sink P stop.Notes p = p
+at-sink P stop.Limit p = tt
+at-sink P stop.Memory p = tt
+
+module _ {Row Tally : Type 0} (work : Work Row Tally) where
+  -- the rows of two stretches
+  both-rows : (number next : ℕ) (xs ys : List Cut) → next ≡ number + length xs → rows_of work number (xs ++ ys) ≡ rows_of work number xs ++ rows_of work next ys
+  both-rows number next xs ys e = rows_of-append work number xs ys ∙ ap (λ n. rows_of work number xs ++ rows_of work n ys) (sym e)
+
+  written : (line : Row → List ℕ) (number next : ℕ) (xs ys : List Cut) → next ≡ number + length xs
+      → flat_map line (rows_of work number (xs ++ ys)) ≡ flat_map line (rows_of work number xs) ++ flat_map line (rows_of work next ys)
+  written line number next xs ys e = ap (flat_map line) (both-rows number next xs ys e) ∙ flat_map-append line (rows_of work number xs) (rows_of work next ys)
+
+  grows-trans : (o o' o'' n n' n'' : Option (List ℕ)) (number next : ℕ) (xs ys : List Cut) → next ≡ number + length xs → Grows o o' n n' (output_of work (rows_of work number xs))
+      → Grows o' o'' n' n'' (output_of work (rows_of work next ys)) → Grows o o'' n n'' (output_of work (rows_of work number (xs ++ ys)))
   grows-trans o o' o'' n n' n'' number next xs ys e p q = record {
-    out_grows = rw (written_for-append out number xs ys, ← e) (Appends-trans o o' o'' _ _ p.out_grows q.out_grows);
-    notes_grow = rw (written_for-append notes number xs ys, ← e) (Appends-trans n n' n'' _ _ p.notes_grow q.notes_grow);
+    out_grows = rw (written work.out number next xs ys e) (Appends-trans o o' o'' _ _ p.out_grows q.out_grows);
+    notes_grow = rw (written work.notes number next xs ys e) (Appends-trans n n' n'' _ _ p.notes_grow q.notes_grow);
   }
 
-  grows-prefix : (o o' o'' n n' n'' : Option (List ℕ)) (number next : ℕ) (xs ys : List Cut) → next ≡ number + length xs → Grows o o' n n' (output_of out notes clean number xs)
-      → GrowsPrefix o' o'' n' n'' (output_of out notes clean next ys) → GrowsPrefix o o'' n n'' (output_of out notes clean number (xs ++ ys))
+  grows-prefix : (o o' o'' n n' n'' : Option (List ℕ)) (number next : ℕ) (xs ys : List Cut) → next ≡ number + length xs → Grows o o' n n' (output_of work (rows_of work number xs))
+      → GrowsPrefix o' o'' n' n'' (output_of work (rows_of work next ys)) → GrowsPrefix o o'' n n'' (output_of work (rows_of work number (xs ++ ys)))
   grows-prefix o o' o'' n n' n'' number next xs ys e p q = record {
-    out_grows = rw (written_for-append out number xs ys, ← e) (AppendsPrefix-after o o' o'' _ _ p.out_grows q.out_grows);
-    notes_grow = rw (written_for-append notes number xs ys, ← e) (AppendsPrefix-after n n' n'' _ _ p.notes_grow q.notes_grow);
+    out_grows = rw (written work.out number next xs ys e) (AppendsPrefix-after o o' o'' _ _ p.out_grows q.out_grows);
+    notes_grow = rw (written work.notes number next xs ys e) (AppendsPrefix-after n n' n'' _ _ p.notes_grow q.notes_grow);
   }
 
-  pub progresses-trans : (o o' o'' n n' n'' : Option (List ℕ)) (a b c : Moment) (xs ys : List ℕ) → Progresses out notes clean o o' n n' a b xs
-      → Progresses out notes clean o' o'' n' n'' b c ys → Progresses out notes clean o o'' n n'' a c (xs ++ ys)
+  -- the rows of two stretches, behind those before them
+  behind : (before : List Row) (number next : ℕ) (xs ys : List Cut) → next ≡ number + length xs
+      → (before ++ rows_of work number xs) ++ rows_of work next ys ≡ before ++ rows_of work number (xs ++ ys)
+  behind before number next xs ys e = append_assoc before (rows_of work number xs) (rows_of work next ys) ∙ ap (λ l. before ++ l) (sym (both-rows number next xs ys e))
+
+  pub progresses-trans : (o o' o'' n n' n'' : Option (List ℕ)) (a b c : Moment Tally) (xs ys : List ℕ) → Progresses work o o' n n' a b xs
+      → Progresses work o' o'' n' n'' b c ys → Progresses work o o'' n n'' a c (xs ++ ys)
   progresses-trans o o' o'' n n' n'' a b c xs ys p q = record {
     frames = p.frames ++ q.frames;
     owed = λ ended more may.
@@ -39,13 +75,13 @@ module _ (out notes : ℕ → Cut → List ℕ) (clean : ℕ → Cut → Bool) w
     later = omega (arith, p.later, q.later, length-append p.frames q.frames);
     grown = grows-trans o o' o'' n n' n'' a.number b.number p.frames q.frames p.counted p.grown q.grown;
     counted = omega (arith, p.counted, q.counted, length-append p.frames q.frames);
-    clean_is = q.clean_is ∙ rw (p.clean_is, p.counted, are_clean-append clean a.number p.frames q.frames) (sym (&&-assoc a.clean _ _));
+    tallied = λ before t. subst (λ l. Tallies work l c.tally) (behind before a.number b.number p.frames q.frames p.counted) (q.tallied (before ++ rows_of work a.number p.frames) (p.tallied before t));
   }
 
-  pub stops-after : (o o' o'' n n' n'' : Option (List ℕ)) (a b : Moment) (xs ys : List ℕ) (MayFollow : Bool → List ℕ → Type 0)
-      → ((ended : Bool) (more : List ℕ) → MayFollow ended more → MayCome b.framer ended (ys ++ more)) → Progresses out notes clean o o' n n' a b xs
-      → Stops out notes clean o' o'' n' n'' b ys MayFollow → Stops out notes clean o o'' n n'' a (xs ++ ys) MayFollow
-  stops-after o o' o'' n n' n'' a b xs ys MayFollow may p q = record {
+  pub stops-after : (o o' o'' n n' n'' : Option (List ℕ)) (a b : Moment Tally) (xs ys : List ℕ) (MayFollow : Bool → List ℕ → Type 0) (s : Stop)
+      → ((ended : Bool) (more : List ℕ) → MayFollow ended more → MayCome b.framer ended (ys ++ more)) → Progresses work o o' n n' a b xs
+      → Stops work o' o'' n' n'' b ys MayFollow s → Stops work o o'' n n'' a (xs ++ ys) MayFollow s
+  stops-after o o' o'' n n' n'' a b xs ys MayFollow s may p q = record {
     frames = p.frames ++ q.frames;
     first = λ ended more follows. let (others, e) = q.first ended more follows in (
       others,
@@ -53,16 +89,17 @@ module _ (out notes : ℕ → Cut → List ℕ) (clean : ℕ → Cut → Bool) w
           ∙ ap (λ l. p.frames ++ l) e ∙ sym (append_assoc p.frames q.frames others),
     );
     grown = grows-prefix o o' o'' n n' n'' a.number b.number p.frames q.frames p.counted p.grown q.grown;
+    over = at-limit-map _ _ s (λ over before t. subst (λ l. work.is_over l ≡ true) (behind before a.number b.number p.frames q.frames p.counted) (over (before ++ rows_of work a.number p.frames) (p.tallied before t))) q.over;
   }
 
   -- the same where less may follow
-  pub stops-when : (o o' n n' : Option (List ℕ)) (m : Moment) (bytes : List ℕ) (F G : Bool → List ℕ → Type 0) → ((ended : Bool) (more : List ℕ) → G ended more → F ended more)
-      → Stops out notes clean o o' n n' m bytes F → Stops out notes clean o o' n n' m bytes G
-  stops-when o o' n n' m bytes F G f p = record { frames = p.frames; first = λ ended more follows. p.first ended more (f ended more follows); grown = p.grown }
+  pub stops-when : (o o' n n' : Option (List ℕ)) (m : Moment Tally) (bytes : List ℕ) (F G : Bool → List ℕ → Type 0) (s : Stop) → ((ended : Bool) (more : List ℕ) → G ended more → F ended more)
+      → Stops work o o' n n' m bytes F s → Stops work o o' n n' m bytes G s
+  stops-when o o' n n' m bytes F G s f p = record { frames = p.frames; first = λ ended more follows. p.first ended more (f ended more follows); grown = p.grown; over = p.over }
 
   -- nothing happened
-  pub progresses-same : (o n : Option (List ℕ)) (m : Moment) → Progresses out notes clean o o n n m m []
-  unfolding written_for are_clean
+  pub progresses-same : (o n : Option (List ℕ)) (m : Moment Tally) → Progresses work o o n n m m []
+  unfolding rows_of
   progresses-same o n m = record {
     frames = [];
     owed = λ ended more may. refl;
@@ -71,14 +108,14 @@ module _ (out notes : ℕ → Cut → List ℕ) (clean : ℕ → Cut → Bool) w
     later = omega arith;
     grown = record { out_grows = Appends-nil o; notes_grow = Appends-nil n };
     counted = omega arith;
-    clean_is = sym (&&-true m.clean);
+    tallied = λ before t. tallies-none work before m.number m.tally m.tally refl t;
   }
 
   -- frames were collected
-  pub progresses-collected : (o n : Option (List ℕ)) (a b : Moment) → b.number ≡ a.number → b.clean ≡ a.clean → Collects a.framer b.framer a.waiting b.waiting
-      → Progresses out notes clean o o n n a b []
-  unfolding written_for are_clean
-  progresses-collected o n a b number clean_same p =
+  pub progresses-collected : (o n : Option (List ℕ)) (a b : Moment Tally) → b.number ≡ a.number → b.tally ≡ a.tally → Collects a.framer b.framer a.waiting b.waiting
+      → Progresses work o o n n a b []
+  unfolding rows_of
+  progresses-collected o n a b number tally_same p =
       let may_before = λ (ended : Bool) (more : List ℕ) (may : MayCome b.framer ended more). let before : MayCome a.framer ended more = λ e. may (p.input.ended ∙ e) in before in
       record {
         frames = [];
@@ -88,15 +125,15 @@ module _ (out notes : ℕ → Cut → List ℕ) (clean : ℕ → Cut → Bool) w
         later = omega (arith, p.later);
         grown = record { out_grows = Appends-nil o; notes_grow = Appends-nil n };
         counted = omega (arith, number);
-        clean_is = clean_same ∙ sym (&&-true a.clean);
+        tallied = λ before t. tallies-none work before a.number a.tally b.tally tally_same t;
       }
 
   -- the framer took bytes, or learned of the end
-  pub progresses-framer : (o n : Option (List ℕ)) (a b : Moment) (bytes : List ℕ) → b.number ≡ a.number → b.clean ≡ a.clean → b.waiting ≡ a.waiting → a.framer.ended ≡ false
+  pub progresses-framer : (o n : Option (List ℕ)) (a b : Moment Tally) (bytes : List ℕ) → b.number ≡ a.number → b.tally ≡ a.tally → b.waiting ≡ a.waiting → a.framer.ended ≡ false
       → ((ended : Bool) (more : List ℕ) → rest ended b.framer more ≡ rest ended a.framer (bytes ++ more)) → reach b.framer ≡ reach a.framer + length bytes
-      → b.framer.first ≡ a.framer.first → Progresses out notes clean o o n n a b bytes
-  unfolding written_for are_clean
-  progresses-framer o n a b bytes number clean_same waiting still owed reaches first = record {
+      → b.framer.first ≡ a.framer.first → Progresses work o o n n a b bytes
+  unfolding rows_of
+  progresses-framer o n a b bytes number tally_same waiting still owed reaches first = record {
     frames = [];
     owed = λ ended more may. rw (owed ended more, waiting) refl;
     may = λ ended more may e. absurd (true≢false (sym e ∙ still));
@@ -104,29 +141,40 @@ module _ (out notes : ℕ → Cut → List ℕ) (clean : ℕ → Cut → Bool) w
     later = rw waiting (omega (arith, first));
     grown = record { out_grows = Appends-nil o; notes_grow = Appends-nil n };
     counted = omega (arith, number);
-    clean_is = clean_same ∙ sym (&&-true a.clean);
+    tallied = λ before t. tallies-none work before a.number a.tally b.tally tally_same t;
   }
 
-  -- nothing was written
-  pub stops-unwritten : (o n : Option (List ℕ)) (m : Moment) → Stops out notes clean o o n n m [] (MayCome m.framer)
-  unfolding written_for
+  -- nothing was written, and no limit was met
+  pub stops-unwritten : (o n : Option (List ℕ)) (m : Moment Tally) → Stops work o o n n m [] (MayCome m.framer) stop.Memory
+  unfolding rows_of
   stops-unwritten o n m = record {
     frames = [];
     first = λ ended more may. (m.waiting ++ rest ended m.framer more, refl);
     grown = record { out_grows = (0, Appends-nil o); notes_grow = (0, Appends-nil n) };
+    over = tt;
+  }
+
+  -- nothing was written, and the frames that wait can't be counted
+  pub stops-over : (o n : Option (List ℕ)) (m : Moment Tally) (rows : List Row) → rows ≡ rows_of work m.number m.waiting
+      → ((before : List Row) → Tallies work before m.tally → work.is_over (before ++ rows) ≡ true) → Stops work o o n n m [] (MayCome m.framer) stop.Limit
+  stops-over o n m rows is over = record {
+    frames = m.waiting;
+    first = λ ended more may. (rest ended m.framer more, refl);
+    grown = record { out_grows = (0, Appends-nil o); notes_grow = (0, Appends-nil n) };
+    over = λ before t. subst (λ l. work.is_over (before ++ l) ≡ true) is (over before t);
   }
 
   -- a prefix of the output for the frames that wait was written
-  pub stops-waiting : (o o' n n' : Option (List ℕ)) (m : Moment) (output : Output) → output ≡ output_of out notes clean m.number m.waiting → GrowsPrefix o o' n n' output
-      → Stops out notes clean o o' n n' m [] (MayCome m.framer)
-  stops-waiting o o' n n' m output e p = record {
+  pub stops-waiting : (o o' n n' : Option (List ℕ)) (m : Moment Tally) (rows : List Row) (output : Output) (s : Stop) → rows ≡ rows_of work m.number m.waiting → output ≡ output_of work rows
+      → GrowsPrefix o o' n n' output → AtLimit ⊥ s → Stops work o o' n n' m [] (MayCome m.framer) s
+  stops-waiting o o' n n' m rows output s is e p none = record {
     frames = m.waiting;
     first = λ ended more may. (rest ended m.framer more, refl);
-    grown = rw e at p;
+    grown = rw (e, is) at p;
+    over = at-limit-map _ _ s (λ no. absurd no) none;
   }
 
--- a command that notes nothing leaves no notes
-pub written_for-nothing : (line : ℕ → Cut → List ℕ) (number : ℕ) (cuts : List Cut) → ((n : ℕ) (cut : Cut) → line n cut ≡ []) → written_for line number cuts ≡ []
-unfolding written_for
-written_for-nothing line number [] none = refl
-written_for-nothing line number (cut ∷ cuts) none = rw (none number cut, written_for-nothing line (number + 1) cuts none) refl
+-- where nothing is noted for a row, nothing is for many
+pub flat_map-nothing : {Row : Type 0} (line : Row → List ℕ) (rows : List Row) → ((row : Row) → line row ≡ []) → flat_map line rows ≡ []
+flat_map-nothing line [] none = refl
+flat_map-nothing line (row ∷ rows) none = rw (none row, flat_map-nothing line rows none) refl

@@ -1,3 +1,5 @@
+pub mod Ahead
+pub mod Counting
 pub mod Drives
 pub mod Driving
 pub mod Ends

@@ -1,8 +1,22 @@
--- When the reading of an input may stop for a sink.
-use Rattle.std.specs.Prelude.{◌≡◌, ◌≢◌, ℕ, ◌≤◌, Result, Err}
+-- When the reading of an input may stop, and for what.
+use Rattle.std.specs.Prelude.{◌≡◌, ◌≢◌, ℕ, ◌≤◌, Result, Err, ⊤}
 use Rattle.pads_io.specs.Faults.{Rose}
 use Rattle.pads_drive.specs.declared.stop.Stop.{Stop}
 use Rattle.pads_drive.specs.declared.stop.Stop.TheVariants as stop
+
+-- this, where a sink failed
+abbrev pub AtSink : Type 0 → Stop → Type 0
+AtSink P stop.Out = P
+AtSink P stop.Notes = P
+AtSink P stop.Memory = ⊤
+AtSink P stop.Limit = ⊤
+
+-- this, where a limit was met
+abbrev pub AtLimit : Type 0 → Stop → Type 0
+AtLimit P stop.Limit = P
+AtLimit P stop.Out = ⊤
+AtLimit P stop.Notes = ⊤
+AtLimit P stop.Memory = ⊤
 
 -- No count fell. A sink is blamed only where its count rose, the notes only where there was something to write on them,
 -- and a sink that isn't blamed has counted no failure.

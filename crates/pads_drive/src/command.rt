@@ -1,53 +1,68 @@
-ghost use Rattle.std.specs.Prelude.{◌≡◌, ℕ, ◌+◌, ◌<◌, ◌^◌, Bool, List, length, map, IfOk, OnOk};
-ghost use Rattle.pads_value.specs.Cuts.{Cut, cut_of_frame, cut_of_kept};
-ghost use Rattle.pads_drive.specs.Outputs.{added, output_of};
+ghost use Rattle.std.specs.Prelude.{◌≡◌, ◌+◌, ◌<◌, ◌^◌, [], ◌∷◌, ◌++◌, List, true, length, map, IfOk, OnOk};
+ghost use Rattle.pads_value.specs.Cuts.{cut_of_kept};
+ghost use Rattle.pads_drive.specs.Counting.{Counts};
+ghost use Rattle.pads_drive.specs.Outputs.{Work, Tallies, added, output_of, rows_of};
 
+use crate::limit::Limit;
 use crate::output::Output;
-use pads_value::{Frame, Kept, Memory};
+use pads_value::{Items, Kept, Memory, Refusal};
 use std::alloc::Global;
 
-/// What is done with the records of an input: what is written for each of them on the sinks `out` and
-/// notes, and which of them are clean. All of it follows from the record's number, counted from 0, and
-/// its frame, whose offsets are bytes in the whole input. What came before makes no difference.
+/// What is done with the records of an input, in two steps: the rows of a batch are made, and then for
+/// each row it is said what is written on the sinks `out` and notes, and what the row adds to a tally,
+/// by which a command learns of all rows, as whether each is clean. A row follows from its record's
+/// number, counted from 0, and its frame, whose offsets are bytes in the whole input; what is written
+/// for it follows from the row; and the tally from the list of all rows.
 pub trait Command {
-    // What is written on `out`, and on the notes, for the record of a number in a frame.
-    ghost out: { Self → ℕ → Cut → List ℕ };
+    /// What a record reads as.
+    type Row: Drop;
 
-    ghost notes: { Self → ℕ → Cut → List ℕ };
+    /// What is counted over all rows.
+    type Tally: Drop;
 
-    // Whether that record is clean.
-    ghost is_clean: { Self → ℕ → Cut → Bool };
+    // All that the command does, as plain data.
+    ghost work: { Self → Work Self.Row Self.Tally };
 
-    /// Puts what is to be written for a record behind the output, which stays clean where the record
-    /// is. Where there is no memory, the reading stops and nothing of the output is written, so no
-    /// clause says what then stands in it.
-    fn add(
+    /// The rows of the records in these frames, the first of which has this number.
+    fn read(&self, alloc: Global, number: u64, frames: &[Kept]) -> Result<Items<Self::Row>, Memory>
+        requires numbered { number + length frames.now < 2 ^ 64 }
+        ensures rows { IfOk result (λ rows. rows ≡ rows_of (work self.now) number (map cut_of_kept frames.now)) };
+
+    /// Puts what is to be written for a row behind the output, and counts it. `Limit` comes exactly
+    /// where the tally can't count it beside the rows before it. Where the call refuses, the reading
+    /// stops and nothing of the output is written, so no clause says what then stands in it.
+    fn give(
         &self,
         alloc: Global,
-        number: u64,
-        frame: &Frame<'_>,
+        row: &Self::Row,
         output: &mut Output,
-    ) -> Result<(), Memory>
-        ensures ok { OnOk result (output.new ≡ added (out self.now) (notes self.now) (is_clean self.now)
-            number (cut_of_frame frame.now) output.old) };
+        tally: &mut Self::Tally,
+    ) -> Result<(), Refusal<Limit>>
+        ensures output { OnOk result (output.new ≡ added (work self.now) row.now output.old) }
+        ensures tally { (before : List Self.Row) → Tallies (work self.now) before tally.old
+            → Counts (work self.now) before (row.now ∷ []) tally.new result };
+
+    // Rows that the tally can't count aren't counted with more behind them.
+    ghost stays_over: { (command : Self) (rows more : List Self.Row) → (work command).is_over rows ≡ true
+        → (work command).is_over (rows ++ more) ≡ true };
 }
 
-/// What is to be written for the records in these frames, the first of which has this number.
-pub(crate) fn read_batch<C: Command>(
+/// What is to be written for these rows, which the tally counts behind the rows before them.
+pub(crate) fn give_batch<C: Command>(
     command: &C,
     alloc: Global,
-    number: u64,
-    frames: &[Kept],
-) -> Result<Output, Memory>
-    requires { number + length frames.now < 2 ^ 64 }
-    ensures output { IfOk result (λ output. output ≡ output_of (C.out command.now) (C.notes command.now)
-        (C.is_clean command.now) number (map cut_of_kept frames.now)) }
+    rows: &[C::Row],
+    tally: &mut C::Tally,
+) -> Result<Output, Refusal<Limit>>
+    ensures output { IfOk result (λ output. output ≡ output_of (C.work command.now) rows.now) }
+    ensures tally { (before : List C.Row) → Tallies (C.work command.now) before tally.old
+        → Counts (C.work command.now) before rows.now tally.new result }
 {
     let mut output = Output::new(alloc);
-    let mut next = number;
-    for kept in frames {
-        command.add(alloc, next, &kept.lend(), &mut output)?;
-        next += 1;
+    'rows: for row in rows {
+        if let Err(refusal) = command.give(alloc, row, &mut output, tally) {
+            return Err(refusal);
+        }
     }
     Ok(output)
 }

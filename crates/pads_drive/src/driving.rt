@@ -1,4 +1,4 @@
-ghost use Rattle.std.specs.Prelude.{◌≡◌, ◌≢◌, ◌+◌, ◌^◌, ◌<◌, ◌≤◌, ◌∷◌, ◌++◌, [], false, true, length, map, IfOk, OnOk, OnErr, Ok, Err};
+ghost use Rattle.std.specs.Prelude.{◌≡◌, ◌≢◌, ◌+◌, ◌^◌, ◌<◌, ◌≤◌, ◌∷◌, ◌++◌, [], false, true, length, map, IfOk, IfErr, OnOk, OnErr, Ok, Err};
 ghost use Rattle.pads_io.specs.Faults.{Rose};
 ghost use Rattle.pads_frame.specs.State.{reach, room};
 ghost use Rattle.pads_value.specs.Cuts.{cut_of_kept};
@@ -6,7 +6,7 @@ ghost use Rattle.pads_drive.specs.declared.refill.Refill.TheVariants as refilled
 ghost use Rattle.pads_drive.specs.Driving.{KeepsNext, Collects, IsWaiting, RefillGives, is_full};
 ghost use Rattle.pads_drive.specs.Halting.{IsFilled};
 ghost use Rattle.pads_drive.specs.Writing.{Grows, GrowsPrefix};
-ghost use Rattle.pads_drive.specs.Stopping.{HasSinkCause};
+ghost use Rattle.pads_drive.specs.Stopping.{AtLimit, HasSinkCause};
 
 use crate::output::Output;
 use crate::refill::Refill;
@@ -24,6 +24,7 @@ pub(crate) fn write_output<K: Sink, E: Sink>(
 ) -> Result<(), Stop>
     ensures ok { OnOk result (Grows (K.written out.old) (K.written out.new) (E.written notes.old) (E.written notes.new) output.now) }
     ensures err { OnErr result (GrowsPrefix (K.written out.old) (K.written out.new) (E.written notes.old) (E.written notes.new) output.now) }
+    ensures sink { IfErr result (AtLimit ⊥) }
     ensures cause { HasSinkCause (K.faults out.old) (K.faults out.new) (E.faults notes.old) (E.faults notes.new)
         (output.now.notes ≡ []) result }
 {
@@ -145,12 +146,12 @@ pub(crate) fn refill<S: Source>(source: &mut S, framer: &mut Framer, piece: &mut
 
 /// Where the reading of an input stands.
 #[derive(Drop)]
-pub(crate) struct Reading {
+pub(crate) struct Reading<T> {
     pub(crate) framer: Framer,
     /// The frames that wait to be read.
     pub(crate) batch: Batch,
     /// The number of the next record.
     pub(crate) number: u64,
-    /// Whether all records so far are clean.
-    pub(crate) clean: bool,
+    /// The tally of the rows of all records so far.
+    pub(crate) tally: T,
 }

@@ -1,12 +1,10 @@
-ghost use Rattle.std.specs.Prelude.{◌≡◌, ℕ, ◌+◌, ◌^◌, ◌≤◌, [], length, OnOk, OnErr};
-ghost use Rattle.pads_value.specs.Cuts.{Cut};
+ghost use Rattle.std.specs.Prelude.{◌≡◌, ◌+◌, ◌^◌, ◌≤◌, [], length, OnOk, IfErr};
 ghost use Rattle.pads_frame.specs.State.{MayCome, reach};
 ghost use Rattle.pads_drive.specs.Driving.{IsWaiting};
 ghost use Rattle.pads_drive.specs.Halting.{Halts, IsFilled};
 ghost use Rattle.pads_drive.specs.Moments.{moment_of};
 ghost use Rattle.pads_drive.specs.Progress.{Progresses, Stops};
-ghost use Rattle.pads_drive.specs.Stopping.{HasSinkCause};
-ghost use Rattle.pads_drive.specs.declared.stop.Stop.TheVariants as stop;
+ghost use Rattle.pads_drive.specs.Stopping.{AtSink, HasSinkCause};
 
 use crate::command::Command;
 use crate::driving::Reading;
@@ -20,26 +18,27 @@ use std::alloc::Global;
 pub(crate) fn finish<C: Command, K: Sink, E: Sink>(
     command: &C,
     alloc: Global,
-    reading: &mut Reading,
+    reading: &mut Reading<C::Tally>,
     out: &mut K,
     notes: &mut E,
 ) -> Result<(), Stop>
     requires small { reading.old.number + length reading.old.batch.frames ≤ reading.old.framer.first }
     requires within { reach reading.old.framer ≤ 2 ^ 62 }
     requires filled { IsFilled reading.old.batch }
-    ensures ok { OnOk result (Progresses (C.out command.now) (C.notes command.now) (C.is_clean command.now)
+    ensures ok { OnOk result (Progresses (C.work command.now)
         (K.written out.old) (K.written out.new) (E.written notes.old) (E.written notes.new)
         (moment_of reading.old) (moment_of reading.new) []) }
     ensures emptied { OnOk result (reading.new.batch.frames ≡ []) }
     ensures waiting { OnOk result (IsWaiting reading.new.framer) }
     ensures ended { OnOk result (reading.new.framer.ended ≡ reading.old.framer.ended) }
-    ensures err { OnErr result (Stops (C.out command.now) (C.notes command.now) (C.is_clean command.now)
+    ensures err { IfErr result (Stops (C.work command.now)
         (K.written out.old) (K.written out.new) (E.written notes.old) (E.written notes.new)
         (moment_of reading.old) [] (MayCome reading.old.framer)) }
-    ensures halts { result ≡ Err stop.Out → Halts (C.out command.now) (K.written out.old) (K.written out.new)
-        (moment_of reading.old) [] (MayCome reading.old.framer) }
+    ensures halts { IfErr result (AtSink (Halts (C.work command.now)
+        (K.written out.old) (K.written out.new) (E.written notes.old) (E.written notes.new)
+        (moment_of reading.old) [] (MayCome reading.old.framer))) }
     ensures cause { HasSinkCause (K.faults out.old) (K.faults out.new) (E.faults notes.old) (E.faults notes.new)
-        ((number : ℕ) (cut : Cut) → C.notes command.now number cut ≡ []) result }
+        ((row : C.Row) → (C.work command.now).notes row ≡ []) result }
 {
     if let Err(stop) = pump(command, alloc, reading, out, notes) {
         return Err(stop);

@@ -1,12 +1,11 @@
-ghost use Rattle.std.specs.Prelude.{◌≡◌, ◌≢◌, ℕ, ◌<◌, ◌≤◌, [], Ok, Err, IfSome, IfOk};
+ghost use Rattle.std.specs.Prelude.{◌≡◌, ◌≢◌, ◌<◌, ◌≤◌, [], true, List, Ok, IfErr, IfSome, IfOk};
 ghost use Rattle.pads_frame.specs.Fits.{FitsLimit};
 ghost use Rattle.pads_io.specs.Faults.{Rose};
-ghost use Rattle.pads_value.specs.Cuts.{Cut};
 ghost use Rattle.pads_drive.specs.Drives.{DriveGives};
 ghost use Rattle.pads_drive.specs.LittleAhead.{IsLittleAhead};
-ghost use Rattle.pads_drive.specs.Stopping.{HasSinkCause};
+ghost use Rattle.pads_drive.specs.Outputs.{Tallies};
+ghost use Rattle.pads_drive.specs.Stopping.{AtLimit, AtSink, HasSinkCause};
 ghost use Rattle.pads_drive.specs.declared.ended.Ended.TheVariants as ended;
-ghost use Rattle.pads_drive.specs.declared.stop.Stop.TheVariants as stop;
 
 use crate::command::Command;
 use crate::driving::{Batch, Reading};
@@ -20,7 +19,7 @@ use pads_io::{Sink, Source};
 use std::alloc::Global;
 
 /// Reads a source to its end, cuts its bytes into records, and writes on `out` and the notes what the
-/// command says of each, in the order of the input. What is left of the source is the whole input: its
+/// command says of the row of each, in the order of the input. The tally, of no rows yet, counts them. What is left of the source is the whole input: its
 /// first byte has offset 0, and its first record number 0. A record has at most `max` bytes, or else
 /// is marked as too long.
 ///
@@ -31,32 +30,35 @@ use std::alloc::Global;
 ///
 /// `Ended` and `Stop` say what was written at each answer. `Ended::ReadFault` comes only where the
 /// source's count of failures rose, `Stop::Out` and `Stop::Notes` only where that sink's did, and
-/// `Ended::TooLong` only where the source tells more than 2^62 bytes. At `Stop::Out`, where no record
-/// of the input is too long or broken, the output of all records that the bytes read complete was
-/// written, but for those in at most 2 `max` + 4,259,840 of the last bytes. What a source or sink
-/// doesn't tell, nothing is said of.
+/// `Ended::TooLong` only where the source tells more than 2^62 bytes. `Stop::Limit` comes where the
+/// tally can't count the rows of all records, and `Ended::Finished` only where it can. At `Stop::Out`
+/// and `Stop::Notes`, where no record of the input is too long or broken, the output of all records
+/// that the bytes read complete was written on both sinks, but for those in at most 2 `max` +
+/// 4,259,840 of the last bytes. What a source or sink doesn't tell, nothing is said of.
 pub fn drive<C: Command, S: Source, K: Sink, E: Sink>(
     command: &C,
     alloc: Global,
+    tally: C::Tally,
     discipline: Discipline,
     max: u64,
     source: &mut S,
     out: &mut K,
     notes: &mut E,
-) -> Result<Ended, Stop>
+) -> Result<Ended<C::Tally>, Stop>
     requires some { 0 < max }
     requires limit { max ≤ 16777216 }
     requires fits_limit { FitsLimit discipline max }
-    ensures gives { IfSome (S.left source.old) (λ input. DriveGives (C.out command.now) (C.notes command.now)
-        (C.is_clean command.now) discipline max input (S.left source.new) (K.written out.old) (K.written out.new)
-        (E.written notes.old) (E.written notes.new) result) }
-    ensures ahead { result ≡ Err stop.Out → IfSome (S.left source.old) (IsLittleAhead (C.out command.now) discipline max
-        (S.left source.new) (K.written out.old) (K.written out.new)) }
+    requires none_counted { Tallies (C.work command.now) [] tally }
+    ensures gives { IfSome (S.left source.old) (λ input. DriveGives (C.work command.now) discipline max input (S.left source.new)
+        (K.written out.old) (K.written out.new) (E.written notes.old) (E.written notes.new) result) }
+    ensures ahead { IfErr result (AtSink (IfSome (S.left source.old) (IsLittleAhead (C.work command.now) discipline max
+        (S.left source.new) (K.written out.old) (K.written out.new) (E.written notes.old) (E.written notes.new)))) }
+    ensures limit { IfErr result (AtLimit ((rows : List C.Row) × ((C.work command.now).is_over rows ≡ true))) }
     ensures read_fault { result ≡ Ok ended.ReadFault → Rose (S.faults source.old) (S.faults source.new) }
     ensures later { S.faults source.old ≤ S.faults source.new }
     ensures kept { IfOk result (λ outcome. outcome ≢ ended.ReadFault → S.faults source.new ≡ S.faults source.old) }
     ensures cause { HasSinkCause (K.faults out.old) (K.faults out.new) (E.faults notes.old) (E.faults notes.new)
-        ((number : ℕ) (cut : Cut) → C.notes command.now number cut ≡ []) result }
+        ((row : C.Row) → (C.work command.now).notes row ≡ []) result }
 {
     let Ok(framer) = Framer::new(alloc, discipline, max, 0) else {
         return Err(Stop::Memory);
@@ -65,7 +67,7 @@ pub fn drive<C: Command, S: Source, K: Sink, E: Sink>(
         framer,
         batch: Batch::new(alloc),
         number: 0,
-        clean: true,
+        tally,
     };
     let refill = match read_to_end(command, alloc, &mut reading, source, out, notes) {
         Ok(refill) => refill,
@@ -75,7 +77,7 @@ pub fn drive<C: Command, S: Source, K: Sink, E: Sink>(
         return Err(stop);
     }
     match refill {
-        Refill::End => Ok(Ended::Finished(reading.clean)),
+        Refill::End => Ok(Ended::Finished(reading.tally)),
         Refill::ReadFault => Ok(Ended::ReadFault),
         Refill::TooLong => Ok(Ended::TooLong),
         Refill::More => unreachable!(),

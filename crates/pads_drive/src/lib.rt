@@ -1,9 +1,9 @@
 //! The reading of an input, once for every command: a source is read to its end, cut into records,
-//! and what a command says of each record is written on two sinks.
+//! and what a command says of each record's row is written on two sinks and counted.
 //!
 //! Records are read in batches, so that neither the input nor its output is ever held as a whole,
 //! and each full batch is written before more is read. What a record means is no matter here: the
-//! caller's `Command` is given its number and its frame.
+//! caller's `Command` makes the rows of a batch, and says what each gives.
 #![tactic(auto)]
 
 mod command;
@@ -12,6 +12,8 @@ mod ended;
 mod finish;
 mod flush;
 mod input;
+mod laws;
+mod limit;
 mod output;
 mod pump;
 mod refill;
@@ -21,5 +23,7 @@ mod stop;
 pub use command::Command;
 pub use ended::Ended;
 pub use input::drive;
+pub use laws::{frames_lie_close_behind, reading_is_little_ahead};
+pub use limit::Limit;
 pub use output::Output;
 pub use stop::Stop;

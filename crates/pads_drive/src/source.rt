@@ -1,12 +1,10 @@
-ghost use Rattle.std.specs.Prelude.{◌≡◌, ◌≢◌, ℕ, ◌+◌, ◌^◌, ◌≤◌, [], false, length, IfOk, OnOk, OnErr, Err, Ok};
-ghost use Rattle.pads_value.specs.Cuts.{Cut};
+ghost use Rattle.std.specs.Prelude.{◌≡◌, ◌≢◌, ◌+◌, ◌^◌, ◌≤◌, [], false, length, IfOk, OnOk, IfErr, Ok};
 ghost use Rattle.pads_frame.specs.State.{reach, rest};
 ghost use Rattle.pads_drive.specs.declared.refill.Refill.TheVariants as refilled;
 ghost use Rattle.pads_drive.specs.Ends.{Anything, ReadsToEnd, StopsAt};
 ghost use Rattle.pads_drive.specs.Halting.{Caught, HaltsAt, IsFilled};
 ghost use Rattle.pads_drive.specs.Moments.{moment_of};
-ghost use Rattle.pads_drive.specs.Stopping.{HasSinkCause};
-ghost use Rattle.pads_drive.specs.declared.stop.Stop.TheVariants as stop;
+ghost use Rattle.pads_drive.specs.Stopping.{AtSink, HasSinkCause};
 
 use crate::command::Command;
 use crate::driving::{Reading, refill};
@@ -21,7 +19,7 @@ use std::alloc::Global;
 pub(crate) fn read_to_end<C: Command, S: Source, K: Sink, E: Sink>(
     command: &C,
     alloc: Global,
-    reading: &mut Reading,
+    reading: &mut Reading<C::Tally>,
     source: &mut S,
     out: &mut K,
     notes: &mut E,
@@ -31,22 +29,22 @@ pub(crate) fn read_to_end<C: Command, S: Source, K: Sink, E: Sink>(
     requires open { reading.old.framer.ended ≡ false }
     requires filled { IsFilled reading.old.batch }
     requires fresh { rest false reading.old.framer [] ≡ [] }
-    ensures ok { IfOk result (ReadsToEnd (C.out command.now) (C.notes command.now) (C.is_clean command.now)
+    ensures ok { IfOk result (ReadsToEnd (C.work command.now)
         (S.left source.old) (S.left source.new) (K.written out.old) (K.written out.new)
         (E.written notes.old) (E.written notes.new) (S.faults source.old) (S.faults source.new)
         (moment_of reading.old) (moment_of reading.new)) }
     ensures within { OnOk result (reach reading.new.framer ≤ 2 ^ 62) }
     ensures filled { OnOk result (IsFilled reading.new.batch) }
     ensures caught { OnOk result (Caught (S.left source.old) (S.left source.new) (moment_of reading.old) (moment_of reading.new)) }
-    ensures halts { result ≡ Err stop.Out → HaltsAt (C.out command.now) (S.left source.old) (S.left source.new)
-        (K.written out.old) (K.written out.new) (moment_of reading.old) Anything }
-    ensures err { OnErr result (StopsAt (C.out command.now) (C.notes command.now) (C.is_clean command.now)
+    ensures halts { IfErr result (AtSink (HaltsAt (C.work command.now) (S.left source.old) (S.left source.new)
+        (K.written out.old) (K.written out.new) (E.written notes.old) (E.written notes.new) (moment_of reading.old) Anything)) }
+    ensures err { IfErr result (StopsAt (C.work command.now)
         (S.left source.old) (S.left source.new) (K.written out.old) (K.written out.new)
         (E.written notes.old) (E.written notes.new) (moment_of reading.old)) }
     ensures later { S.faults source.old ≤ S.faults source.new }
     ensures kept { result ≢ Ok refilled.ReadFault → S.faults source.new ≡ S.faults source.old }
     ensures cause { HasSinkCause (K.faults out.old) (K.faults out.new) (E.faults notes.old) (E.faults notes.new)
-        ((number : ℕ) (cut : Cut) → C.notes command.now number cut ≡ []) result }
+        ((row : C.Row) → (C.work command.now).notes row ≡ []) result }
 {
     let mut piece = [0; 4096];
     'reads: loop {

@@ -8,4 +8,6 @@ pub enum Stop {
     Out,
     /// A write on the notes failed. A command that notes nothing never gets this.
     Notes,
+    /// The tally can't count the rows of all records.
+    Limit,
 }

@@ -1,7 +1,8 @@
--- A scope with one more variable.
-use Rattle.std.proofs.Common.{◌≡◌, ◌∙◌, sym, ap, ◌∷◌, ℕ, ℤ, to_z, of_z, FitsSigned, Bor}
+-- A scope with one more variable, or one more value that is lent.
+use Rattle.std.proofs.Common.{◌≡◌, ◌∙◌, sym, ap, List, ◌∷◌, reverse, ℕ, ℤ, to_z, of_z, FitsSigned, Bor}
 use Rattle.std.proofs.lemmas.Int.{to_z-of_z}
 use Rattle.std.specs.Int.{w128}
+use Rattle.pads_value.specs.declared.value.Val.{Val}
 use Rattle.pads_value.specs.declared.value.Val.TheVariants as val
 use Rattle.pads_expr.specs.declared.evaluation.Scope.{Scope, Scope-F, fold-roll-Scope}
 use Rattle.pads_expr.specs.declared.evaluation.Scope.TheVariants as scope
@@ -16,3 +17,10 @@ pairs_of-Bind name number outer =
 pub bound_in : (name : ℕ) (number : ℤ) (outer : Bor Scope) → FitsSigned w128 number →
     pairs_of (scope.Bind name (to_z w128 (of_z w128 number)) outer) ≡ (name, val.Num number) ∷ pairs_of outer.now
 bound_in name number outer fits = rw (to_z-of_z w128 number fits) (pairs_of-Bind name number outer)
+
+pub pairs_of-Lent : (name : ℕ) (value : Bor Val) (outer : Bor Scope) → pairs_of (scope.Lent name value outer) ≡ (name, value.now) ∷ pairs_of outer.now
+pairs_of-Lent name value outer =
+    ap pairs_of (sym (scope.rolls-Lent name value outer)) ∙ fold-roll-Scope Pairs scope_step (Scope-F.Lent name value outer)
+
+pub pairs_of-Base : (bindings : Bor Pairs) → pairs_of (scope.Base bindings) ≡ reverse bindings.now
+pairs_of-Base bindings = ap pairs_of (sym (scope.rolls-Base bindings)) ∙ fold-roll-Scope Pairs scope_step (Scope-F.Base bindings)

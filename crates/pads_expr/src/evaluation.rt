@@ -1,4 +1,4 @@
-ghost use Rattle.std.specs.Prelude.{◌≡◌, ℤ, pos, ◌+ℤ◌, ◌<◌, FitsSigned, option_map, reverse};
+ghost use Rattle.std.specs.Prelude.{◌≡◌, ℤ, pos, ◌+ℤ◌, ◌<◌, ◌∷◌, FitsSigned, option_map, reverse};
 ghost use Rattle.std.specs.Int.{w128};
 ghost use Rattle.std.specs.Option.{option_copied};
 ghost use Rattle.pads_expr.specs.Ranges as ranges;
@@ -14,10 +14,12 @@ use crate::worth::{is_true, truth_alone};
 use crate::{Binding, Env, Expr, Res};
 use pads_value::Val;
 
-/// An environment with the variables of the `Pforall`s that are open, which live on the stack.
+/// An environment with the latest bindings, which live on the stack: a value that is lent, and the
+/// variables of the `Pforall`s that are open.
 #[derive(Clone, Copy)]
 enum Scope<'s, 'a> {
     Base(&'a [Binding]),
+    Lent(u16, &'a Val, &'s Scope<'s, 'a>),
     Bind(u16, i128, &'s Scope<'s, 'a>),
 }
 
@@ -35,6 +37,13 @@ fn variable<'a>(scope: &Scope<'_, 'a>, name: u16) -> Option<Res<'a>>
 {
     match scope {
         Scope::Base(bindings) => worth(binding(bindings, name)?),
+        Scope::Lent(bound, value, outer) => {
+            if *bound == name {
+                worth(value)
+            } else {
+                variable(*outer, name)
+            }
+        }
         Scope::Bind(bound, number, outer) => {
             if *bound == name {
                 Some(Res::Num(*number))
@@ -136,6 +145,18 @@ pub fn eval_in<'a>(e: &'a Expr, bindings: &'a [Binding]) -> Option<Res<'a>>
     ensures value { option_map seen result ≡ told (value e.now (reverse bindings.now)) }
 {
     evaluate(e, &Scope::Base(bindings))
+}
+
+/// The same with one binding more, the latest, whose value is lent.
+pub fn eval_with<'a>(
+    e: &'a Expr,
+    name: u16,
+    lent: &'a Val,
+    bindings: &'a [Binding],
+) -> Option<Res<'a>>
+    ensures value { option_map seen result ≡ told (value e.now ((name, lent.now) ∷ reverse bindings.now)) }
+{
+    evaluate(e, &Scope::Lent(name, lent, &Scope::Base(bindings)))
 }
 
 /// The value of an expression in an environment. It takes no memory; texts and parts are lent. `None`

@@ -10,6 +10,6 @@ mod parts;
 mod worth;
 
 pub use environment::{Binding, Env};
-pub use evaluation::{eval, eval_in};
+pub use evaluation::{eval, eval_in, eval_with};
 pub use expr::{BinOp, Expr};
 pub use worth::{Res, is_true};

@@ -1,11 +1,12 @@
 -- Rows of the cutting, computed: the bytes of an input, and its frames.
-use Rattle.std.proofs.Common.{◌≡◌, ℕ, List, [], ◌∷◌, ◌++◌, refl}
+use Rattle.std.proofs.Common.{◌≡◌, ℕ, None, Some, List, [], ◌∷◌, ◌++◌, refl}
 use Rattle.std.specs.Prelude.{codes}
 use Rattle.pads_value.specs.declared.frame.Mark.{Mark}
 use Rattle.pads_value.specs.declared.frame.Mark.TheVariants.{Plain, Short, Long, Broken}
 use Rattle.pads_value.specs.Cuts.{Cut}
 use Rattle.pads_frame.specs.declared.discipline.Discipline.TheVariants.{Term, Fixed, Rdw, Whole}
 use Rattle.pads_frame.specs.Cutting.{cuts, records, closed}
+use Rattle.pads_frame.specs.OnlyFrame.{only}
 
 abbrev frame : ℕ → ℕ → List ℕ → Mark → Cut
 frame first end bytes mark = record { first = first; end = end; bytes = bytes; mark = mark }
@@ -100,3 +101,27 @@ whole_input = refl
 whole_too_long : records Whole 4 (codes "300,4") ≡ frame 0 5 [] Long ∷ []
 unfolding cuts
 whole_too_long = refl
+
+-- ---- the one frame of an input
+
+-- with its newline, and without; the empty line of a newline alone
+one_line : only (records (Term 10) 16 (codes "3,7" ++ newline)) ≡ Some (frame 0 3 (codes "3,7") Plain)
+unfolding cuts newline
+one_line = refl
+
+one_open_line : only (records (Term 10) 16 (codes "3,7")) ≡ Some (frame 0 3 (codes "3,7") Plain)
+unfolding cuts newline
+one_open_line = refl
+
+one_empty_line : only (records (Term 10) 16 newline) ≡ Some (frame 0 0 [] Plain)
+unfolding cuts newline
+one_empty_line = refl
+
+-- a second record, and none
+not_one_line : only (records (Term 10) 16 (codes "3,7" ++ newline ++ codes "1")) ≡ None
+unfolding cuts newline
+not_one_line = refl
+
+not_any_line : only (records (Term 10) 16 []) ≡ None
+unfolding cuts
+not_any_line = refl

@@ -3,6 +3,7 @@ pub mod Examples
 pub mod ExtentLemmas
 pub mod Feeding
 pub mod Looking
+pub mod OnlyOne
 pub mod Owing
 pub mod Passing
 pub mod Runs

@@ -64,7 +64,7 @@ covers_all Whole max p held m = omega (arith, length_text Whole p held)
 abbrev pub after : State → Extent → State
 after s e = record s { first = s.first + size_of e; passed = 0; held = drop (size_of e - s.passed) s.held }
 
-cuts_step_as : (d : Discipline) (max at : ℕ) (ended : Bool) (xs : List ℕ) (e : Extent) → extent d max xs ≡ e → 0 < length xs → 0 < size_of e → (e.closed || ended) ≡ true
+pub cuts_step_as : (d : Discipline) (max at : ℕ) (ended : Bool) (xs : List ℕ) (e : Extent) → extent d max xs ≡ e → 0 < length xs → 0 < size_of e → (e.closed || ended) ≡ true
     → cuts d max ended at 0 xs ≡ cut_at at xs e ∷ cuts d max ended (at + size_of e) 0 (drop (size_of e) xs)
 cuts_step_as d max at ended xs e same l s c =
     let step = cuts_step d max ended at xs l (rw same s) (rw same c) in rw same at step

@@ -15,7 +15,7 @@ use Rattle.pads_frame.proofs.CuttingLemmas.{cuts_nil, cuts_open}
 use Rattle.pads_frame.proofs.ExtentLemmas.{rdw_closed, record_parts, same_word}
 use Rattle.pads_frame.proofs.Owing.{passed_owed}
 use Rattle.pads_frame.proofs.Runs.{run_le}
-use Rattle.pads_frame.proofs.Taking.{has_block}
+use Rattle.pads_frame.proofs.Taking.{has_block, lost_already}
 use Rattle.pads_frame.proofs.TextLemmas.{length_text, run_text, word_text}
 
 -- the first four bytes of the text are the held ones
@@ -116,6 +116,7 @@ waits_over s fits m loses =
       owed = owed;
       done = owed s.ended [] ∙ none_owed s none;
       first = refl;
+      lost = lost_already s.discipline s.max (s.passed + (length s.held - word_size s.discipline)) (take (word_size s.discipline) s.held) kept.2;
       free = omega (arith, word_size_le s.discipline);
       reach = omega arith;
       input = record { discipline = refl; max = refl; ended = refl };

@@ -1,8 +1,10 @@
 -- What is true of a frame that was found, and of the state behind it.
-use Rattle.std.proofs.Common.{◌≡◌, ℕ, zero, suc, ◌+◌, ◌-◌, ◌<◌, ◌≤◌, Bool, true, false, List, length, take, drop, sym, refl, ap, subst, ◌∙◌, inl, inr, arith}
+use Rattle.std.proofs.Common.{◌≡◌, ℕ, zero, suc, ◌+◌, ◌-◌, ◌<◌, ◌≤◌, Bool, true, false, List, ◌++◌, length, take, drop, sym, refl, ap, subst, ◌∙◌, ◌⊎◌, inl, inr, arith}
 use Rattle.std.proofs.lemmas.Bool.{cases_Bool, ltb-true}
-use Rattle.std.proofs.lemmas.List.{length-drop, drop-drop}
+use Rattle.std.proofs.lemmas.List.{length-append, length-drop, drop-drop, take-append-le}
 use Rattle.pads_value.specs.Cuts.{Cut}
+use Rattle.pads_value.specs.declared.frame.Mark.{Mark}
+use Rattle.pads_value.specs.declared.frame.Mark.TheVariants.{Plain, Short, Long, Broken}
 use Rattle.pads_value.specs.Marks.{bytes_of}
 use Rattle.pads_frame.specs.declared.cutter.Cutter.{Cutter}
 use Rattle.pads_frame.specs.declared.cutter.Place.{Place}
@@ -13,13 +15,13 @@ use Rattle.pads_frame.specs.Cutters.{IsCutter, Takes, cut_of_place, held_of, sta
 use Rattle.pads_frame.specs.Fits.{HasBlock}
 use Rattle.pads_frame.specs.Extents.{run, word_length, has_record, extent}
 use Rattle.pads_frame.specs.Looks.{Finds, HasSearched}
-use Rattle.pads_frame.specs.Next.{HandsOut}
+use Rattle.pads_frame.specs.Next.{CarriesNone, HandsOut}
 use Rattle.pads_frame.specs.Placed.{cut_at, size_of}
 use Rattle.pads_frame.specs.Fits.{FitsLimit}
 use Rattle.pads_frame.specs.State.{State, MayPass, closes_in, text, text_of}
-use Rattle.pads_frame.proofs.ExtentLemmas.{extent_within, extent_takes, closed_nonempty, rdw_record, rdw_broken, record_parts}
+use Rattle.pads_frame.proofs.ExtentLemmas.{extent_within, extent_takes, closed_nonempty, rdw_record, rdw_broken, record_parts, same_word}
 use Rattle.pads_frame.proofs.Owing.{after, bytes_of_le, covers_all, frame_owed, long_mark}
-use Rattle.pads_frame.proofs.TextLemmas.{length_text, text_none, run_text, word_text}
+use Rattle.pads_frame.proofs.TextLemmas.{length_text, text_append, text_none, run_text, word_text}
 
 pub has_block : (d : Discipline) (max : ℕ) → FitsLimit d max → HasBlock d
 has_block (Term t) max h = tt
@@ -61,6 +63,31 @@ carries_none Whole max p held n m pos =
     let k = m pos in
     let e = length_text Whole p held in
     (rw (long_mark max (length (text Whole p held)) (omega arith)) refl, omega arith)
+
+-- What may be passed over still may once more bytes came.
+may_pass_grows : (d : Discipline) (max p : ℕ) (held more : List ℕ) → MayPass d max p held → MayPass d max p (held ++ more)
+may_pass_grows (Term t) max p held more m = m
+may_pass_grows (Fixed n) max p held more m = m
+may_pass_grows Rdw max p held more m =
+    λ pos.
+    let l = (m pos).0 in
+    let n = length-append held more in
+    let w = same_word (held ++ more) held (omega arith) l (take-append-le 4 held more l) in
+    (omega arith, λ h. let k = (m pos).1 (sym w.1 ∙ h) in (omega (arith, k.0, w.0), omega (arith, k.1, w.0)))
+may_pass_grows Whole max p held more m = m
+
+no_bytes_mark : (mark : Mark) → bytes_of mark 1 ≡ 0 → (mark ≡ Long) ⊎ (mark ≡ Broken)
+no_bytes_mark Plain h = absurd (omega arith)
+no_bytes_mark Short h = absurd (omega arith)
+no_bytes_mark Long h = inl refl
+no_bytes_mark Broken h = inr refl
+
+-- Bytes are passed over only where their frame is long or broken already.
+pub lost_already : (d : Discipline) (max p : ℕ) (held : List ℕ) → MayPass d max p held → 0 < p → CarriesNone d max (text d p held)
+lost_already d max p held m pos more =
+    let e = text_append d max p held more m in
+    let none = (carries_none d max p (held ++ more) 1 (may_pass_grows d max p held more m) pos).0 in
+    no_bytes_mark (extent d max (text d p held ++ more)).mark (rw e at none)
 
 pub closes_nonempty : (d : Discipline) (max : ℕ) (xs : List ℕ) (ended : Bool) → HasBlock d → closes_in d max xs ended ≡ true → 0 < length xs
 closes_nonempty d max xs true b c = ltb-true 0 (length xs) c
@@ -111,9 +138,9 @@ found_facts d max p held ended e b m found =
     subst (λ (e : Extent). FoundFacts d p held e) (sym found.lies) facts
 
 -- the frame is handed out
-pub hands_out : (s : State) (e : Extent) → FitsLimit s.discipline s.max → MayPass s.discipline s.max s.passed s.held → Finds s.discipline s.max s.passed s.held s.ended e
-    → HandsOut s (cut_at s.first (text_of s) e) (after s e)
-hands_out s e fits m found =
+pub hands_out : (s : State) (e : Extent) → FitsLimit s.discipline s.max → MayPass s.discipline s.max s.passed s.held → length s.held ≤ s.max + 4100
+    → Finds s.discipline s.max s.passed s.held s.ended e → HandsOut s (cut_at s.first (text_of s) e) (after s e)
+hands_out s e fits m room found =
     let b = has_block s.discipline s.max fits in
     let facts = found_facts s.discipline s.max s.passed s.held s.ended e b m found in
     let n = length-drop (size_of e - s.passed) s.held in
@@ -122,6 +149,8 @@ hands_out s e fits m found =
       owed = λ ended more may. rw found.lies (frame_owed s b m found.closes ended more may);
       first = omega (arith, ap (λ (x : Extent). x.terminator) found.lies);
       later = omega (arith, facts.some);
+      passed = refl;
+      held = omega (arith, room);
       reach = omega (arith, facts.size_fits, facts.covers);
       input = record { discipline = refl; max = refl; ended = refl };
     }
@@ -149,10 +178,10 @@ pub takes : (c : Cutter) (e : Extent) → IsCutter c → Finds c.discipline c.ma
 takes c e kept found =
     let s = state_of c in
     let held = held_of c in
+    let n = length-drop c.start c.buffer.items in
     let k = bytes_of e.mark e.len in
     let facts = found_facts c.discipline c.max c.passed held c.ended e (has_block c.discipline c.max kept.fits_limit) kept.may_pass found in
-    let hands = hands_out s e kept.fits_limit kept.may_pass found in
-    let n = length-drop c.start c.buffer.items in
+    let hands = hands_out s e kept.fits_limit kept.may_pass (omega (arith, kept.room, c.buffer.ok.0)) found in
     let count : c.start + e.lead + k - (c.start + e.lead) ≡ k = omega arith in
     let lies : drop (c.start + e.lead) c.buffer.items ≡ drop e.lead held = sym (drop-drop e.lead c.start c.buffer.items) in
     let cut : cut_of_place (place_of c e) c.buffer.items ≡ cut_at c.first (text_of s) e = rw (count, lies, facts.bytes) refl in

@@ -8,4 +8,5 @@ pub mod Cutting
 pub mod Laws
 pub mod Lending
 pub mod Looks
+pub mod OnlyFrame
 pub mod State

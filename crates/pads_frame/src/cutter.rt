@@ -236,7 +236,7 @@ impl Cutter {
 }
 
 /// How many bytes a frame of this extent carries.
-fn carried(mark: Mark, len: u64) -> u64
+pub fn carried(mark: Mark, len: u64) -> u64
     ensures { result ≡ bytes_of mark len }
 {
     match mark {

@@ -7,6 +7,7 @@ mod discipline;
 mod framer;
 mod laws;
 mod look;
+mod only;
 #[cfg(test)]
 mod tests;
 
@@ -14,3 +15,4 @@ pub use cutter::{Fed, TooLong};
 pub use discipline::Discipline;
 pub use framer::Framer;
 pub use laws::{closed_frames_are_the_first, frames_move_with_the_input, frames_take_up_the_input};
+pub use only::only_frame;

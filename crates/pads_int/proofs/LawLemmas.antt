@@ -1,6 +1,6 @@
 -- Integers read what they spell: what is read is spelled so and has a canonical spelling that is no longer,
 -- and a canonical spelling reads back whole.
-use Rattle.std.proofs.Common.{◌≡◌, ℕ, ◌≤◌, ◌&&◌, true, false, ℤ, pos, negsuc, List, length, take, map, Some, refl, sym, ap, ◌∙◌, arith, cond, length-take-le, length-append, replicate, ◌<◌, nat_eq, nat_le, nat_lt}
+use Rattle.std.proofs.Common.{◌≡◌, ℕ, ◌≤◌, ◌&&◌, true, false, ℤ, pos, negsuc, List, length, take, map, Some, refl, sym, ap, ◌∙◌, arith, cond, zero, suc, not, length-take-le, length-append, replicate, ◌<◌, nat_eq, nat_le, nat_lt}
 use Rattle.std.specs.Option.{IsSomeAnd}
 use Rattle.std.specs.Int.RustNames.{unsigned_abs}
 use Rattle.std.specs.Fmt.{signed_decimal}
@@ -135,9 +135,21 @@ int_fw_spells kind coding width v s e =
       integer = padded_text kind size v fits.0;
     }
 
-pub int_fw_reads_back : (kind : Kind) (coding : Coding) (width v : ℤ) (bytes : List ℕ) → 0 < length bytes → SpellsIntFw kind coding width v bytes → int_fw_reading kind coding width bytes ≡ Good (length bytes) v
+-- a field that spells an integer has a digit
+some_digit : (n : ℕ) → not (nat_eq n 0) ≡ true → 0 < n
+some_digit zero h = absurd cc
+some_digit (suc n) h = omega arith
+
+has_digits : (kind : Kind) (coding : Coding) (width v : ℤ) (bytes : List ℕ) → SpellsIntFw kind coding width v bytes → 0 < length bytes
+has_digits kind coding width v bytes spells =
+    let text = spells.integer in
+    let some : 0 < length text.digits = some_digit (length text.digits) (and_parts _ _ text.numeral).0 in
+    omega (arith, some, length-points coding bytes, ap length spells.parts, length-append (replicate spells.blanks blank) spells.text, ap length text.parts, length-append text.sign text.digits)
+
+pub int_fw_reads_back : (kind : Kind) (coding : Coding) (width v : ℤ) (bytes : List ℕ) → SpellsIntFw kind coding width v bytes → int_fw_reading kind coding width bytes ≡ Good (length bytes) v
 unfolding int_fw_reading
-int_fw_reads_back kind coding width v bytes some f =
+int_fw_reads_back kind coding width v bytes f =
+    let some = has_digits kind coding width v bytes f in
     let field : field_reading kind (points_of coding bytes) ≡ Good (length bytes) v =
     field_is_read kind v (points_of coding bytes) (record { blanks = f.blanks; text = f.text; parts = f.parts; integer = f.integer }) ∙ ap (λ n. Good n v) (length-points coding bytes) in
     let wide : nat_eq (length bytes) 0 ≡ false = ne_eqb (length bytes) 0 (λ none. omega arith) in
@@ -148,16 +160,5 @@ int_fw_reads_back kind coding width v bytes some f =
 pub int_canonical_reads_back : (kind : Kind) (coding : Coding) (v : ℤ) (s : List ℕ) → int_spelling kind coding v ≡ Some s → int_reading kind coding s ≡ Good (length s) v
 int_canonical_reads_back kind coding v s e = int_reads_back kind coding v s (int_spells kind coding v s e)
 
-field_some : (kind : Kind) (coding : Coding) (width v : ℤ) (s : List ℕ) → int_fw_spelling kind coding width v ≡ Some s → 0 < unsigned_abs width
-unfolding int_fw_spelling
-field_some kind coding width v s e =
-    let size = unsigned_abs width in
-    let test = in_range kind v && nat_le (length (signed_decimal v)) size in
-    let parts = spelled_if (is_field_width width && test) (map (byte_of coding) (signed_padded size v)) s e in
-    (field_width width (and_parts (is_field_width width) test parts.0).0).1
-
 pub int_fw_canonical_reads_back : (kind : Kind) (coding : Coding) (width v : ℤ) (s : List ℕ) → int_fw_spelling kind coding width v ≡ Some s → int_fw_reading kind coding width s ≡ Good (length s) v
-int_fw_canonical_reads_back kind coding width v s e =
-    let spells = int_fw_spells kind coding width v s e in
-    let size : unsigned_abs width ≡ length s = ap unsigned_abs spells.fills in
-    int_fw_reads_back kind coding width v s (omega (arith, field_some kind coding width v s e)) spells
+int_fw_canonical_reads_back kind coding width v s e = int_fw_reads_back kind coding width v s (int_fw_spells kind coding width v s e)

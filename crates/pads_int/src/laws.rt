@@ -33,7 +33,7 @@ pub fn field_integers_read_what_they_spell()
         → int_fw_reading kind coding width bytes ≡ Good n v → n ≤ widest
         → IsSomeAnd (int_fw_spelling kind coding width v) (λ s. length s ≤ n) }
     ensures reads_back { (kind : Kind) (coding : Coding) (width v : ℤ) (bytes : List ℕ)
-        → 0 < length bytes → SpellsIntFw kind coding width v bytes
+        → SpellsIntFw kind coding width v bytes
         → int_fw_reading kind coding width bytes ≡ Good (length bytes) v }
     ensures canonical_reads_back { (kind : Kind) (coding : Coding) (width v : ℤ) (s : List ℕ)
         → int_fw_spelling kind coding width v ≡ Some s → int_fw_reading kind coding width s ≡ Good (length s) v }

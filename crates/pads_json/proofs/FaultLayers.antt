@@ -5,9 +5,10 @@ use Rattle.pads_value.specs.declared.descriptor.Pd.{Pd, out-Pd, fold_out-Pd}
 use Rattle.pads_value.specs.declared.value.Val.{Val}
 use Rattle.pads_calc.specs.declared.decl.Decl.{Decl}
 use Rattle.pads_calc.specs.declared.term.Term.{Term}
-use Rattle.pads_json.specs.Forms.{Form, form_at}
-use Rattle.pads_json.specs.Steps.{Step, place_text}
-use Rattle.pads_json.specs.Slots.{Slot, slot}
+use Rattle.pads_forms.specs.Forms.{Form, form_at}
+use Rattle.pads_json.specs.Places.{place_text}
+use Rattle.pads_forms.specs.Slots.{Slot, slot}
+use Rattle.pads_forms.specs.Steps.{Step}
 use Rattle.pads_json.specs.Faults.{Told, own_fault, faults, faults_step, below, kid_told, kids_faults, has_nothing, is_bare_node, listed}
 use Rattle.pads_json.proofs.Written.{listed_append}
 use Rattle.pads_value.specs.declared.cause.Cause.{Cause}

@@ -15,7 +15,8 @@ use Rattle.pads_calc.specs.declared.decl.Decl.{Decl}
 use Rattle.pads_calc.specs.declared.term.Term.{Term}
 use Rattle.json.specs.Print.{escape, escape_byte}
 use Rattle.pads_json.specs.Faults.{span_shown, listed, fault, own_fault, fault_head, fault_tail}
-use Rattle.pads_json.specs.Lines.{class_name, deepest, row_data, row_faults, row_text, head_text, counts_text, later_key}
+use Rattle.pads_calc.specs.Rows.{deepest}
+use Rattle.pads_json.specs.Lines.{class_name, row_data, row_faults, row_text, head_text, counts_text, later_key}
 use Rattle.pads_json.specs.Values.{shown}
 
 pub listed_append : (ds es : List Data) → listed (ds ++ es) ≡ listed ds ++ listed es

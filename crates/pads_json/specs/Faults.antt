@@ -11,9 +11,10 @@ use Rattle.pads_value.specs.declared.value.Val.{Val}
 use Rattle.pads_value.specs.Causes.{name_of}
 use Rattle.pads_calc.specs.declared.decl.Decl.{Decl}
 use Rattle.pads_calc.specs.declared.term.Term.{Term}
-use Rattle.pads_json.specs.Forms.{Form, form_at}
-use Rattle.pads_json.specs.Slots.{Slot, slot}
-use Rattle.pads_json.specs.Steps.{Step, place_text}
+use Rattle.pads_forms.specs.Forms.{Form, form_at}
+use Rattle.pads_forms.specs.Slots.{Slot, slot}
+use Rattle.pads_forms.specs.Steps.{Step}
+use Rattle.pads_json.specs.Places.{place_text}
 
 -- the begin and the end, offsets in the whole input
 abbrev pub span_shown : Span → Data

@@ -1,11 +1,7 @@
 pub mod Faults
-pub mod Forms
 pub mod Lines
 pub mod Members
 pub mod Numbers
-pub mod Shapes
-pub mod Slots
-pub mod Steps
-pub mod Terms
+pub mod Places
 pub mod Texts
 pub mod Values

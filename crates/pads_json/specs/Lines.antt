@@ -1,5 +1,5 @@
 -- The line of a record: one object in compact text, its keys in the order of their bytes, and a newline.
-use Rattle.std.specs.Prelude.{ℕ, List, [], ◌∷◌, ◌++◌, codes, decimal, Option, Some, None, nat_eq, if◌then◌else◌}
+use Rattle.std.specs.Prelude.{ℕ, List, [], ◌∷◌, ◌++◌, codes, decimal, Some}
 use Rattle.serde_json.specs.Data.{Data, number, unsigned, string, array, object, member, no_members}
 use Rattle.serde_json.specs.View.{items_of}
 use Rattle.serde_json.specs.Written.{compact_text}
@@ -13,6 +13,7 @@ use Rattle.pads_calc.specs.declared.decl.Shape.{Shape}
 use Rattle.pads_calc.specs.declared.module.Module.{Module}
 use Rattle.pads_calc.specs.declared.term.Term.{Term}
 use Rattle.pads_calc.specs.declared.term.Term.TheVariants as term
+use Rattle.pads_calc.specs.Rows.{deepest, type_of}
 use Rattle.pads_json.specs.Faults.{own_fault, span_shown, faults}
 use Rattle.pads_json.specs.Values.{shown}
 
@@ -20,18 +21,6 @@ abbrev pub class_name : Class → List ℕ
 class_name class.Ok = codes "Ok"
 class_name class.Err = codes "Err"
 class_name class.Fail = codes "Fail"
-
--- how deep calls may be nested in a record
-abbrev pub deepest : ℕ
-deepest = 128
-
--- record 0 has the header's declaration, where the source has a header
-abbrev pub type_of : Shape → ℕ → ℕ
-type_of shape record_number = by_head shape.head
-  where
-    by_head : Option ℕ → ℕ
-    by_head None = shape.each
-    by_head (Some head) = if nat_eq record_number 0 then head else shape.each
 
 -- a record's body is a call of its declaration
 abbrev pub body_of : Shape → ℕ → Term

@@ -19,10 +19,10 @@ use Rattle.pads_calc.specs.declared.term.Result2.{Result2}
 use Rattle.pads_calc.specs.declared.term.Result2.TheVariants as result2
 use Rattle.pads_calc.specs.declared.term.Seq.{Seq}
 use Rattle.pads_calc.specs.declared.term.Term.{Term, Term-F, out-Term}
-use Rattle.pads_json.specs.Forms.{Form, form_at}
+use Rattle.pads_forms.specs.Forms.{Form, form_at}
 use Rattle.pads_json.specs.Numbers.{integer}
-use Rattle.pads_json.specs.Shapes.{num_in, text_in, label_in, tuple_in, branch_in, array_in}
-use Rattle.pads_json.specs.Terms.{name_at, arm_in}
+use Rattle.pads_forms.specs.Shapes.{num_in, text_in, label_in, tuple_in, branch_in, array_in}
+use Rattle.pads_forms.specs.Terms.{name_at, arm_in}
 
 -- what a value is as JSON under a term in which calls may be nested so deep
 abbrev pub Shown : Type 0

@@ -2,17 +2,15 @@ ghost use Rattle.std.specs.Prelude.{◌≡◌, ◌++◌, codes, OnOk};
 ghost use Rattle.std.specs.Option.{option_copied, option_map};
 ghost use Rattle.pads_value.specs.declared.descriptor.Pd.{out-Pd};
 ghost use Rattle.pads_json.specs.Faults.{own_fault as own_fault_of, faults as faults_of, kids_told, kid_told, is_bare_node, listed, fault_head, fault_tail};
-ghost use Rattle.pads_json.specs.Forms.{form_seen};
-ghost use Rattle.pads_json.specs.Slots.{slot_seen};
-ghost use Rattle.pads_json.specs.Steps.{place_text, steps};
+ghost use Rattle.pads_forms.specs.Forms.{form_seen};
+ghost use Rattle.pads_forms.specs.Slots.{slot_seen};
+ghost use Rattle.pads_json.specs.Places.{place_text, steps};
 
-use crate::form::{Form, form_at};
 use crate::number::write_span;
 use crate::place::Place;
-use crate::slot::{Slot, slot_at};
-use crate::terms::Terms;
 use crate::text::write_text;
 use pads_calc::Term;
+use pads_forms::{Form, Slot, Terms, form_at, slot_at};
 use pads_value::{Bytes, Cause, Memory, Pd, Span, Val};
 
 /// Writes what stands before the place of a fault.

@@ -2,13 +2,10 @@
 #![tactic(auto)]
 
 mod faults;
-mod form;
 mod line;
 mod number;
 mod order;
 mod place;
-mod slot;
-mod terms;
 mod text;
 mod value;
 

@@ -4,19 +4,19 @@ ghost use Rattle.serde_json.specs.Data.{Data, array};
 ghost use Rattle.serde_json.specs.View.{items_of};
 ghost use Rattle.serde_json.specs.Written.{compact_text, items_text};
 ghost use Rattle.pads_json.specs.Faults.{listed};
-ghost use Rattle.pads_json.specs.Lines.{class_name as class_name_of, type_of, body_of, extra_fault, body_faults, row_faults, head_text, counts_text, row_data, line_told, row_line};
+ghost use Rattle.pads_json.specs.Lines.{class_name as class_name_of, body_of, extra_fault, body_faults, row_faults, head_text, counts_text, row_data, line_told, row_line};
 
 use crate::faults::{write_faults, write_own_at_point};
 use crate::number::{write_count, write_span};
 use crate::place::Place;
-use crate::terms::Terms;
 use crate::value::write_value;
-use pads_calc::{Module, Shape, Term};
+use pads_calc::{DEEPEST, Module, Shape, Term};
+use pads_forms::Terms;
 use pads_value::{Bytes, Class, Items, Memory, Pd, Row, Val};
 use std::alloc::Global;
 
 /// How deep calls may be nested in a record.
-const DEEPEST: u64 = 128;
+const DEPTH: u64 = DEEPEST as u64;
 
 /// Room for most lines, in bytes.
 const ROOM: usize = 512;
@@ -31,21 +31,11 @@ fn class_name(class: Class) -> &'static str
     }
 }
 
-/// The number of the declaration of a record.
-fn declaration(shape: Shape, record_number: u64) -> u16
-    ensures declaration { result ≡ type_of shape record_number }
-{
-    match shape.head {
-        Some(head) => { if record_number == 0 { head } else { shape.each } }
-        None => shape.each,
-    }
-}
-
 /// What a record's body is: a call of its declaration.
 fn body(alloc: Global, shape: Shape, record_number: u64) -> Term
     ensures body { result ≡ body_of shape record_number }
 {
-    Term::Call(declaration(shape, record_number), Items::new(alloc))
+    Term::Call(shape.type_of(record_number), Items::new(alloc))
 }
 
 /// Writes the fault of the node of bytes left over.
@@ -72,7 +62,7 @@ fn write_body_faults<'m>(
     match kids {
         [] => Ok(()),
         [kid, more @ ..] => {
-            write_faults(terms, out, kid, &Place::Body, Some(value), DEEPEST, body)?;
+            write_faults(terms, out, kid, &Place::Body, Some(value), DEPTH, body)?;
             write_extra(out, more)
         }
     }
@@ -164,7 +154,7 @@ fn write_object<'m>(
     write_head(terms, out, row, body)?;
     write_counts(out, row)?;
     out.extend_from_slice(br#","value":"#)?;
-    write_value(terms, alloc, out, &row.value, DEEPEST, body)?;
+    write_value(terms, alloc, out, &row.value, DEPTH, body)?;
     out.push(b'}')
 }
 

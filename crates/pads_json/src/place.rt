@@ -1,21 +1,12 @@
 ghost use Rattle.std.specs.Prelude.{◌≡◌, ◌++◌, decimal, OnOk};
 ghost use Rattle.json.specs.Print.{escape};
-ghost use Rattle.pads_json.specs.Steps.{first as first_of, later as later_of, word as word_of, step_seen, steps, place_text};
+ghost use Rattle.pads_forms.specs.Steps.{step_seen};
+ghost use Rattle.pads_json.specs.Places.{first, later, word, steps, place_text};
 
 use crate::text::{write_points, write_text};
 use itoa::Buffer;
+use pads_forms::Step;
 use pads_value::{Bytes, Memory};
-
-/// The way from a node to one of its kids.
-#[derive(Clone, Copy)]
-pub(crate) enum Step<'m> {
-    /// A named part of a struct, or a branch.
-    Named(&'m [u8]),
-    /// A part without a name by its number, from 0, all parts counted.
-    Unnamed(u64),
-    /// An element of an array by its number, from 0.
-    Element(u64),
-}
 
 /// Where a node stands in the body of a record.
 #[derive(Clone, Copy)]
@@ -32,41 +23,41 @@ fn write_number(out: &mut Bytes, number: u64) -> Result<(), Memory>
     write_text(out, buffer.format(number).as_bytes())
 }
 
-impl Step<'_> {
-    fn first(self) -> &'static [u8]
-        ensures first { result.now ≡ first_of (step_seen self.entry) }
-    {
-        match self {
-            Step::Named(_) | Step::Unnamed(_) => b"",
-            Step::Element(_) => b"$",
-        }
+/// What stands before a step's word directly below the body.
+fn before_first(step: Step<'_>) -> &'static [u8]
+    ensures first { result.now ≡ first (step_seen step.entry) }
+{
+    match step {
+        Step::Named(_) | Step::Unnamed(_) => b"",
+        Step::Element(_) => b"$",
     }
+}
 
-    fn later(self) -> &'static [u8]
-        ensures later { result.now ≡ later_of (step_seen self.entry) }
-    {
-        match self {
-            Step::Named(_) | Step::Unnamed(_) => b".",
-            Step::Element(_) => b"",
-        }
+/// What stands before a step's word below another node.
+fn before_later(step: Step<'_>) -> &'static [u8]
+    ensures later { result.now ≡ later (step_seen step.entry) }
+{
+    match step {
+        Step::Named(_) | Step::Unnamed(_) => b".",
+        Step::Element(_) => b"",
     }
+}
 
-    /// Writes the step's word.
-    #[tactic(auto, using(crate::proofs::Texts::escaped_append))]
-    fn write(self, out: &mut Bytes) -> Result<(), Memory>
-        ensures written { OnOk result (out.new ≡ out.old ++ escape (word_of (step_seen self.entry))) }
-    {
-        match self {
-            Step::Named(name) => write_points(out, name),
-            Step::Unnamed(number) => {
-                write_text(out, b"#")?;
-                write_number(out, number)
-            }
-            Step::Element(number) => {
-                write_text(out, b"[")?;
-                write_number(out, number)?;
-                write_text(out, b"]")
-            }
+/// Writes a step's word.
+#[tactic(auto, using(crate::proofs::Texts::escaped_append))]
+fn write_word(out: &mut Bytes, step: Step<'_>) -> Result<(), Memory>
+    ensures written { OnOk result (out.new ≡ out.old ++ escape (word (step_seen step.entry))) }
+{
+    match step {
+        Step::Named(name) => write_points(out, name),
+        Step::Unnamed(number) => {
+            write_text(out, b"#")?;
+            write_number(out, number)
+        }
+        Step::Element(number) => {
+            write_text(out, b"[")?;
+            write_number(out, number)?;
+            write_text(out, b"]")
         }
     }
 }
@@ -80,13 +71,13 @@ impl Place<'_, '_> {
         match self {
             Place::Body => write_text(out, b"$"),
             Place::Below(Place::Body, step) => {
-                write_text(out, step.first())?;
-                step.write(out)
+                write_text(out, before_first(*step))?;
+                write_word(out, *step)
             }
             Place::Below(above, step) => {
                 above.write(out)?;
-                write_text(out, step.later())?;
-                step.write(out)
+                write_text(out, before_later(*step))?;
+                write_word(out, *step)
             }
         }
     }

@@ -4,15 +4,13 @@ ghost use Rattle.serde_json.specs.Written.{compact_text, comma_if};
 ghost use Rattle.pads_json.specs.Members.{part_told, key_text};
 ghost use Rattle.pads_json.specs.Values.{shown, number_told, text_told, base_told, address_told, label_told, computed_told, term_told, struct_told, parts_told, branch_told, array_told, elements_told};
 
-use crate::form::form_at;
 use crate::number::{write_integer, write_null};
 use crate::order::order_of;
-use crate::slot::{arm_at, name_at};
-use crate::terms::Terms;
 use crate::text::write_quoted;
 use pads_bases::{Labels, spell_ip};
 use pads_calc::{Base, Part, Result2, Term};
 use pads_code::Coding;
+use pads_forms::{Terms, arm_at, form_at, name_at};
 use pads_value::{Bytes, Memory, Val};
 use std::alloc::Global;
 
@@ -121,7 +119,7 @@ pub(crate) fn write_value<'m>(
 }
 
 /// Writes a value of a term that isn't passed through.
-#[tactic(auto, using(crate::proofs::Layers::num_mapped, crate::proofs::Layers::text_mapped, crate::proofs::Layers::label_mapped))]
+#[tactic(auto, using(pads_forms::proofs::Shapes::num_mapped, pads_forms::proofs::Shapes::text_mapped, pads_forms::proofs::Shapes::label_mapped))]
 #[cycle(value)]
 fn write_form<'m>(
     terms: &Terms<'m>,

@@ -1,6 +1,6 @@
 -- What is told of each form of expression, from what is told of its parts.
 use Rattle.std.proofs.Common.{◌≡◌, ◌∙◌, sym, ap, refl, ℕ, suc, max, nat_lt, Bool, true, false, if◌then◌else◌, List, [], ◌∷◌, ◌++◌, Option, Some, None, fold, arith}
-use Rattle.pads_ast.specs.declared.expr.BinaryOperator.{BinaryOperator}
+use Rattle.pads_expr.specs.declared.expr.BinOp.{BinOp}
 use Rattle.pads_ast.specs.declared.expr.Expr.{Expr, Expr-F, roll-Expr, map-Expr}
 use Rattle.pads_ast.specs.declared.expr.Expr.TheShapes.{former-Expr-Chain-1, former-Expr-Post-1}
 use Rattle.pads_ast.specs.declared.expr.Expr.TheVariants as expr
@@ -80,7 +80,7 @@ told-variable : (scope : Scope) (name : Name) → told (judging.variable scope n
 unfolding variable
 told-variable scope name = told-found scope name (sort_of scope.visible name.text)
 
-told-binary : (operator : BinaryOperator) (left right : Judged) → told (judging.binary operator left right) ≡ binary operator (told left) (told right)
+told-binary : (operator : BinOp) (left right : Judged) → told (judging.binary operator left right) ≡ binary operator (told left) (told right)
 unfolding binary
 told-binary operator left right = told-as _ _ _ _ _ _ (capped-max left.height right.height) (simp least-append refl)
 

@@ -1,14 +1,14 @@
 -- What is told of a judged expression: of its violations the least alone, of its height no more than that
 -- it is too high. The forms of expressions in these terms.
 use Rattle.std.specs.Prelude.{ℕ, suc, min, max, Bool, not, ◌&&◌, if◌then◌else◌, List, Option, Some, None}
-use Rattle.pads_ast.specs.declared.expr.BinaryOperator.{BinaryOperator}
+use Rattle.pads_expr.specs.declared.expr.BinOp.{BinOp}
 use Rattle.pads_ast.specs.declared.expr.Expr.{Expr}
 use Rattle.pads_ast.specs.declared.expr.Link.{Link}
 use Rattle.pads_ast.specs.declared.expr.Step.{Step}
 use Rattle.pads_ast.specs.declared.expr.Step.TheVariants as step_form
 use Rattle.pads_ast.specs.declared.expr.UnaryOperator.{UnaryOperator}
 use Rattle.pads_ast.specs.declared.name.Name.{Name}
-use Rattle.pads_sorts.specs.declared.sort.Form.{Form}
+use Rattle.pads_rules.specs.declared.sort.Form.{Form}
 use Rattle.pads_rules.specs.declared.declared.Declared.{Declared}
 use Rattle.pads_rules.specs.declared.expr_sort.ExprSort.{ExprSort}
 use Rattle.pads_rules.specs.declared.expr_sort.ExprSort.TheVariants as expr_sort
@@ -64,7 +64,7 @@ wrong_operands takes left right =
     lesser (lesser (wrong takes left) (wrong takes right))
     (least (when (accepts takes left.sort && accepts takes right.sort && not (agree left.sort right.sort)) (breaks 9 right.first)))
 
-unfoldable pub binary : BinaryOperator → Judgement → Judgement → Judgement
+unfoldable pub binary : BinOp → Judgement → Judgement → Judgement
 binary operator left right =
     settle left.first (above (max left.height right.height)) (result_of operator)
     (lesser (lesser left.fault right.fault) (wrong_operands (takes operator) left right))

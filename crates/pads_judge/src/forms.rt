@@ -1,7 +1,7 @@
 //! The forms of expressions, from what is known of their parts.
 
 ghost use Rattle.std.specs.Prelude.{◌≡◌};
-ghost use Rattle.pads_ast.specs.declared.expr.BinaryOperator.TheVariants as binary_form;
+ghost use Rattle.pads_expr.specs.declared.expr.BinOp.TheVariants as binary_form;
 ghost use Rattle.pads_rules.specs.Judging.{unary_takes, is_text_or_array};
 ghost use Rattle.pads_rules.specs.Judging as judging;
 ghost use Rattle.pads_rules.specs.Sorts.{accepts, is_array_form};
@@ -11,14 +11,14 @@ ghost use Rattle.pads_judge.specs.Scopes.{names_in_scope};
 use crate::judgement::{above, leaf, settled};
 use crate::scope::{is_later, sort_in};
 use crate::{Judgement, Scope};
-use pads_ast::{BinaryOperator, Name, UnaryOperator, Word};
+use pads_ast::{Name, UnaryOperator, Word};
 use pads_declared::{TypeTable, element, has_choice, may_choose, member};
-use pads_rules::{CheckFault, ExprSort, fault_if, lesser};
-use pads_sorts::Form;
+use pads_expr::BinOp;
+use pads_rules::{CheckFault, ExprSort, Form, fault_if, lesser, result_of, unary_gives};
 
 /// Whether a sort may be a number or a text.
 fn is_ordered(sort: ExprSort) -> bool
-    ensures accepted { result ≡ accepts (judging.takes binary_form.LessThan) sort }
+    ensures accepted { result ≡ accepts (judging.takes binary_form.Lt) sort }
 {
     match sort {
         ExprSort::Unknown => true,
@@ -29,7 +29,7 @@ fn is_ordered(sort: ExprSort) -> bool
 
 /// Whether a sort may be a number, a text or a truth value.
 fn is_comparable(sort: ExprSort) -> bool
-    ensures accepted { result ≡ accepts (judging.takes binary_form.EqualTo) sort }
+    ensures accepted { result ≡ accepts (judging.takes binary_form.Eq) sort }
 {
     match sort {
         ExprSort::Unknown => true,
@@ -64,40 +64,19 @@ fn has_length(sort: ExprSort) -> bool
 }
 
 /// Whether an operator takes a sort.
-fn takes(operator: BinaryOperator, sort: ExprSort) -> bool
+fn takes(operator: BinOp, sort: ExprSort) -> bool
     ensures accepted { result ≡ accepts (judging.takes operator) sort }
 {
     match operator {
-        BinaryOperator::Or | BinaryOperator::And => sort.is_truth(),
-        BinaryOperator::EqualTo | BinaryOperator::NotEqualTo => is_comparable(sort),
-        BinaryOperator::LessThan
-        | BinaryOperator::AtMost
-        | BinaryOperator::GreaterThan
-        | BinaryOperator::AtLeast => is_ordered(sort),
-        BinaryOperator::Plus
-        | BinaryOperator::Minus
-        | BinaryOperator::Times
-        | BinaryOperator::Divide
-        | BinaryOperator::Remainder => sort.is_num(),
-    }
-}
-
-/// The sort that an operator gives.
-fn result_of(operator: BinaryOperator) -> ExprSort
-    ensures given { result ≡ judging.result_of operator }
-{
-    match operator {
-        BinaryOperator::Plus
-        | BinaryOperator::Minus
-        | BinaryOperator::Times
-        | BinaryOperator::Divide
-        | BinaryOperator::Remainder => ExprSort::plain(Form::Num),
-        _ => ExprSort::plain(Form::Truth),
+        BinOp::Or | BinOp::And => sort.is_truth(),
+        BinOp::Eq | BinOp::Ne => is_comparable(sort),
+        BinOp::Lt | BinOp::Le | BinOp::Gt | BinOp::Ge => is_ordered(sort),
+        BinOp::Add | BinOp::Sub | BinOp::Mul | BinOp::Div | BinOp::Rem => sort.is_num(),
     }
 }
 
 /// The operands of an operator that are of a wrong sort.
-fn wrong_operands(operator: BinaryOperator, left: Judgement, right: Judgement) -> Option<CheckFault>
+fn wrong_operands(operator: BinOp, left: Judgement, right: Judgement) -> Option<CheckFault>
     ensures wrong { result ≡ judgements.wrong_operands (judging.takes operator) left right }
 {
     let takes_left = takes(operator, left.sort);
@@ -114,7 +93,7 @@ fn wrong_operands(operator: BinaryOperator, left: Judgement, right: Judgement) -
 }
 
 #[tactic(auto, unfolding(crate::specs::Judgements::binary))]
-pub(crate) fn binary(operator: BinaryOperator, left: Judgement, right: Judgement) -> Judgement
+pub(crate) fn binary(operator: BinOp, left: Judgement, right: Judgement) -> Judgement
     ensures form { result ≡ judgements.binary operator left right }
 {
     let fault = lesser(
@@ -131,15 +110,6 @@ fn takes_unary(operator: UnaryOperator, sort: ExprSort) -> bool
     match operator {
         UnaryOperator::Minus => sort.is_num(),
         UnaryOperator::Not => sort.is_truth(),
-    }
-}
-
-fn unary_gives(operator: UnaryOperator) -> ExprSort
-    ensures given { result ≡ judging.unary_gives operator }
-{
-    match operator {
-        UnaryOperator::Minus => ExprSort::plain(Form::Num),
-        UnaryOperator::Not => ExprSort::plain(Form::Truth),
     }
 }
 

@@ -10,8 +10,7 @@ use crate::judgement::leaf;
 use crate::{Judgement, Scope};
 use pads_ast::{Expr, Link, Step};
 use pads_declared::TypeTable;
-use pads_rules::ExprSort;
-use pads_sorts::Form;
+use pads_rules::{ExprSort, Form};
 
 /// What is known of an expression with the declared types of its description, in a scope. It takes no memory.
 #[cycle(judge)]

@@ -1,8 +1,8 @@
 -- The values of an option, and the arguments, from the left.
-use Rattle.std.proofs.Common.{◌≡◌, ℕ, ◌≤◌, ◌<◌, true, false, not, nat_lt, List, [], ◌∷◌, Option, Some, None, length, slice_get, refl, ap, arith}
+use Rattle.std.proofs.Common.{◌≡◌, ℕ, ◌≤◌, ◌<◌, true, false, not, nat_lt, List, [], ◌∷◌, Some, None, length, slice_get, refl, arith}
 use Rattle.std.proofs.lemmas.Bool.{lt-ltb}
 use Rattle.std.specs.List.{list_any}
-use Rattle.pads_orders.specs.Options.{values, behind, arguments, is_option, setting}
+use Rattle.pads_orders.specs.Options.{values, behind, arguments, is_option, once}
 use Rattle.pads_orders.specs.Orders.{description_of}
 
 some_there : (xs : List (List ℕ)) (x : List ℕ) → slice_get xs 0 ≡ Some x → 0 < length xs
@@ -30,21 +30,20 @@ pub found_once : (beginning : List ℕ) (words more : List (List ℕ)) (word val
     → slice_get (values beginning more) 0 ≡ None → nat_lt 1 (length (values beginning words)) ≡ false
 found_once beginning words more word value whole found none = rw (whole, found, none_there (values beginning more) none) refl
 
--- what an option comes to, by how often it is given and its first value
-pub setting_none : {A : Type 0} (read : List ℕ → Option A) (usual : A) (given : List (List ℕ)) → slice_get given 0 ≡ None → setting read usual given ≡ Some usual
-setting_none read usual [] none = refl
-setting_none read usual (v ∷ given) none = cc
+-- the value of an option, by how often it is given and its first value
+pub once_none : (usual : List ℕ) (given : List (List ℕ)) → slice_get given 0 ≡ None → once usual given ≡ Some usual
+once_none usual [] none = refl
+once_none usual (v ∷ given) none = cc
 
-pub setting_once : {A : Type 0} (read : List ℕ → Option A) (usual : A) (given : List (List ℕ)) (value : List ℕ) → slice_get given 0 ≡ Some value → length given ≤ 1
-    → setting read usual given ≡ read value
-setting_once read usual [] value found few = cc
-setting_once read usual (v ∷ []) value found few = ap read (cc)
-setting_once read usual (v ∷ w ∷ given) value found few = absurd (omega arith)
+pub once_found : (usual : List ℕ) (given : List (List ℕ)) (value : List ℕ) → slice_get given 0 ≡ Some value → length given ≤ 1 → once usual given ≡ Some value
+once_found usual [] value found few = cc
+once_found usual (v ∷ []) value found few = cc
+once_found usual (v ∷ w ∷ given) value found few = absurd (omega arith)
 
-pub setting_again : {A : Type 0} (read : List ℕ → Option A) (usual : A) (given : List (List ℕ)) → 1 < length given → setting read usual given ≡ None
-setting_again read usual [] many = absurd (omega arith)
-setting_again read usual (v ∷ []) many = absurd (omega arith)
-setting_again read usual (v ∷ w ∷ given) many = refl
+pub once_again : (usual : List ℕ) (given : List (List ℕ)) → 1 < length given → once usual given ≡ None
+once_again usual [] many = absurd (omega arith)
+once_again usual (v ∷ []) many = absurd (omega arith)
+once_again usual (v ∷ w ∷ given) many = refl
 
 -- an option is no argument
 pub option_passed : (words more : List (List ℕ)) (word : List ℕ) → words ≡ word ∷ more → is_option word ≡ true → arguments more ≡ arguments words

@@ -1,7 +1,6 @@
--- The options of the command line.
-use Rattle.std.specs.Prelude.{ℕ, Bool, not, ◌||◌, if◌then◌else◌, List, [], ◌∷◌, Option, Some, None, codes, nat_eq, length, take, drop, option_map, option_and_then}
-use Rattle.std.specs.List.{filter, filter_map, list_all, list_any, starts_with}
-use Rattle.std.specs.Option.{is_some}
+-- The options among the words of the command line, and what their values come to.
+use Rattle.std.specs.Prelude.{ℕ, Bool, not, if◌then◌else◌, List, [], ◌∷◌, Option, Some, None, codes, nat_eq, length, take, drop, option_map}
+use Rattle.std.specs.List.{filter, filter_map, starts_with}
 use Rattle.std.specs.Str.{bytes_eq}
 use Rattle.pads_code.specs.declared.Coding.{Coding}
 use Rattle.pads_code.specs.declared.Coding.TheVariants.{Ascii, Ebcdic}
@@ -25,23 +24,11 @@ behind beginning word = if bytes_eq (take (length beginning) word) beginning the
 abbrev pub values : List ℕ → List (List ℕ) → List (List ℕ)
 values beginning words = filter_map (behind beginning) words
 
--- what comes of a value that is there
-abbrev pub given : {A B : Type 0} → Option A → (A → Option B) → Option B
-given value next = option_and_then next value
-
--- What an option comes to that may be given once, and else has its usual value.
-abbrev pub setting : {A : Type 0} → (List ℕ → Option A) → A → List (List ℕ) → Option A
-setting read usual [] = Some usual
-setting read usual (value ∷ []) = read value
-setting read usual (value ∷ other ∷ more) = None
-
--- A word is no option, or has one of these beginnings.
-abbrev pub is_one_of : List (List ℕ) → List ℕ → Bool
-is_one_of beginnings word = not (is_option word) || list_any (λ beginning. is_some (behind beginning word)) beginnings
-
--- Each option has one of these beginnings.
-abbrev pub has_only : List (List ℕ) → List (List ℕ) → Bool
-has_only beginnings words = list_all (is_one_of beginnings) words
+-- The value of an option that may be given once, and else has its usual value.
+abbrev pub once : List ℕ → List (List ℕ) → Option (List ℕ)
+once usual [] = Some usual
+once usual (value ∷ []) = Some value
+once usual (value ∷ other ∷ more) = None
 
 -- the coding of the description's ambient texts
 abbrev pub coding_of : List ℕ → Option Coding
@@ -50,9 +37,6 @@ coding_of value = if bytes_eq value (codes "ascii") then Some Ascii else if byte
 -- the most bytes of a record
 abbrev pub greatest_max : ℕ
 greatest_max = 16777216
-
-abbrev pub usual_max : ℕ
-usual_max = 1048576
 
 abbrev pub max_of : List ℕ → Option ℕ
 max_of = number_to greatest_max

@@ -1,61 +1,91 @@
--- Which words are an order. The first word is the command; the options stand anywhere behind it.
-use Rattle.std.specs.Prelude.{ℕ, ◌<◌, ◌≤◌, if◌then◌else◌, List, [], ◌∷◌, Option, Some, None, codes}
+-- Which words are an order. The first word is the command; its options stand anywhere behind it, and the other words are
+-- its arguments. Each option and each command has its line in the tables here.
+use Rattle.std.specs.Prelude.{ℕ, Bool, not, ◌||◌, ◌<◌, ◌≤◌, if◌then◌else◌, List, [], ◌∷◌, Option, Some, None, codes, option_and_then, option_map}
+use Rattle.std.specs.List.{list_all, list_any}
+use Rattle.std.specs.Option.{is_some}
 use Rattle.std.specs.Str.{bytes_eq}
-use Rattle.pads_code.specs.declared.Coding.{Coding}
-use Rattle.pads_code.specs.declared.Coding.TheVariants.{Ascii}
-use Rattle.pads_frame.specs.declared.discipline.Discipline.{Discipline}
-use Rattle.pads_frame.specs.declared.discipline.Discipline.TheVariants.{Term}
 use Rattle.pads_frame.specs.Fits.{FitsLimit}
+use Rattle.pads_orders.specs.declared.order.Command.{Command}
+use Rattle.pads_orders.specs.declared.order.Command.TheVariants as command
 use Rattle.pads_orders.specs.declared.order.Cutting.{Cutting}
+use Rattle.pads_orders.specs.declared.order.OptionName.{OptionName}
+use Rattle.pads_orders.specs.declared.order.OptionName.TheVariants as option
 use Rattle.pads_orders.specs.declared.order.Order.{Order}
 use Rattle.pads_orders.specs.declared.order.Order.TheVariants as order
-use Rattle.pads_orders.specs.Options.{arguments, values, setting, has_only, given, coding_of, max_of, records_of, usual_max, greatest_max}
+use Rattle.pads_orders.specs.declared.order.Settings.{Settings}
+use Rattle.pads_orders.specs.Options.{is_option, arguments, behind, values, once, coding_of, max_of, records_of, greatest_max}
+
+-- how each option begins
+abbrev pub beginning : OptionName → List ℕ
+beginning option.Coding = codes "--coding="
+beginning option.Max = codes "--max="
+beginning option.Records = codes "--records="
+
+-- the value that it has where it isn't given
+abbrev pub usual : OptionName → List ℕ
+usual option.Coding = codes "ascii"
+usual option.Max = codes "1048576"
+usual option.Records = codes "nl"
+
+-- what comes of a value that is there
+abbrev pub given : {A B : Type 0} → Option A → (A → Option B) → Option B
+given value next = option_and_then next value
+
+-- the value of an option, of which none is there where it is given again
+abbrev pub value_in : OptionName → List (List ℕ) → Option (List ℕ)
+value_in name words = once (usual name) (values (beginning name) words)
+
+abbrev pub setting : {A : Type 0} → OptionName → (List ℕ → Option A) → List (List ℕ) → Option A
+setting name read words = given (value_in name words) read
+
+-- what the value of each option comes to
+abbrev pub settings_in : List (List ℕ) → Option Settings
+settings_in words =
+    given (setting option.Coding coding_of words) (λ coding.
+    given (setting option.Max max_of words) (λ max.
+    given (setting option.Records (records_of max) words) (λ discipline.
+    Some (record { coding = coding; cutting = record { discipline = discipline; max = max } }))))
+
+-- the options that each command takes
+abbrev pub options_of : Command → List OptionName
+options_of command.Check = option.Coding ∷ []
+options_of command.Parse = option.Coding ∷ option.Max ∷ option.Records ∷ []
+
+-- the command of this name
+abbrev pub command_of : List ℕ → Option Command
+command_of name =
+    if bytes_eq name (codes "check") then Some command.Check
+    else if bytes_eq name (codes "parse") then Some command.Parse
+    else None
 
 -- the one argument, which names a description's file and so isn't empty
 abbrev pub description_of : List (List ℕ) → Option (List ℕ)
 description_of ((letter ∷ name) ∷ []) = Some (letter ∷ name)
 description_of arguments = None
 
-abbrev pub coding_in : List (List ℕ) → Option Coding
-coding_in words = setting coding_of Ascii (values (codes "--coding=") words)
+-- the order that a command is with these arguments and options
+abbrev pub order_with : Command → List (List ℕ) → Settings → Option Order
+order_with command.Check arguments settings = option_map (λ description. order.Check description settings) (description_of arguments)
+order_with command.Parse arguments settings = option_map (λ description. order.Parse description settings) (description_of arguments)
 
-abbrev pub max_in : List (List ℕ) → Option ℕ
-max_in words = setting max_of usual_max (values (codes "--max=") words)
+-- A word is no option, or one of these.
+abbrev pub is_one_of : List OptionName → List ℕ → Bool
+is_one_of names word = not (is_option word) || list_any (λ name. is_some (behind (beginning name) word)) names
 
-abbrev pub records_in : ℕ → List (List ℕ) → Option Discipline
-records_in max words = setting (records_of max) (Term 10) (values (codes "--records=") words)
+-- Each option is one of these.
+abbrev pub has_only : List OptionName → List (List ℕ) → Bool
+has_only names words = list_all (is_one_of names) words
 
-abbrev pub cutting_in : List (List ℕ) → Option Cutting
-cutting_in words =
-    given (max_in words) (λ max.
-    given (records_in max words) (λ discipline.
-    Some (record { discipline = discipline; max = max })))
-
--- `check DESC`, with a coding
-abbrev pub check_of : List (List ℕ) → Option Order
-check_of words =
-    if has_only (codes "--coding=" ∷ []) words then
-    given (description_of (arguments words)) (λ description.
-    given (coding_in words) (λ coding.
-    Some (order.Check description coding)))
-    else None
-
--- `parse DESC`, with a coding and how records are cut
-abbrev pub parse_of : List (List ℕ) → Option Order
-parse_of words =
-    if has_only (codes "--coding=" ∷ codes "--max=" ∷ codes "--records=" ∷ []) words then
-    given (description_of (arguments words)) (λ description.
-    given (coding_in words) (λ coding.
-    given (cutting_in words) (λ cutting.
-    Some (order.Parse description coding cutting))))
-    else None
+-- the values of the options behind a command, each of which it takes
+abbrev pub settings_for : Command → List (List ℕ) → Option Settings
+settings_for asked words = if has_only (options_of asked) words then settings_in words else None
 
 abbrev pub order_of : List (List ℕ) → Option Order
 order_of [] = None
-order_of (command ∷ words) =
-    if bytes_eq command (codes "check") then check_of words
-    else if bytes_eq command (codes "parse") then parse_of words
-    else None
+order_of (name ∷ words) =
+    given (command_of name) (λ asked.
+    given (settings_for asked words) (λ settings.
+    order_with asked (arguments words) settings))
 
 -- A record has one byte at least and 16,777,216 at most, and a block isn't longer than a record may be.
 pub record IsWithinLimits (cutting : Cutting) : Type 0 where
@@ -65,5 +95,5 @@ pub record IsWithinLimits (cutting : Cutting) : Type 0 where
 
 -- What each order keeps.
 abbrev pub KeepsLimits : Order → Type 0
-KeepsLimits (order.Check description coding) = Unit {0}
-KeepsLimits (order.Parse description coding cutting) = IsWithinLimits cutting
+KeepsLimits (order.Check description settings) = IsWithinLimits settings.cutting
+KeepsLimits (order.Parse description settings) = IsWithinLimits settings.cutting

@@ -7,7 +7,7 @@ mod order;
 mod reading;
 mod word;
 
-pub use order::{Cutting, Order, Usage};
+pub use order::{Cutting, Order, Settings, Usage};
 pub use reading::read_order;
 pub use word::{Word, Words};
 

@@ -1,19 +1,13 @@
-ghost use Rattle.std.specs.Prelude.{◌≡◌, ◌<◌, ◌≤◌, ◌^◌, codes, length, nat_lt, option_copied, slice_get, IfSome};
+ghost use Rattle.std.specs.Prelude.{◌≡◌, ◌≤◌, ◌^◌, length, nat_lt, option_copied, slice_get, IfSome};
 ghost use Rattle.pads_frame.specs.Fits.{FitsLimit};
-ghost use Rattle.pads_orders.specs.Options.{is_option, behind, values, coding_of, records_of, records_with, greatest_max};
-ghost use Rattle.pads_orders.specs.Orders.{coding_in, max_in, records_in, cutting_in, IsWithinLimits};
+ghost use Rattle.pads_orders.specs.Options.{is_option, behind, values, coding_of, records_of, records_with};
+ghost use Rattle.pads_orders.specs.Orders.{value_in};
 
 use crate::number::{hex_byte, number_to};
-use crate::order::Cutting;
+use crate::order::OptionName;
 use crate::word::Word;
 use pads_code::Coding;
 use pads_frame::Discipline;
-
-/// The most bytes of a record that `--max` may allow.
-const GREATEST_MAX: u64 = 16_777_216;
-
-/// The most bytes of a record where nothing is said.
-const USUAL_MAX: u64 = 1_048_576;
 
 /// Whether a word is an option.
 pub(crate) fn is_option(word: &Word) -> bool
@@ -61,8 +55,23 @@ fn is_repeated(beginning: &[u8], words: &[Word]) -> bool
     false
 }
 
+/// The value of an option: the one that is given, or else the usual one. There is none where the
+/// option is given again.
+pub(crate) fn value_in<'a>(name: OptionName, words: &'a [Word]) -> Option<&'a [u8]>
+    ensures value { option_copied result ≡ value_in name words.now }
+{
+    let line = name.line();
+    if is_repeated(line.beginning, words) {
+        return None;
+    }
+    match first(line.beginning, words) {
+        None => Some(line.usual),
+        Some(value) => Some(value),
+    }
+}
+
 /// The coding that a value names.
-fn coding_of(value: &[u8]) -> Option<Coding>
+pub(crate) fn coding_of(value: &[u8]) -> Option<Coding>
     ensures coding { result ≡ coding_of value.now }
 {
     if value == b"ascii".as_slice() {
@@ -71,34 +80,6 @@ fn coding_of(value: &[u8]) -> Option<Coding>
         Some(Coding::Ebcdic)
     } else {
         None
-    }
-}
-
-/// The coding of the description's ambient texts.
-pub(crate) fn coding_in(words: &[Word]) -> Option<Coding>
-    ensures coding { result ≡ coding_in words.now }
-{
-    if is_repeated(b"--coding=", words) {
-        return None;
-    }
-    match first(b"--coding=", words) {
-        None => Some(Coding::Ascii),
-        Some(value) => coding_of(value),
-    }
-}
-
-/// The most bytes of a record.
-fn max_in(words: &[Word]) -> Option<u64>
-    ensures max { result ≡ max_in words.now }
-    ensures some { IfSome result (λ max. 0 < max) }
-    ensures limit { IfSome result (λ max. max ≤ greatest_max) }
-{
-    if is_repeated(b"--max=", words) {
-        return None;
-    }
-    match first(b"--max=", words) {
-        None => Some(USUAL_MAX),
-        Some(value) => number_to(GREATEST_MAX, value),
     }
 }
 
@@ -117,7 +98,7 @@ fn records_with(max: u64, terminator: Option<&[u8]>, block: Option<&[u8]>) -> Op
 }
 
 /// How the records lie in the input.
-fn records_of(max: u64, value: &[u8]) -> Option<Discipline>
+pub(crate) fn records_of(max: u64, value: &[u8]) -> Option<Discipline>
     requires small { max ≤ 2 ^ 24 }
     ensures records { result ≡ records_of max value.now }
     ensures fits { IfSome result (λ discipline. FitsLimit discipline max) }
@@ -131,29 +112,4 @@ fn records_of(max: u64, value: &[u8]) -> Option<Discipline>
     } else {
         records_with(max, behind(b"term:", value), behind(b"fixed:", value))
     }
-}
-
-/// How the records lie in the input, by the words.
-fn records_in(max: u64, words: &[Word]) -> Option<Discipline>
-    requires small { max ≤ 2 ^ 24 }
-    ensures records { result ≡ records_in max words.now }
-    ensures fits { IfSome result (λ discipline. FitsLimit discipline max) }
-{
-    if is_repeated(b"--records=", words) {
-        return None;
-    }
-    match first(b"--records=", words) {
-        None => Some(Discipline::Term(b'\n')),
-        Some(value) => records_of(max, value),
-    }
-}
-
-/// How records are cut from the input.
-pub(crate) fn cutting_in(words: &[Word]) -> Option<Cutting>
-    ensures cutting { result ≡ cutting_in words.now }
-    ensures limits { IfSome result IsWithinLimits }
-{
-    let max = max_in(words)?;
-    let discipline = records_in(max, words)?;
-    Some(Cutting { discipline, max })
 }

@@ -1,6 +1,16 @@
+ghost use Rattle.std.specs.Prelude.{◌≡◌, ◌↔◌, Some, None, Err, IfOk, IfSome};
+ghost use Rattle.pads_orders.specs.Options.{arguments};
+ghost use Rattle.pads_orders.specs.Orders.{beginning, usual, settings_in, options_of, command_of, order_with, IsWithinLimits, KeepsLimits};
+ghost use Rattle.pads_value.specs.declared.memory.Refusal.TheVariants as refusal;
+
+use crate::number::number_to;
+use crate::option::{coding_of, records_of, value_in};
+use crate::reading::description;
 use crate::word::Word;
 use pads_code::Coding;
 use pads_frame::Discipline;
+use pads_value::Refusal;
+use std::alloc::Global;
 
 /// How an input is cut into records, and the most bytes that one may have: from 1 to 16,777,216.
 #[derive(Clone, Copy, Debug)]
@@ -9,22 +19,137 @@ pub struct Cutting {
     pub max: u64,
 }
 
-/// What the command line asks for, with the usual values of options that aren't given.
+/// What the options of the command line come to, with the usual values of those that aren't given.
+#[derive(Clone, Copy, Debug)]
+pub struct Settings {
+    pub coding: Coding,
+    pub cutting: Cutting,
+}
+
+/// What the command line asks for.
 #[derive(Drop)]
 pub enum Order {
     /// Whether the description in this file is accepted.
     Check {
         description: Word,
-        coding: Coding,
+        settings: Settings,
     },
     /// One line for each record that is read by the description in this file.
     Parse {
         description: Word,
-        coding: Coding,
-        cutting: Cutting,
+        settings: Settings,
     },
 }
 
 /// The words are no order.
 #[derive(Clone, Copy, Debug, PartialEq, Eq)]
 pub struct Usage;
+
+/// The options.
+#[derive(Clone, Copy, Debug, PartialEq, Eq)]
+pub(crate) enum OptionName {
+    Coding,
+    Max,
+    Records,
+}
+
+/// A line of the table of options: how one begins, and the value that it has where it isn't given.
+#[derive(Clone, Copy)]
+pub(crate) struct Line {
+    pub(crate) beginning: &'static [u8],
+    pub(crate) usual: &'static [u8],
+}
+
+impl Line {
+    fn new(beginning: &'static [u8], usual: &'static [u8]) -> Line
+        ensures beginning { result.beginning.now ≡ beginning.now }
+        ensures usual { result.usual.now ≡ usual.now }
+    {
+        Line { beginning, usual }
+    }
+}
+
+impl OptionName {
+    /// Its line in the table of options.
+    pub(crate) fn line(self) -> Line
+        ensures beginning { result.beginning.now ≡ beginning self }
+        ensures usual { result.usual.now ≡ usual self }
+    {
+        match self {
+            OptionName::Coding => Line::new(b"--coding=", b"ascii"),
+            OptionName::Max => Line::new(b"--max=", b"1048576"),
+            OptionName::Records => Line::new(b"--records=", b"nl"),
+        }
+    }
+}
+
+/// What the value of each option comes to.
+pub(crate) fn settings_in(words: &[Word]) -> Option<Settings>
+    ensures settings { result ≡ settings_in words.now }
+    ensures limits { IfSome result (λ settings. IsWithinLimits settings.cutting) }
+{
+    let coding = coding_of(value_in(OptionName::Coding, words)?)?;
+    let max = number_to(16_777_216, value_in(OptionName::Max, words)?)?;
+    let discipline = records_of(max, value_in(OptionName::Records, words)?)?;
+    Some(Settings {
+        coding,
+        cutting: Cutting { discipline, max },
+    })
+}
+
+/// The commands.
+#[derive(Clone, Copy, Debug, PartialEq, Eq)]
+pub(crate) enum Command {
+    Check,
+    Parse,
+}
+
+impl Command {
+    /// The command of this name.
+    pub(crate) fn named(name: &str) -> Option<Command>
+        ensures command { result ≡ command_of name.now }
+    {
+        if name == "check" {
+            Some(Command::Check)
+        } else if name == "parse" {
+            Some(Command::Parse)
+        } else {
+            None
+        }
+    }
+
+    /// The options that it takes.
+    pub(crate) fn options(self) -> &'static [OptionName]
+        ensures options { result.now ≡ options_of self }
+    {
+        match self {
+            Command::Check => &[OptionName::Coding],
+            Command::Parse => &[OptionName::Coding, OptionName::Max, OptionName::Records],
+        }
+    }
+
+    /// The order that it is with the arguments among these words and these options. No memory is taken
+    /// where it is none.
+    pub(crate) fn order(
+        self,
+        alloc: Global,
+        words: &[Word],
+        settings: Settings,
+    ) -> Result<Order, Refusal<Usage>>
+        requires limits { IsWithinLimits settings.cutting }
+        ensures order { IfOk result (λ order. order_with self (arguments words.now) settings ≡ Some order) }
+        ensures usage { (result ≡ Err (refusal.Fault record {})) ↔ (order_with self (arguments words.now) settings ≡ None) }
+        ensures limits { IfOk result KeepsLimits }
+    {
+        match self {
+            Command::Check => Ok(Order::Check {
+                description: description(alloc, words)?,
+                settings,
+            }),
+            Command::Parse => Ok(Order::Parse {
+                description: description(alloc, words)?,
+                settings,
+            }),
+        }
+    }
+}

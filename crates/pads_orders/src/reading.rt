@@ -1,12 +1,12 @@
-ghost use Rattle.std.specs.Prelude.{◌≡◌, ◌↔◌, Some, None, Err, IfOk, codes, option_copied, not, ◌∷◌, []};
-ghost use Rattle.std.specs.List.{list_all, list_any};
+ghost use Rattle.std.specs.Prelude.{◌≡◌, ◌↔◌, Some, None, Err, IfOk, IfSome, option_copied, not};
+ghost use Rattle.std.specs.List.{list_any};
 ghost use Rattle.std.specs.Option.{is_some};
-ghost use Rattle.pads_orders.specs.Options.{arguments, is_one_of, has_only, is_option, behind};
-ghost use Rattle.pads_orders.specs.Orders.{check_of, parse_of, description_of, order_of, KeepsLimits};
+ghost use Rattle.pads_orders.specs.Options.{arguments, is_option, behind};
+ghost use Rattle.pads_orders.specs.Orders.{beginning, description_of, is_one_of, has_only, settings_for, order_of, IsWithinLimits, KeepsLimits};
 ghost use Rattle.pads_value.specs.declared.memory.Refusal.TheVariants as refusal;
 
-use crate::option::{behind, coding_in, cutting_in, is_option};
-use crate::order::{Order, Usage};
+use crate::option::{behind, is_option};
+use crate::order::{Command, OptionName, Order, Settings, Usage, settings_in};
 use crate::word::{Word, Words};
 use pads_value::Refusal;
 use std::alloc::Global;
@@ -35,93 +35,57 @@ fn description_in(words: &[Word]) -> Option<&Word>
     None
 }
 
-/// Whether a word begins so.
-fn begins(beginning: &[u8], word: &Word) -> bool
-    ensures begins { result ≡ is_some (behind beginning.now word.now) }
+/// The one argument, which names a description's file.
+pub(crate) fn description(alloc: Global, words: &[Word]) -> Result<Word, Refusal<Usage>>
+    ensures description { IfOk result (λ name. description_of (arguments words.now) ≡ Some name) }
+    ensures usage { (result ≡ Err (refusal.Fault record {})) ↔ (description_of (arguments words.now) ≡ None) }
 {
-    match behind(beginning, word.as_str().as_bytes()) {
+    let Some(name) = description_in(words) else {
+        return Err(Refusal::Fault(Usage));
+    };
+    Ok(name.copy(alloc)?)
+}
+
+/// Whether a word is an option of this name.
+fn is_named(name: OptionName, word: &Word) -> bool
+    ensures named { result ≡ is_some (behind (beginning name) word.now) }
+{
+    match behind(name.line().beginning, word.as_str().as_bytes()) {
         Some(_) => true,
         None => false,
     }
 }
 
-/// Whether a word is no option, or one of `check`.
-fn is_for_check(word: &Word) -> bool
-    ensures fits { result ≡ is_one_of (codes "--coding=" ∷ []) word.now }
+/// Whether a word is one of these options.
+fn is_listed(names: &[OptionName], word: &Word) -> bool
+    ensures listed { result ≡ list_any (λ name. is_some (behind (beginning name) word.now)) names.now }
 {
-    !is_option(word) || begins(b"--coding=", word)
+    names.iter().any(|name| is_named(*name, word))
 }
 
-/// Whether a word is no option, or one of `parse`.
-fn is_for_parse(word: &Word) -> bool
-    ensures fits { result ≡ is_one_of (codes "--coding=" ∷ codes "--max=" ∷ codes "--records=" ∷ []) word.now }
+/// Whether a word is no option, or one of these.
+fn is_one_of(names: &[OptionName], word: &Word) -> bool
+    ensures suits { result ≡ is_one_of names.now word.now }
 {
-    !is_option(word)
-        || begins(b"--coding=", word)
-        || begins(b"--max=", word)
-        || begins(b"--records=", word)
+    !is_option(word) || is_listed(names, word)
 }
 
-/// Whether each option is one of `check`.
-fn all_for_check(words: &[Word]) -> bool
-    ensures all { result ≡ has_only (codes "--coding=" ∷ []) words.now }
+/// Whether each option is one of these.
+fn has_only(names: &[OptionName], words: &[Word]) -> bool
+    ensures only { result ≡ has_only names.now words.now }
 {
-    words.iter().all(|word| is_for_check(word))
+    words.iter().all(|word| is_one_of(names, word))
 }
 
-/// Whether each option is one of `parse`.
-fn all_for_parse(words: &[Word]) -> bool
-    ensures all { result ≡ has_only (codes "--coding=" ∷ codes "--max=" ∷ codes "--records=" ∷ []) words.now }
+/// What the options behind a command come to, each of which it takes.
+fn settings_for(command: Command, words: &[Word]) -> Option<Settings>
+    ensures settings { result ≡ settings_for command words.now }
+    ensures limits { IfSome result (λ settings. IsWithinLimits settings.cutting) }
 {
-    words.iter().all(|word| is_for_parse(word))
-}
-
-/// `check DESC`.
-fn check(alloc: Global, words: &[Word]) -> Result<Order, Refusal<Usage>>
-    ensures order { IfOk result (λ order. check_of words.now ≡ Some order) }
-    ensures usage { (result ≡ Err (refusal.Fault record {})) ↔ (check_of words.now ≡ None) }
-    ensures limits { IfOk result KeepsLimits }
-{
-    if !all_for_check(words) {
-        return Err(Refusal::Fault(Usage));
+    if !has_only(command.options(), words) {
+        return None;
     }
-    let Some(description) = description_in(words) else {
-        return Err(Refusal::Fault(Usage));
-    };
-    let Some(coding) = coding_in(words) else {
-        return Err(Refusal::Fault(Usage));
-    };
-    let description = description.copy(alloc)?;
-    Ok(Order::Check {
-        description,
-        coding,
-    })
-}
-
-/// `parse DESC`.
-fn parse(alloc: Global, words: &[Word]) -> Result<Order, Refusal<Usage>>
-    ensures order { IfOk result (λ order. parse_of words.now ≡ Some order) }
-    ensures usage { (result ≡ Err (refusal.Fault record {})) ↔ (parse_of words.now ≡ None) }
-    ensures limits { IfOk result KeepsLimits }
-{
-    if !all_for_parse(words) {
-        return Err(Refusal::Fault(Usage));
-    }
-    let Some(description) = description_in(words) else {
-        return Err(Refusal::Fault(Usage));
-    };
-    let Some(coding) = coding_in(words) else {
-        return Err(Refusal::Fault(Usage));
-    };
-    let Some(cutting) = cutting_in(words) else {
-        return Err(Refusal::Fault(Usage));
-    };
-    let description = description.copy(alloc)?;
-    Ok(Order::Parse {
-        description,
-        coding,
-        cutting,
-    })
+    settings_in(words)
 }
 
 /// Reads the words of the command line. `Usage` comes exactly where they are no order.
@@ -130,14 +94,14 @@ pub fn read_order(alloc: Global, words: &Words) -> Result<Order, Refusal<Usage>>
     ensures usage { (result ≡ Err (refusal.Fault record {})) ↔ (order_of words.now ≡ None) }
     ensures limits { IfOk result KeepsLimits }
 {
-    let [command, others @ ..] = words.as_slice() else {
+    let [name, others @ ..] = words.as_slice() else {
         return Err(Refusal::Fault(Usage));
     };
-    if command.as_str() == "check" {
-        return check(alloc, others);
-    }
-    if command.as_str() == "parse" {
-        return parse(alloc, others);
-    }
-    Err(Refusal::Fault(Usage))
+    let Some(command) = Command::named(name.as_str()) else {
+        return Err(Refusal::Fault(Usage));
+    };
+    let Some(settings) = settings_for(command, others) else {
+        return Err(Refusal::Fault(Usage));
+    };
+    command.order(alloc, others, settings)
 }

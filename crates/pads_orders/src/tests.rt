@@ -21,30 +21,29 @@ fn read(alloc: Global, line: &str) -> Result<Order, Refusal<Usage>> {
 
 /// The order is `parse` of the file `a` with this coding and cutting.
 fn is_parse(order: &Order, wanted: Coding, discipline: Discipline, max: u64) -> bool {
-    match order {
-        Order::Parse {
-            description,
-            coding,
-            cutting,
-        } => {
-            description.as_str() == "a"
-                && *coding == wanted
-                && cutting.discipline == discipline
-                && cutting.max == max
-        }
-        Order::Check { .. } => false,
-    }
+    let Order::Parse {
+        description,
+        settings,
+    } = order
+    else {
+        return false;
+    };
+    description.as_str() == "a"
+        && settings.coding == wanted
+        && settings.cutting.discipline == discipline
+        && settings.cutting.max == max
 }
 
 /// The order is `check` of the file `a` with this coding.
 fn is_check(order: &Order, wanted: Coding) -> bool {
-    match order {
-        Order::Check {
-            description,
-            coding,
-        } => description.as_str() == "a" && *coding == wanted,
-        Order::Parse { .. } => false,
-    }
+    let Order::Check {
+        description,
+        settings,
+    } = order
+    else {
+        return false;
+    };
+    description.as_str() == "a" && settings.coding == wanted
 }
 
 /// The line is `parse` of the file `a` with this coding and cutting.

@@ -7,7 +7,7 @@ use Rattle.pads_ast.specs.declared.decl.DeclMark.{DeclMark}
 use Rattle.pads_ast.specs.declared.decl.DeclMark.TheVariants as mark
 use Rattle.pads_ast.specs.declared.decl.Part.{Part}
 use Rattle.pads_ast.specs.declared.decl.Part.TheVariants as part
-use Rattle.pads_ast.specs.declared.expr.BinaryOperator.TheVariants as operator
+use Rattle.pads_expr.specs.declared.expr.BinOp.TheVariants as operator
 use Rattle.pads_ast.specs.declared.expr.Expr.{Expr}
 use Rattle.pads_ast.specs.declared.expr.Expr.TheVariants as expr
 use Rattle.pads_ast.specs.declared.expr.Step.TheVariants as step
@@ -17,18 +17,17 @@ use Rattle.pads_ast.specs.declared.types.Arg.TheVariants as arg
 use Rattle.pads_ast.specs.declared.types.Literal.TheVariants as literal
 use Rattle.pads_ast.specs.declared.types.Type.{«Type»}
 use Rattle.pads_int.specs.declared.kind.Kind.TheVariants.{U8}
-use Rattle.pads_sorts.specs.declared.sort.Form.TheVariants as form
-use Rattle.pads_sorts.specs.declared.sort.Sort.{Sort}
+use Rattle.pads_rules.specs.declared.sort.Form.TheVariants as form
+use Rattle.pads_rules.specs.declared.sort.Sort.{Sort}
 use Rattle.pads_base_names.specs.Names.{base_name, kind_of, field_of, is_word, behind}
-use Rattle.pads_resolved.specs.declared.base_type.BaseType.TheVariants as base_type
-use Rattle.pads_resolved.specs.declared.base_type.Prefix.TheVariants as prefix
-use Rattle.pads_resolved.specs.declared.decl.DeclBody.TheVariants as body
-use Rattle.pads_resolved.specs.declared.decl.Part.TheVariants as resolved_part
-use Rattle.pads_resolved.specs.declared.decl.Role.TheVariants as role
-use Rattle.pads_resolved.specs.declared.expr.BinaryOperator.TheVariants as resolved_operator
-use Rattle.pads_resolved.specs.declared.expr.Expr.TheVariants as resolved_expr
-use Rattle.pads_resolved.specs.declared.expr.Meaning.TheVariants as meaning
-use Rattle.pads_resolved.specs.declared.types.TypeName.TheVariants as type_name
+use Rattle.pads_typed_tree.specs.declared.base_type.BaseType.TheVariants as base_type
+use Rattle.pads_base_names.specs.declared.meaning.NamedCoding.TheVariants as coding
+use Rattle.pads_typed_tree.specs.declared.decl.DeclBody.TheVariants as body
+use Rattle.pads_typed_tree.specs.declared.decl.Part.TheVariants as resolved_part
+use Rattle.pads_typed_tree.specs.declared.decl.Role.TheVariants as role
+use Rattle.pads_typed_tree.specs.declared.expr.Expr.TheVariants as resolved_expr
+use Rattle.pads_typed_tree.specs.declared.expr.Meaning.TheVariants as meaning
+use Rattle.pads_typed_tree.specs.declared.types.TypeName.TheVariants as type_name
 use Rattle.pads_rules.specs.declared.declared.Content.TheVariants as content
 use Rattle.pads_rules.specs.declared.expr_sort.ExprSort.TheVariants as expr_sort
 use Rattle.pads_rules.specs.Pieces.{sites}
@@ -76,8 +75,8 @@ fields : resolved (record {
         params = [];
         body = body.Struct (record {
           parts =
-              resolved_part.Field (record { of = record { optional = false; name = type_name.Base (base_type.Int prefix.Ambient U8); args = [] }; name = codes "a"; constraint = None })
-              ∷ resolved_part.Field (record { of = record { optional = false; name = type_name.Base (base_type.UntilEor prefix.Ambient); args = [] }; name = codes "b"; constraint = None }) ∷ [];
+              resolved_part.Field (record { of = record { optional = false; name = type_name.Base (base_type.Int coding.Ambient U8); args = [] }; name = codes "a"; constraint = None })
+              ∷ resolved_part.Field (record { of = record { optional = false; name = type_name.Base (base_type.UntilEor coding.Ambient); args = [] }; name = codes "b"; constraint = None }) ∷ [];
           condition = None;
         });
       } ∷ [];
@@ -87,9 +86,9 @@ unfolding resolved decl_at role_of params_scope body_at struct_at part_at branch
 fields = refl
 
 -- Pstruct r { '|'; Puint8 a; } Pwhere { (a) < 3 }: the field is part number 1
-condition : expression [] [] (expr.Chain (expr.Paren 0 (expr.Name (name (codes "a")))) (record { operator = operator.LessThan; operand = expr.Number 3 0 } ∷ []))
+condition : expression [] [] (expr.Chain (expr.Paren 0 (expr.Name (name (codes "a")))) (record { operator = operator.Lt; operand = expr.Number 3 0 } ∷ []))
     (fields_after [] [] 0 (part.Literal (literal.Word (word.Char 124 0)) ∷ field (bare (codes "Puint8")) (codes "a") ∷ []))
-    ≡ as_sort (resolved_expr.Binary resolved_operator.LessThan (resolved_expr.Name (meaning.Field 1) plain_sort) (resolved_expr.Number (pos 3))) truth
+    ≡ as_sort (resolved_expr.Binary operator.Lt (resolved_expr.Name (meaning.Field 1) plain_sort) (resolved_expr.Number (pos 3))) truth
 unfolding linked binary name_in same_text name_meaning base_name kind_of field_of is_word behind
 condition = simp forms refl
 
@@ -124,11 +123,11 @@ none = simp forms refl
 -- `elts[length - 1]` of an array of numbers, declaration number 0
 element : expression []
     (record { name = codes "a"; mark = None; record_list = false; params = []; sort = plain (form.Array 0); content = content.Element num } ∷ [])
-    (expr.Post (expr.Name (name (codes "elts"))) (step.Index 0 (expr.Chain (expr.Name (name (codes "length"))) (record { operator = operator.Minus; operand = expr.Number 1 0 } ∷ [])) ∷ []))
+    (expr.Post (expr.Name (name (codes "elts"))) (step.Index 0 (expr.Chain (expr.Name (name (codes "length"))) (record { operator = operator.Sub; operand = expr.Number 1 0 } ∷ [])) ∷ []))
     (array_scope 0 [])
     ≡ as_sort
     (resolved_expr.Index (resolved_expr.Name meaning.Elts (record { optional = 0; form = form.Array 0 }))
-    (resolved_expr.Binary resolved_operator.Minus (resolved_expr.Name meaning.Length plain_sort) (resolved_expr.Number (pos 1))) plain_sort)
+    (resolved_expr.Binary operator.Sub (resolved_expr.Name meaning.Length plain_sort) (resolved_expr.Number (pos 1))) plain_sort)
     num
 unfolding stepped linked binary indexed name_in same_text
 element = simp forms refl

@@ -2,23 +2,20 @@
 -- the left, and round brackets are gone.
 use Rattle.std.specs.Prelude.{ℕ, pos, ◌==◌, Bool, true, false, ◌&&◌, List, [], ◌∷◌, Option, Some, None}
 use Rattle.pads_ast.specs.declared.decl.Decl.{Decl}
-use Rattle.pads_ast.specs.declared.expr.BinaryOperator.{BinaryOperator}
-use Rattle.pads_ast.specs.declared.expr.BinaryOperator.TheVariants as written
+use Rattle.pads_expr.specs.declared.expr.BinOp.{BinOp}
 use Rattle.pads_ast.specs.declared.expr.Expr.{Expr as Tree, Expr-F as Tree-F, fold-Expr as fold-Tree}
 use Rattle.pads_ast.specs.declared.expr.Link.{Link}
 use Rattle.pads_ast.specs.declared.expr.Step.{Step}
 use Rattle.pads_ast.specs.declared.expr.Step.TheVariants as step_form
 use Rattle.pads_ast.specs.declared.expr.UnaryOperator.{UnaryOperator}
 use Rattle.pads_ast.specs.declared.expr.UnaryOperator.TheVariants as unary_form
-use Rattle.pads_sorts.specs.declared.sort.Form.{Form}
-use Rattle.pads_sorts.specs.declared.sort.Form.TheVariants as form
-use Rattle.pads_sorts.specs.declared.sort.Sort.{Sort}
-use Rattle.pads_resolved.specs.declared.expr.BinaryOperator.TheVariants as operator
-use Rattle.pads_resolved.specs.declared.expr.BinaryOperator.{BinaryOperator as Operator}
-use Rattle.pads_resolved.specs.declared.expr.Expr.{Expr}
-use Rattle.pads_resolved.specs.declared.expr.Expr.TheVariants as expr
-use Rattle.pads_resolved.specs.declared.expr.Meaning.{Meaning}
-use Rattle.pads_resolved.specs.declared.expr.Meaning.TheVariants as meaning
+use Rattle.pads_rules.specs.declared.sort.Form.{Form}
+use Rattle.pads_rules.specs.declared.sort.Form.TheVariants as form
+use Rattle.pads_rules.specs.declared.sort.Sort.{Sort}
+use Rattle.pads_typed_tree.specs.declared.expr.Expr.{Expr}
+use Rattle.pads_typed_tree.specs.declared.expr.Expr.TheVariants as expr
+use Rattle.pads_typed_tree.specs.declared.expr.Meaning.{Meaning}
+use Rattle.pads_typed_tree.specs.declared.expr.Meaning.TheVariants as meaning
 use Rattle.pads_rules.specs.declared.declared.Declared.{Declared}
 use Rattle.pads_rules.specs.declared.expr_sort.ExprSort.{ExprSort}
 use Rattle.pads_rules.specs.declared.expr_sort.ExprSort.TheVariants as expr_sort
@@ -46,21 +43,6 @@ sort_or_unknown (Some sort) = sort
 abbrev pub as_sort : Expr → ExprSort → ResolvedExpr
 as_sort e sort = record { expr = e; sort = sort }
 
-abbrev pub operator_of : BinaryOperator → Operator
-operator_of written.Or = operator.Or
-operator_of written.And = operator.And
-operator_of written.EqualTo = operator.EqualTo
-operator_of written.NotEqualTo = operator.NotEqualTo
-operator_of written.LessThan = operator.LessThan
-operator_of written.AtMost = operator.AtMost
-operator_of written.GreaterThan = operator.GreaterThan
-operator_of written.AtLeast = operator.AtLeast
-operator_of written.Plus = operator.Plus
-operator_of written.Minus = operator.Minus
-operator_of written.Times = operator.Times
-operator_of written.Divide = operator.Divide
-operator_of written.Remainder = operator.Remainder
-
 -- What a name stands for.
 abbrev pub meaning_of : List ℕ → Stands → Meaning
 meaning_of name stands.Variable = meaning.Variable name
@@ -82,8 +64,8 @@ name_found name None = known_name name unknown_name
 unfoldable pub name_in : Scope → List ℕ → ResolvedExpr
 name_in scope name = name_found name (known_in scope name)
 
-unfoldable pub binary : BinaryOperator → ResolvedExpr → ResolvedExpr → ResolvedExpr
-binary written_as left right = as_sort (expr.Binary (operator_of written_as) left.expr right.expr) (result_of written_as)
+unfoldable pub binary : BinOp → ResolvedExpr → ResolvedExpr → ResolvedExpr
+binary operator left right = as_sort (expr.Binary operator left.expr right.expr) (result_of operator)
 
 -- Operands of one level.
 abbrev pub chained : ResolvedExpr → List (Link (Scope → ResolvedExpr)) → Scope → ResolvedExpr

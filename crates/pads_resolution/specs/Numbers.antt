@@ -5,8 +5,8 @@ use Rattle.pads_ast.specs.declared.decl.DeclBody.{DeclBody}
 use Rattle.pads_ast.specs.declared.decl.DeclBody.TheVariants as decl
 use Rattle.pads_ast.specs.declared.decl.Part.{Part}
 use Rattle.pads_ast.specs.declared.decl.Part.TheVariants as part
-use Rattle.pads_sorts.specs.declared.sort.Form.{Form}
-use Rattle.pads_sorts.specs.declared.sort.Form.TheVariants as form
+use Rattle.pads_rules.specs.declared.sort.Form.{Form}
+use Rattle.pads_rules.specs.declared.sort.Form.TheVariants as form
 use Rattle.pads_rules.specs.declared.declared.Content.{Content}
 use Rattle.pads_rules.specs.declared.declared.Content.TheVariants as content
 use Rattle.pads_rules.specs.declared.declared.Declared.{Declared}

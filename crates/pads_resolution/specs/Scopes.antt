@@ -3,7 +3,7 @@ use Rattle.std.specs.Prelude.{ℕ, suc, List, [], ◌∷◌, ◌++◌, map, Opti
 use Rattle.pads_ast.specs.declared.decl.Part.{Part}
 use Rattle.pads_ast.specs.declared.name.Name.{Name}
 use Rattle.pads_ast.specs.declared.types.Type.{«Type»}
-use Rattle.pads_sorts.specs.declared.sort.Form.TheVariants as form
+use Rattle.pads_rules.specs.declared.sort.Form.TheVariants as form
 use Rattle.pads_rules.specs.declared.declared.Declared.{Declared}
 use Rattle.pads_rules.specs.declared.declared.Named.{Named}
 use Rattle.pads_rules.specs.declared.expr_sort.ExprSort.{ExprSort}

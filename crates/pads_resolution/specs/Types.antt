@@ -13,26 +13,22 @@ use Rattle.pads_bases.specs.declared.binary.Order.{Order}
 use Rattle.pads_bases.specs.declared.binary.Order.TheVariants as order
 use Rattle.pads_base_names.specs.declared.meaning.BaseName.{BaseName}
 use Rattle.pads_base_names.specs.declared.meaning.BaseName.TheVariants as base
-use Rattle.pads_base_names.specs.declared.meaning.ByteOrder.{ByteOrder}
-use Rattle.pads_base_names.specs.declared.meaning.ByteOrder.TheVariants as byte_order
 use Rattle.pads_base_names.specs.declared.meaning.NamedCoding.{NamedCoding}
 use Rattle.pads_base_names.specs.declared.meaning.NamedCoding.TheVariants as coding
 use Rattle.pads_base_names.specs.Names.{base_name}
-use Rattle.pads_resolved.specs.declared.base_type.BaseType.{BaseType}
-use Rattle.pads_resolved.specs.declared.base_type.BaseType.TheVariants as base_type
-use Rattle.pads_resolved.specs.declared.base_type.Prefix.{Prefix}
-use Rattle.pads_resolved.specs.declared.base_type.Prefix.TheVariants as prefix
-use Rattle.pads_resolved.specs.declared.decl.Computed.{Computed}
-use Rattle.pads_resolved.specs.declared.decl.Computed.TheVariants as computed
-use Rattle.pads_resolved.specs.declared.expr.Expr.{Expr}
-use Rattle.pads_resolved.specs.declared.types.Const.{Const}
-use Rattle.pads_resolved.specs.declared.types.Const.TheVariants as const
-use Rattle.pads_resolved.specs.declared.types.Literal.{Literal}
-use Rattle.pads_resolved.specs.declared.types.Literal.TheVariants as literal
-use Rattle.pads_resolved.specs.declared.types.Param.{Param}
-use Rattle.pads_resolved.specs.declared.types.«Type».{«Type» as ResolvedType}
-use Rattle.pads_resolved.specs.declared.types.TypeName.{TypeName}
-use Rattle.pads_resolved.specs.declared.types.TypeName.TheVariants as type_name
+use Rattle.pads_typed_tree.specs.declared.base_type.BaseType.{BaseType}
+use Rattle.pads_typed_tree.specs.declared.base_type.BaseType.TheVariants as base_type
+use Rattle.pads_typed_tree.specs.declared.decl.Computed.{Computed}
+use Rattle.pads_typed_tree.specs.declared.decl.Computed.TheVariants as computed
+use Rattle.pads_typed_tree.specs.declared.expr.Expr.{Expr}
+use Rattle.pads_typed_tree.specs.declared.types.Const.{Const}
+use Rattle.pads_typed_tree.specs.declared.types.Const.TheVariants as const
+use Rattle.pads_typed_tree.specs.declared.types.Literal.{Literal}
+use Rattle.pads_typed_tree.specs.declared.types.Literal.TheVariants as literal
+use Rattle.pads_typed_tree.specs.declared.types.Param.{Param}
+use Rattle.pads_typed_tree.specs.declared.types.«Type».{«Type» as ResolvedType}
+use Rattle.pads_typed_tree.specs.declared.types.TypeName.{TypeName}
+use Rattle.pads_typed_tree.specs.declared.types.TypeName.TheVariants as type_name
 use Rattle.pads_rules.specs.declared.declared.Declared.{Declared}
 use Rattle.pads_rules.specs.PieceRules.{signed}
 use Rattle.pads_rules.specs.Pieces.{Site, earlier}
@@ -42,41 +38,32 @@ use Rattle.pads_resolution.specs.Expressions.{expr_of, sort_known}
 use Rattle.pads_resolution.specs.Numbers.{short, declared_number}
 use Rattle.pads_resolution.specs.Scopes.{Scope}
 
-abbrev pub prefix_of : NamedCoding → Prefix
-prefix_of coding.Ambient = prefix.Ambient
-prefix_of coding.Ascii = prefix.Ascii
-prefix_of coding.Ebcdic = prefix.Ebcdic
-
-abbrev pub order_of : ByteOrder → Order
-order_of byte_order.LowFirst = order.Low
-order_of byte_order.HighFirst = order.High
-
 -- `Peor` is the one argument.
 abbrev pub is_end : List Arg → Bool
 is_end (arg.Peor at ∷ []) = true
 is_end _ = false
 
 -- A text up to a stop, or up to the record's end.
-abbrev pub until : Bool → Prefix → BaseType
-until true p = base_type.UntilEor p
-until false p = base_type.Until p
+abbrev pub until : Bool → NamedCoding → BaseType
+until true c = base_type.UntilEor c
+until false c = base_type.Until c
 
 -- A base type by its name, and by whether its one argument is `Peor`.
 abbrev pub base_type_of : Bool → BaseName → BaseType
-base_type_of to_end (base.Int c kind) = base_type.Int (prefix_of c) kind
-base_type_of to_end (base.IntFw c kind) = base_type.IntFw (prefix_of c) kind
+base_type_of to_end (base.Int c kind) = base_type.Int c kind
+base_type_of to_end (base.IntFw c kind) = base_type.IntFw c kind
 base_type_of to_end (base.Bin kind) = base_type.Bin order.Low kind
-base_type_of to_end (base.SizedBin o kind) = base_type.Bin (order_of o) kind
-base_type_of to_end (base.Until c) = until to_end (prefix_of c)
-base_type_of to_end (base.Fixed c) = base_type.Fixed (prefix_of c)
-base_type_of to_end (base.Class c) = base_type.Class (prefix_of c)
-base_type_of to_end (base.Char c) = base_type.Char (prefix_of c)
-base_type_of to_end (base.Ip c) = base_type.Ip (prefix_of c)
+base_type_of to_end (base.SizedBin o kind) = base_type.Bin o kind
+base_type_of to_end (base.Until c) = until to_end c
+base_type_of to_end (base.Fixed c) = base_type.Fixed c
+base_type_of to_end (base.Class c) = base_type.Class c
+base_type_of to_end (base.Char c) = base_type.Char c
+base_type_of to_end (base.Ip c) = base_type.Ip c
 
 -- A declared type by its number; one that is declared nowhere is a character.
 abbrev pub declared_type : Option ℕ → TypeName
 declared_type (Some number) = type_name.Declared (short number)
-declared_type None = type_name.Base (base_type.Char prefix.Ambient)
+declared_type None = type_name.Base (base_type.Char coding.Ambient)
 
 -- A base type's name always names the base type.
 abbrev pub type_name_of : Bool → Option BaseName → Option ℕ → TypeName

@@ -10,7 +10,7 @@ use pads_ast::{Decl as WrittenDecl, DeclBody, DeclMark, Part, Type};
 use pads_declared::{EarlierTypes, TypeTable, is_precord, is_psource, is_record_list};
 use pads_resolve_expr::{PartTable, number_of, short};
 use pads_resolve_types::{Site, earlier};
-use pads_resolved::{Role, Source};
+use pads_typed_tree::{Role, Source};
 
 /// What a declaration is for.
 #[tactic(auto, unfolding(pads_resolution::specs::Resolution::role_of))]

@@ -7,7 +7,6 @@ mod members;
 mod names;
 mod nodes;
 mod numbers;
-mod operators;
 mod part_table;
 mod resolving;
 mod scope;

@@ -5,8 +5,7 @@ ghost use Rattle.pads_rules.specs.Members as members;
 ghost use Rattle.pads_resolution.specs.Expressions as expressions;
 
 use pads_declared::{TypeTable, member};
-use pads_rules::ExprSort;
-use pads_sorts::Form;
+use pads_rules::{ExprSort, Form};
 
 /// What `.name` gives of a sort; nothing is known where it has no such field or branch.
 pub(crate) fn member_sort(env: &TypeTable, sort: ExprSort, name: &[u8]) -> ExprSort

@@ -7,9 +7,8 @@ ghost use Rattle.pads_resolve_expr.specs.Scopes.{names_in_scope};
 use crate::scope::{Scope, known};
 use crate::texts::text;
 use pads_resolution::{Known, ResolvedExpr, Stands};
-use pads_resolved::{Expr, Meaning};
-use pads_rules::ExprSort;
-use pads_sorts::{Form, Sort};
+use pads_rules::{ExprSort, Form, Sort};
+use pads_typed_tree::{Expr, Meaning};
 use pads_value::Memory;
 use std::alloc::Global;
 

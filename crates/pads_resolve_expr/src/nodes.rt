@@ -1,7 +1,7 @@
 //! The forms of resolved expressions, from their parts.
 
 ghost use Rattle.std.specs.Prelude.{◌≡◌, IfOk, pos};
-ghost use Rattle.pads_resolved.specs.declared.expr.Expr.TheVariants as expr_form;
+ghost use Rattle.pads_typed_tree.specs.declared.expr.Expr.TheVariants as expr_form;
 ghost use Rattle.pads_rules.specs.Sorts.{num, text as text_sort, truth as truth_sort};
 ghost use Rattle.pads_rules.specs.Trees.{points_of};
 ghost use Rattle.pads_resolution.specs.Expressions as expressions;
@@ -10,15 +10,14 @@ ghost use Rattle.pads_resolution.specs.Expressions.{as_sort};
 use crate::members::{is_struct, member_sort};
 use crate::names::sort_known;
 use crate::numbers::{choice_number, member_number};
-use crate::operators::{operator, result_of, unary_gives};
 use crate::scope::Types;
 use crate::texts::{points, text};
-use pads_ast::{BinaryOperator, Number, UnaryOperator, Word};
+use pads_ast::{Number, UnaryOperator, Word};
 use pads_declared::{TypeTable, element};
+use pads_expr::BinOp;
 use pads_resolution::ResolvedExpr;
-use pads_resolved::Expr;
-use pads_rules::ExprSort;
-use pads_sorts::Form;
+use pads_rules::{ExprSort, Form, result_of, unary_gives};
+use pads_typed_tree::Expr;
 use pads_value::{Boxed, Memory};
 use std::alloc::Global;
 
@@ -53,7 +52,7 @@ pub(crate) fn truth(value: bool) -> ResolvedExpr
 #[tactic(auto, unfolding(pads_resolution::specs::Expressions::binary))]
 pub(crate) fn binary(
     alloc: Global,
-    written: BinaryOperator,
+    written: BinOp,
     left: ResolvedExpr,
     right: ResolvedExpr,
 ) -> Result<ResolvedExpr, Memory>
@@ -61,7 +60,7 @@ pub(crate) fn binary(
 {
     Ok(ResolvedExpr {
         expr: Expr::Binary {
-            operator: operator(written),
+            operator: written,
             left: Boxed::new(alloc, left.expr)?,
             right: Boxed::new(alloc, right.expr)?,
         },

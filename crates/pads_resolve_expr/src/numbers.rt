@@ -6,8 +6,7 @@ ghost use Rattle.pads_resolution.specs.Numbers as numbers;
 
 use crate::{PartTable, Types};
 use pads_declared::{TypeTable, choice_position, same_text};
-use pads_rules::ExprSort;
-use pads_sorts::Form;
+use pads_rules::{ExprSort, Form};
 
 /// A number in 16 bits. No accepted description comes to a greater one than 65,535.
 pub fn short(number: usize) -> u16

@@ -12,10 +12,10 @@ ghost use Rattle.pads_resolve_expr.specs.Scopes.{names_in_scope};
 use crate::names::name_in;
 use crate::nodes::{binary, indexed, member_of, number, pforall, pis, plen, truth, unary, word};
 use crate::{Scope, Types};
-use pads_ast::{BinaryOperator, Expr, Link, Name, Step, UnaryOperator};
+use pads_ast::{Expr, Link, Name, Step, UnaryOperator};
+use pads_expr::BinOp;
 use pads_resolution::{ResolvedExpr, Stands};
-use pads_rules::ExprSort;
-use pads_sorts::Form;
+use pads_rules::{ExprSort, Form};
 use pads_value::Memory;
 use std::alloc::Global;
 
@@ -90,7 +90,7 @@ fn chain(
 fn link_behind(
     alloc: Global,
     types: &Types<'_>,
-    operator: BinaryOperator,
+    operator: BinOp,
     operand: &Expr,
     left: ResolvedExpr,
     scope: &Scope<'_, '_>,

@@ -9,7 +9,7 @@ use crate::site::Site;
 use pads_ast::Expr as Tree;
 use pads_resolution::ResolvedExpr;
 use pads_resolve_expr::{Scope, Types, resolve_expr};
-use pads_resolved::Expr;
+use pads_typed_tree::Expr;
 use pads_value::Memory;
 use std::alloc::Global;
 

@@ -6,7 +6,7 @@ ghost use Rattle.pads_rules.specs.Trees.{points_of};
 
 use pads_ast::{Label as WrittenLabel, Word};
 use pads_resolve_expr::{points, text};
-use pads_resolved::Label;
+use pads_typed_tree::Label;
 use pads_value::{Bytes, Items, Memory};
 use std::alloc::Global;
 

@@ -6,7 +6,7 @@ ghost use Rattle.pads_rules.specs.PieceRules as rules;
 
 use pads_ast::{Const as WrittenConst, Literal as WrittenLiteral, Number};
 use pads_resolve_expr::points;
-use pads_resolved::{Const, Literal};
+use pads_typed_tree::{Const, Literal};
 use pads_value::Memory;
 use std::alloc::Global;
 

@@ -9,32 +9,13 @@ ghost use Rattle.pads_rules.specs.Trees as trees;
 use crate::expressions::expr_at;
 use crate::site::{Site, earlier};
 use pads_ast::{Arg, Param as WrittenParam, Type as WrittenType};
-use pads_base_names::{BaseName, ByteOrder, NamedCoding, base_name};
+use pads_base_names::{BaseName, NamedCoding, base_name};
 use pads_bases::Order;
 use pads_declared::{EarlierTypes, type_sort};
 use pads_resolve_expr::{Scope, short, sort_known, text};
-use pads_resolved::{BaseType, Computed, Expr, Param, Params, Prefix, Type, TypeName};
+use pads_typed_tree::{BaseType, Computed, Expr, Param, Params, Type, TypeName};
 use pads_value::{Items, Memory};
 use std::alloc::Global;
-
-fn prefix_of(coding: NamedCoding) -> Prefix
-    ensures prefix { result ≡ types.prefix_of coding }
-{
-    match coding {
-        NamedCoding::Ambient => Prefix::Ambient,
-        NamedCoding::Ascii => Prefix::Ascii,
-        NamedCoding::Ebcdic => Prefix::Ebcdic,
-    }
-}
-
-fn order_of(order: ByteOrder) -> Order
-    ensures order { result ≡ types.order_of order }
-{
-    match order {
-        ByteOrder::LowFirst => Order::Low,
-        ByteOrder::HighFirst => Order::High,
-    }
-}
 
 /// Whether `Peor` is the one argument.
 fn is_end(args: &[Arg]) -> bool
@@ -44,13 +25,13 @@ fn is_end(args: &[Arg]) -> bool
 }
 
 /// A text up to a stop, or up to the record's end.
-fn until(to_end: bool, prefix: Prefix) -> BaseType
-    ensures until { result ≡ types.until to_end prefix }
+fn until(to_end: bool, coding: NamedCoding) -> BaseType
+    ensures until { result ≡ types.until to_end coding }
 {
     if to_end {
-        BaseType::UntilEor(prefix)
+        BaseType::UntilEor(coding)
     } else {
-        BaseType::Until(prefix)
+        BaseType::Until(coding)
     }
 }
 
@@ -59,15 +40,15 @@ fn base_type_of(to_end: bool, name: BaseName) -> BaseType
     ensures base { result ≡ types.base_type_of to_end name }
 {
     match name {
-        BaseName::Int(coding, kind) => BaseType::Int(prefix_of(coding), kind),
-        BaseName::IntFw(coding, kind) => BaseType::IntFw(prefix_of(coding), kind),
+        BaseName::Int(coding, kind) => BaseType::Int(coding, kind),
+        BaseName::IntFw(coding, kind) => BaseType::IntFw(coding, kind),
         BaseName::Bin(kind) => BaseType::Bin(Order::Low, kind),
-        BaseName::SizedBin(order, kind) => BaseType::Bin(order_of(order), kind),
-        BaseName::Until(coding) => until(to_end, prefix_of(coding)),
-        BaseName::Fixed(coding) => BaseType::Fixed(prefix_of(coding)),
-        BaseName::Class(coding) => BaseType::Class(prefix_of(coding)),
-        BaseName::Char(coding) => BaseType::Char(prefix_of(coding)),
-        BaseName::Ip(coding) => BaseType::Ip(prefix_of(coding)),
+        BaseName::SizedBin(order, kind) => BaseType::Bin(order, kind),
+        BaseName::Until(coding) => until(to_end, coding),
+        BaseName::Fixed(coding) => BaseType::Fixed(coding),
+        BaseName::Class(coding) => BaseType::Class(coding),
+        BaseName::Char(coding) => BaseType::Char(coding),
+        BaseName::Ip(coding) => BaseType::Ip(coding),
     }
 }
 
@@ -77,7 +58,7 @@ fn declared_type(number: Option<usize>) -> TypeName
 {
     match number {
         Some(number) => TypeName::Declared(short(number)),
-        None => TypeName::Base(BaseType::Char(Prefix::Ambient)),
+        None => TypeName::Base(BaseType::Char(NamedCoding::Ambient)),
     }
 }
 

@@ -1,7 +1,7 @@
 -- What it says that there are no violations.
 use Rattle.std.proofs.Common.{◌≡◌, refl, ℕ, Bool, true, false, not, ◌&&◌, List, [], ◌∷◌, ◌++◌}
 use Rattle.std.proofs.lemmas.Bool.{not-false}
-use Rattle.pads_sorts.specs.declared.sort.Form.{Form}
+use Rattle.pads_rules.specs.declared.sort.Form.{Form}
 use Rattle.pads_rules.specs.Faults.{when}
 use Rattle.pads_rules.specs.Judging.{Judged, judgement, too_high, wrong_sort, no_truth}
 use Rattle.pads_rules.specs.Sorts.{accepts, is_truth_form, unless_broken}

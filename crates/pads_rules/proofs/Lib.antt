@@ -1,3 +1,6 @@
+pub mod PartLaws
+pub mod SmallExpressions
+mod ExpressionRows
 pub mod Least
 pub mod Judgements
 pub mod Rows

@@ -119,14 +119,19 @@ abbrev pub one_if : Bool → ℕ
 one_if true = 1
 one_if false = 0
 
--- How many names are in scope where all are: the different ones of parameters and named parts; one for a
--- branch and one for a typedef's variable; `elts` and `length` in an array.
+-- The variable of a typedef's constraint.
+abbrev pub variable_names : Option Constraint → List Name
+variable_names None = []
+variable_names (Some constraint) = constraint.variable ∷ []
+
+-- How many names are in scope where all are: the different ones of the parameters and, with them, of a
+-- struct's named parts, of a typedef's variable, or of an array's `elts` and `length`; and one for a branch.
 abbrev pub scope_count : DeclBody → ℕ
 scope_count (decl.Struct d) = count_of_different (texts (param_names (decl.Struct d)) ++ texts (inner_names (decl.Struct d)))
 scope_count (decl.Union d) = count_of_different (texts (param_names (decl.Union d))) + one_if (not (is_empty (branches_of d.body)))
 scope_count (decl.Array d) = count_of_different (texts (param_names (decl.Array d)) ++ codes "elts" ∷ codes "length" ∷ [])
 scope_count (decl.Enum d) = 0
-scope_count (decl.Typedef d) = count_of_different (texts (param_names (decl.Typedef d))) + one_if (is_some d.constraint)
+scope_count (decl.Typedef d) = count_of_different (texts (param_names (decl.Typedef d)) ++ texts (variable_names d.constraint))
 scope_count (decl.Opt d) = count_of_different (texts (param_names (decl.Opt d)))
 
 -- How many different name tokens the description has up to a declaration's end.

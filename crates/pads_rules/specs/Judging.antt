@@ -1,12 +1,12 @@
 -- The judging of expressions: their sorts, and the rules that they break.
 use Rattle.std.specs.Prelude.{ℕ, suc, max, nat_lt, Bool, not, ◌&&◌, ◌||◌, if◌then◌else◌, List, [], ◌∷◌, ◌++◌, Option, Some, None}
-use Rattle.pads_sorts.specs.declared.sort.Form.{Form}
+use Rattle.pads_rules.specs.declared.sort.Form.{Form}
 use Rattle.pads_ast.specs.declared.expr.Expr.{Expr, Expr-F, fold-Expr}
 use Rattle.pads_ast.specs.declared.expr.Link.{Link}
 use Rattle.pads_ast.specs.declared.expr.Step.{Step}
 use Rattle.pads_ast.specs.declared.expr.Step.TheVariants as step_form
-use Rattle.pads_ast.specs.declared.expr.BinaryOperator.{BinaryOperator}
-use Rattle.pads_ast.specs.declared.expr.BinaryOperator.TheVariants as binary_form
+use Rattle.pads_expr.specs.declared.expr.BinOp.{BinOp}
+use Rattle.pads_expr.specs.declared.expr.BinOp.TheVariants as binary_form
 use Rattle.pads_ast.specs.declared.expr.UnaryOperator.{UnaryOperator}
 use Rattle.pads_ast.specs.declared.expr.UnaryOperator.TheVariants as unary_form
 use Rattle.pads_ast.specs.declared.name.Name.{Name}
@@ -88,36 +88,36 @@ abbrev pub variable : Scope → Name → Judged
 variable scope name = variable_found scope name (sort_of scope.visible name.text)
 
 -- The plain forms that an operator takes.
-abbrev pub takes : BinaryOperator → Form → Bool
+abbrev pub takes : BinOp → Form → Bool
 takes binary_form.Or f = is_truth_form f
 takes binary_form.And f = is_truth_form f
-takes binary_form.EqualTo f = is_num_form f || is_text_form f || is_truth_form f
-takes binary_form.NotEqualTo f = is_num_form f || is_text_form f || is_truth_form f
-takes binary_form.LessThan f = is_num_form f || is_text_form f
-takes binary_form.AtMost f = is_num_form f || is_text_form f
-takes binary_form.GreaterThan f = is_num_form f || is_text_form f
-takes binary_form.AtLeast f = is_num_form f || is_text_form f
-takes binary_form.Plus f = is_num_form f
-takes binary_form.Minus f = is_num_form f
-takes binary_form.Times f = is_num_form f
-takes binary_form.Divide f = is_num_form f
-takes binary_form.Remainder f = is_num_form f
+takes binary_form.Eq f = is_num_form f || is_text_form f || is_truth_form f
+takes binary_form.Ne f = is_num_form f || is_text_form f || is_truth_form f
+takes binary_form.Lt f = is_num_form f || is_text_form f
+takes binary_form.Le f = is_num_form f || is_text_form f
+takes binary_form.Gt f = is_num_form f || is_text_form f
+takes binary_form.Ge f = is_num_form f || is_text_form f
+takes binary_form.Add f = is_num_form f
+takes binary_form.Sub f = is_num_form f
+takes binary_form.Mul f = is_num_form f
+takes binary_form.Div f = is_num_form f
+takes binary_form.Rem f = is_num_form f
 
 -- What an operator gives.
-abbrev pub result_of : BinaryOperator → ExprSort
+abbrev pub result_of : BinOp → ExprSort
 result_of binary_form.Or = truth
 result_of binary_form.And = truth
-result_of binary_form.EqualTo = truth
-result_of binary_form.NotEqualTo = truth
-result_of binary_form.LessThan = truth
-result_of binary_form.AtMost = truth
-result_of binary_form.GreaterThan = truth
-result_of binary_form.AtLeast = truth
-result_of binary_form.Plus = num
-result_of binary_form.Minus = num
-result_of binary_form.Times = num
-result_of binary_form.Divide = num
-result_of binary_form.Remainder = num
+result_of binary_form.Eq = truth
+result_of binary_form.Ne = truth
+result_of binary_form.Lt = truth
+result_of binary_form.Le = truth
+result_of binary_form.Gt = truth
+result_of binary_form.Ge = truth
+result_of binary_form.Add = num
+result_of binary_form.Sub = num
+result_of binary_form.Mul = num
+result_of binary_form.Div = num
+result_of binary_form.Rem = num
 
 -- Rule 9 at two operands: each of a sort that the operator never takes is wrong; where neither is, and both
 -- sorts are known and differ, the right one is.
@@ -126,7 +126,7 @@ wrong_operands takes left right =
     wrong_sort takes left ++ wrong_sort takes right
     ++ when (accepts takes left.sort && accepts takes right.sort && not (agree left.sort right.sort)) (breaks 9 right.first)
 
-abbrev pub binary : BinaryOperator → Judged → Judged → Judged
+abbrev pub binary : BinOp → Judged → Judged → Judged
 binary operator left right =
     judgement left.first (suc (max left.height right.height)) (result_of operator)
     (left.faults ++ right.faults ++ wrong_operands (takes operator) left right)

@@ -1,3 +1,4 @@
+pub mod SiteFaults
 pub mod Faults
 pub mod Texts
 pub mod Sorts

@@ -1,8 +1,8 @@
 -- What a sort's fields, branches, labels and elements are, by the declared types of a description.
 use Rattle.std.specs.Prelude.{ℕ, ◌-◌, ◌==◌, Bool, true, false, if◌then◌else◌, List, [], Option, Some, None, is_some, slice_get, codes}
-use Rattle.pads_sorts.specs.declared.sort.Form.{Form}
-use Rattle.pads_sorts.specs.declared.sort.Form.TheVariants as form
-use Rattle.pads_sorts.specs.declared.sort.Sort.{Sort}
+use Rattle.pads_rules.specs.declared.sort.Form.{Form}
+use Rattle.pads_rules.specs.declared.sort.Form.TheVariants as form
+use Rattle.pads_rules.specs.declared.sort.Sort.{Sort}
 use Rattle.pads_rules.specs.declared.declared.Content.{Content}
 use Rattle.pads_rules.specs.declared.declared.Content.TheVariants as content
 use Rattle.pads_rules.specs.declared.declared.Declared.{Declared}

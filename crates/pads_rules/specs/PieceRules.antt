@@ -12,7 +12,7 @@ use Rattle.pads_ast.specs.declared.types.Arg.TheVariants as arg
 use Rattle.pads_ast.specs.declared.types.Const.{Const}
 use Rattle.pads_ast.specs.declared.types.Const.TheVariants as const
 use Rattle.pads_ast.specs.declared.types.Type.{«Type»}
-use Rattle.pads_sorts.specs.declared.sort.Form.{Form}
+use Rattle.pads_rules.specs.declared.sort.Form.{Form}
 use Rattle.pads_base_names.specs.declared.meaning.BaseName.{BaseName}
 use Rattle.pads_base_names.specs.declared.meaning.BaseName.TheVariants as base
 use Rattle.pads_base_names.specs.declared.meaning.NamedCoding.TheVariants as coding

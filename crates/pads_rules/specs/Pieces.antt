@@ -22,7 +22,7 @@ use Rattle.pads_ast.specs.declared.types.Const.{Const}
 use Rattle.pads_ast.specs.declared.types.Literal.{Literal}
 use Rattle.pads_ast.specs.declared.types.Literal.TheVariants as literal
 use Rattle.pads_ast.specs.declared.types.Type.{«Type»}
-use Rattle.pads_sorts.specs.declared.sort.Form.TheVariants as form
+use Rattle.pads_rules.specs.declared.sort.Form.TheVariants as form
 use Rattle.pads_rules.specs.declared.declared.Declared.{Declared}
 use Rattle.pads_rules.specs.declared.declared.Named.{Named}
 use Rattle.pads_rules.specs.Judging.{Scope, hiding}

@@ -10,7 +10,7 @@ use Rattle.pads_ast.specs.declared.types.Param.{Param}
 use Rattle.pads_ast.specs.declared.types.Type.{«Type»}
 use Rattle.pads_base_names.specs.declared.meaning.BaseName.{BaseName}
 use Rattle.pads_base_names.specs.Names.{base_name}
-use Rattle.pads_sorts.specs.declared.sort.Form.TheVariants as form
+use Rattle.pads_rules.specs.declared.sort.Form.TheVariants as form
 use Rattle.pads_rules.specs.declared.declared.Content.{Content}
 use Rattle.pads_rules.specs.declared.declared.Content.TheVariants as content
 use Rattle.pads_rules.specs.declared.declared.Declared.{Declared}

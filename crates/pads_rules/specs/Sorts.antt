@@ -1,7 +1,7 @@
 -- What is known of sorts.
 use Rattle.std.specs.Prelude.{◌+◌, ◌-◌, ◌^◌, ◌==◌, min, Bool, true, false, ◌&&◌, List, [], ◌∷◌}
-use Rattle.pads_sorts.specs.declared.sort.Form.{Form}
-use Rattle.pads_sorts.specs.declared.sort.Form.TheVariants as form
+use Rattle.pads_rules.specs.declared.sort.Form.{Form}
+use Rattle.pads_rules.specs.declared.sort.Form.TheVariants as form
 use Rattle.pads_base_names.specs.declared.meaning.BaseName.{BaseName}
 use Rattle.pads_base_names.specs.declared.meaning.BaseName.TheVariants as base
 use Rattle.pads_rules.specs.declared.expr_sort.ExprSort.{ExprSort}

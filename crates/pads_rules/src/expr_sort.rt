@@ -2,7 +2,7 @@ ghost use Rattle.std.specs.Prelude.{◌≡◌};
 ghost use Rattle.pads_rules.specs.Sorts as sorts;
 ghost use Rattle.pads_rules.specs.Sorts.{accepts, is_num_form, is_text_form, is_truth_form};
 
-use pads_sorts::{Form, Sort};
+use crate::sort::{Form, Sort};
 
 /// What is known of the sort of an expression or a name.
 #[derive(Clone, Copy, Debug, PartialEq, Eq)]

@@ -1,5 +1,5 @@
 use super::*;
-use pads_sorts::{Form, Sort};
+use crate::sort::{Form, Sort};
 use std::test::Fail;
 
 fn fault(at: u64, rule: u8) -> Option<CheckFault> {

@@ -1,3 +1,8 @@
+pub mod Firsts
+pub mod BodyLaws
+pub mod DeclLoops
+pub mod SwitchDecides
+pub mod DeclDecides
 pub mod Stops
 pub mod TreeLaws
 pub mod Answered

@@ -10,8 +10,8 @@ use Rattle.pads_ast.specs.declared.decl.ExprAst.{ExprAst}
 use Rattle.pads_syntax_expr.proofs.ExprDecides.{any_on}
 use Rattle.pads_syntax_parts.specs.Types.{expression}
 use Rattle.pads_syntax_parts.proofs.Outermost.{expression_ok}
-use Rattle.pads_syntax_decl.specs.Declarations.{decls}
-use Rattle.pads_syntax_decl.proofs.DeclDecides.{decls_ok}
+use Rattle.pads_syntax.specs.Declarations.{decls}
+use Rattle.pads_syntax.proofs.DeclDecides.{decls_ok}
 use Rattle.pads_syntax.specs.Trees.{description, filter, IsTree, IsTreeFault, IsExprTree, IsExprTreeFault}
 use Rattle.pads_syntax.proofs.TreeLaws.{one, one_fault, not_both, tree_or_fault}
 

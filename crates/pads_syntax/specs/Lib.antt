@@ -1,2 +1,4 @@
+pub mod Switches
+pub mod Declarations
 pub mod Trees
 pub mod Answers

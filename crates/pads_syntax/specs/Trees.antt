@@ -12,7 +12,7 @@ use Rattle.pads_ast.specs.declared.decl.Decl.{Decl}
 use Rattle.pads_ast.specs.declared.decl.ExprAst.{ExprAst}
 use Rattle.pads_ast.specs.declared.expr.Expr.{Expr}
 use Rattle.pads_syntax_parts.specs.Types.{expression}
-use Rattle.pads_syntax_decl.specs.Declarations.{decls}
+use Rattle.pads_syntax.specs.Declarations.{decls}
 
 -- The tree of a description: its declarations, and the place where the text ends.
 abbrev pub description : List Decl → Token → Ast

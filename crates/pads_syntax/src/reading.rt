@@ -5,16 +5,16 @@ ghost use Rattle.pads_lex.specs.Answers.{EndsLast};
 ghost use Rattle.pads_ast.specs.declared.decl.Ast.{Ast};
 ghost use Rattle.pads_ast.specs.declared.decl.ExprAst.{ExprAst};
 ghost use Rattle.pads_syntax_parts.specs.Types.{expression};
-ghost use Rattle.pads_syntax_decl.specs.Declarations.{decls};
+ghost use Rattle.pads_syntax.specs.Declarations.{decls};
 ghost use Rattle.pads_syntax.specs.Trees.{description, filter, IsTree, IsTreeFault, IsExprTree, IsExprTreeFault, StandsAt};
 ghost use Rattle.pads_syntax.specs.Answers.{Answers, Gives, OnFault};
 
 use crate::SyntaxFault;
+use crate::declaration::decls;
 use crate::whole::{fault_behind, next_fault, split_end};
 use pads_ast::{Ast, ExprAst};
 use pads_grammar::Cursor;
 use pads_lex::Tokens;
-use pads_syntax_decl::decls;
 use pads_syntax_parts::expression;
 use pads_value::Refusal;
 use std::alloc::Global;

@@ -8,7 +8,7 @@ use Rattle.pads_grammar.specs.Grammar.{Grammar, many, nullable, begins, ahead, A
 use Rattle.pads_grammar.proofs.Parts.{or-only}
 use Rattle.pads_grammar.proofs.Disjoint.{apart_by, within_by}
 use Rattle.pads_ast.specs.declared.expr.Expr.{Expr}
-use Rattle.pads_ast.specs.declared.expr.BinaryOperator.{BinaryOperator}
+use Rattle.pads_expr.specs.declared.expr.BinOp.{BinOp}
 use Rattle.pads_syntax_expr.specs.declared.level.Level.TheVariants as level_form
 use Rattle.pads_syntax_expr.specs.Leaves.{word}
 use Rattle.pads_syntax_expr.specs.Expressions.{operators, link, chained, prod, sum, rel, eq, both, any, sign, signed, field, index, plain, paren, pis, plen, pforall, body, quantifier, nested_atom, nested_step, posts, unary, expr}
@@ -35,7 +35,7 @@ both_on j = begins (operators level_form.And) j || eq_on j
 abbrev pub any_on : Kind → Bool
 any_on j = begins (operators level_form.Or) j || both_on j
 
-module _ (part : Grammar Expr) (op : Grammar BinaryOperator) (P : Kind → Bool)
+module _ (part : Grammar Expr) (op : Grammar BinOp) (P : Kind → Bool)
     (part_ok : (G : Kind → Bool) → Apart P G → Decides part G)
     (op_ok : (G : Kind → Bool) → Decides op G)
     (solid : nullable op ≡ false) (quiet : begins op kind.End ≡ false) (apart : Apart P (begins op)) where

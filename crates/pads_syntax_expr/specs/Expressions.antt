@@ -24,8 +24,8 @@ use Rattle.pads_ast.specs.declared.expr.Expr.TheVariants as expr_form
 use Rattle.pads_ast.specs.declared.expr.Link.{Link}
 use Rattle.pads_ast.specs.declared.expr.Step.{Step}
 use Rattle.pads_ast.specs.declared.expr.Step.TheVariants as step_form
-use Rattle.pads_ast.specs.declared.expr.BinaryOperator.{BinaryOperator}
-use Rattle.pads_ast.specs.declared.expr.BinaryOperator.TheVariants as binary
+use Rattle.pads_expr.specs.declared.expr.BinOp.{BinOp}
+use Rattle.pads_expr.specs.declared.expr.BinOp.TheVariants as binary
 use Rattle.pads_ast.specs.declared.expr.UnaryOperator.{UnaryOperator}
 use Rattle.pads_ast.specs.declared.expr.UnaryOperator.TheVariants as unary_form
 use Rattle.pads_ast.specs.declared.name.Name.{Name}
@@ -34,20 +34,20 @@ use Rattle.pads_syntax_expr.specs.declared.level.Level.TheVariants as level_form
 use Rattle.pads_syntax_expr.specs.Leaves.{mark, name, word, number}
 
 -- The operators of a level. A unary expression has none; it is given those of products, which is not used.
-abbrev pub operators : Level → Grammar BinaryOperator
-operators level_form.Unary = token kind.Star (λ _. binary.Times) or token kind.Slash (λ _. binary.Divide) or token kind.Percent (λ _. binary.Remainder)
-operators level_form.Prod = token kind.Star (λ _. binary.Times) or token kind.Slash (λ _. binary.Divide) or token kind.Percent (λ _. binary.Remainder)
-operators level_form.Sum = token kind.Plus (λ _. binary.Plus) or token kind.Minus (λ _. binary.Minus)
-operators level_form.Rel = token kind.LessThan (λ _. binary.LessThan) or token kind.AtMost (λ _. binary.AtMost) or token kind.GreaterThan (λ _. binary.GreaterThan) or token kind.AtLeast (λ _. binary.AtLeast)
-operators level_form.Eq = token kind.EqualTo (λ _. binary.EqualTo) or token kind.NotEqualTo (λ _. binary.NotEqualTo)
+abbrev pub operators : Level → Grammar BinOp
+operators level_form.Unary = token kind.Star (λ _. binary.Mul) or token kind.Slash (λ _. binary.Div) or token kind.Percent (λ _. binary.Rem)
+operators level_form.Prod = token kind.Star (λ _. binary.Mul) or token kind.Slash (λ _. binary.Div) or token kind.Percent (λ _. binary.Rem)
+operators level_form.Sum = token kind.Plus (λ _. binary.Add) or token kind.Minus (λ _. binary.Sub)
+operators level_form.Rel = token kind.LessThan (λ _. binary.Lt) or token kind.AtMost (λ _. binary.Le) or token kind.GreaterThan (λ _. binary.Gt) or token kind.AtLeast (λ _. binary.Ge)
+operators level_form.Eq = token kind.EqualTo (λ _. binary.Eq) or token kind.NotEqualTo (λ _. binary.Ne)
 operators level_form.And = token kind.And (λ _. binary.And)
 operators level_form.Or = token kind.Or (λ _. binary.Or)
 
-abbrev pub link : Grammar BinaryOperator → Grammar Expr → Grammar (Link Expr)
+abbrev pub link : Grammar BinOp → Grammar Expr → Grammar (Link Expr)
 link operator part = apply (λ both. record { operator = both.0; operand = both.1 }) (operator & part)
 
 -- Parts of one level, joined by its operators.
-abbrev pub chained : Grammar Expr → Grammar BinaryOperator → Grammar Expr
+abbrev pub chained : Grammar Expr → Grammar BinOp → Grammar Expr
 chained part operator = apply (λ both. chain both.0 both.1) (part & many (link operator part))
 
 -- The six levels over unary expressions.

@@ -7,12 +7,13 @@ ghost use Rattle.pads_syntax_expr.specs.declared.level.Level.TheVariants as leve
 ghost use Rattle.pads_syntax_expr.specs.Expressions.{operators, sign};
 
 use crate::Level;
-use pads_ast::{BinaryOperator, UnaryOperator};
+use pads_ast::UnaryOperator;
+use pads_expr::BinOp;
 use pads_grammar::{Cursor, Kind, Reading, Unexpected};
 use pads_value::Refusal;
 
 #[tactic(auto, using(pads_grammar::proofs::Leaves::leaves))]
-fn one(cursor: &mut Cursor<'_>, kind: Kind, operator: BinaryOperator) -> Reading<BinaryOperator>
+fn one(cursor: &mut Cursor<'_>, kind: Kind, operator: BinOp) -> Reading<BinOp>
     ensures reads { Reads (reads (token kind (λ _. operator)) cursor.old) result cursor.new }
 {
     match cursor.take(kind) {
@@ -21,56 +22,56 @@ fn one(cursor: &mut Cursor<'_>, kind: Kind, operator: BinaryOperator) -> Reading
     }
 }
 
-fn product(cursor: &mut Cursor<'_>) -> Reading<BinaryOperator>
+fn product(cursor: &mut Cursor<'_>) -> Reading<BinOp>
     ensures reads { Reads (reads (operators level_form.Prod) cursor.old) result cursor.new }
 {
     let next = cursor.peek();
     if Kind::Star.is(next) {
-        one(cursor, Kind::Star, BinaryOperator::Times)
+        one(cursor, Kind::Star, BinOp::Mul)
     } else if Kind::Slash.is(next) {
-        one(cursor, Kind::Slash, BinaryOperator::Divide)
+        one(cursor, Kind::Slash, BinOp::Div)
     } else {
-        one(cursor, Kind::Percent, BinaryOperator::Remainder)
+        one(cursor, Kind::Percent, BinOp::Rem)
     }
 }
 
-fn summand(cursor: &mut Cursor<'_>) -> Reading<BinaryOperator>
+fn summand(cursor: &mut Cursor<'_>) -> Reading<BinOp>
     ensures reads { Reads (reads (operators level_form.Sum) cursor.old) result cursor.new }
 {
     if Kind::Plus.is(cursor.peek()) {
-        one(cursor, Kind::Plus, BinaryOperator::Plus)
+        one(cursor, Kind::Plus, BinOp::Add)
     } else {
-        one(cursor, Kind::Minus, BinaryOperator::Minus)
+        one(cursor, Kind::Minus, BinOp::Sub)
     }
 }
 
-fn relation(cursor: &mut Cursor<'_>) -> Reading<BinaryOperator>
+fn relation(cursor: &mut Cursor<'_>) -> Reading<BinOp>
     ensures reads { Reads (reads (operators level_form.Rel) cursor.old) result cursor.new }
 {
     let next = cursor.peek();
     if Kind::LessThan.is(next) {
-        one(cursor, Kind::LessThan, BinaryOperator::LessThan)
+        one(cursor, Kind::LessThan, BinOp::Lt)
     } else if Kind::AtMost.is(next) {
-        one(cursor, Kind::AtMost, BinaryOperator::AtMost)
+        one(cursor, Kind::AtMost, BinOp::Le)
     } else if Kind::GreaterThan.is(next) {
-        one(cursor, Kind::GreaterThan, BinaryOperator::GreaterThan)
+        one(cursor, Kind::GreaterThan, BinOp::Gt)
     } else {
-        one(cursor, Kind::AtLeast, BinaryOperator::AtLeast)
+        one(cursor, Kind::AtLeast, BinOp::Ge)
     }
 }
 
-fn equation(cursor: &mut Cursor<'_>) -> Reading<BinaryOperator>
+fn equation(cursor: &mut Cursor<'_>) -> Reading<BinOp>
     ensures reads { Reads (reads (operators level_form.Eq) cursor.old) result cursor.new }
 {
     if Kind::EqualTo.is(cursor.peek()) {
-        one(cursor, Kind::EqualTo, BinaryOperator::EqualTo)
+        one(cursor, Kind::EqualTo, BinOp::Eq)
     } else {
-        one(cursor, Kind::NotEqualTo, BinaryOperator::NotEqualTo)
+        one(cursor, Kind::NotEqualTo, BinOp::Ne)
     }
 }
 
 /// An operator of the level.
-pub fn operator(cursor: &mut Cursor<'_>, level: Level) -> Reading<BinaryOperator>
+pub fn operator(cursor: &mut Cursor<'_>, level: Level) -> Reading<BinOp>
     ensures reads { Reads (reads (operators level) cursor.old) result cursor.new }
 {
     match level {
@@ -78,8 +79,8 @@ pub fn operator(cursor: &mut Cursor<'_>, level: Level) -> Reading<BinaryOperator
         Level::Sum => summand(cursor),
         Level::Rel => relation(cursor),
         Level::Eq => equation(cursor),
-        Level::And => one(cursor, Kind::And, BinaryOperator::And),
-        Level::Or => one(cursor, Kind::Or, BinaryOperator::Or),
+        Level::And => one(cursor, Kind::And, BinOp::And),
+        Level::Or => one(cursor, Kind::Or, BinOp::Or),
     }
 }
 

@@ -1,6 +1,8 @@
 -- The lemmas of this crate.
+pub mod Counted
 pub mod Told
 pub mod Texts
 pub mod Lines
+pub mod Promises
 pub mod Statuses
 pub mod Unread

@@ -1,6 +1,6 @@
 -- How a run ends: its status, and the words that it leaves on the notes.
 use Rattle.std.specs.Prelude.{ℕ, List, [], ◌∷◌, ◌++◌, codes}
-use Rattle.pads_verdicts.specs.Words.{refusal_line}
+use Rattle.pads_describe.specs.VerdictLines.{refusal_line}
 use Rattle.pads_tool.specs.declared.status.Status.{Status}
 use Rattle.pads_tool.specs.declared.status.Status.TheVariants as status
 use Rattle.pads_tool.specs.declared.ending.Ending.{Ending}

@@ -5,5 +5,6 @@ pub mod Describing
 pub mod Descriptions
 pub mod Endings
 pub mod Parsing
+pub mod Promises
 pub mod Running
 pub mod Texts

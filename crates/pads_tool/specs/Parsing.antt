@@ -1,8 +1,7 @@
 -- What the command `parse` does: it writes a line for each record of an input. What source and sink don't tell, nothing
 -- is said of.
-use Rattle.std.specs.Prelude.{◌≡◌, ℕ, ◌^◌, ◌<◌, ◌≤◌, ◌⊎◌, Bool, true, false, List, Option, Some, Result, Ok, Err, IfSome, length, take}
+use Rattle.std.specs.Prelude.{◌≡◌, ℕ, ◌^◌, ◌<◌, ◌≤◌, Bool, true, false, List, Option, None, Some, Result, Ok, Err, IfSome, length, take}
 use Rattle.std.specs.Io.KnownBytes.{Appends, Consumes, IsAtEnd}
-use Rattle.pads_code.specs.declared.Coding.{Coding}
 use Rattle.pads_drive.specs.LittleAhead.{IsLittleAhead}
 use Rattle.pads_drive.specs.declared.ended.Ended.{Ended}
 use Rattle.pads_drive.specs.declared.ended.Ended.TheVariants as ended
@@ -10,10 +9,10 @@ use Rattle.pads_drive.specs.declared.stop.Stop.{Stop}
 use Rattle.pads_drive.specs.declared.stop.Stop.TheVariants as stop
 use Rattle.pads_io.specs.Faults.{Rose}
 use Rattle.pads_io.specs.Transfer.{AppendsPrefix}
-use Rattle.pads_orders.specs.declared.order.Cutting.{Cutting}
-use Rattle.pads_trans.specs.Modules.{Contents}
-use Rattle.pads_tool.specs.Describing.{Description, described, all_clean, complete_frames_of, frames_of, line_in, lines_for}
-use Rattle.pads_tool.specs.Texts.{IsDescribedIn, IsRefusedIn}
+use Rattle.pads_orders.specs.declared.order.Settings.{Settings}
+use Rattle.pads_calc.specs.Modules.{Contents}
+use Rattle.pads_tool.specs.Describing.{Description, described, all_clean, complete_frames_of, frames_of, lines, lines_for}
+use Rattle.pads_tool.specs.Texts.{IsDescribedIn}
 use Rattle.pads_tool.specs.declared.ending.Ending.{Ending}
 use Rattle.pads_tool.specs.declared.ending.Ending.TheVariants as ending
 
@@ -36,15 +35,16 @@ module _ (left' o o' : Option (List ℕ)) where
   abbrev pub WrotePrefix : Description → List ℕ → Type 0
   WrotePrefix d input = (bytes : List ℕ) × Consumes (Some input) left' bytes × AppendsPrefix o o' (lines_for d (frames_of d input))
 
-  -- and where no frame is too long or broken, little more was read than was written for
+  -- and where no frame is too long or broken, little more was read than was written for; of the notes, on which nothing is
+  -- written for a record, nothing is said
   abbrev pub ReadLittleAhead : Description → List ℕ → Type 0
-  ReadLittleAhead d input = IsLittleAhead (line_in d.made) d.cutting.discipline d.cutting.max left' o o' input
+  ReadLittleAhead d input = IsLittleAhead (lines d.made) d.cutting.discipline d.cutting.max left' o o' None None input
 
   abbrev pub WroteSome : Description → List ℕ → Type 0
   WroteSome d input = WrotePrefix d input × ReadLittleAhead d input
 
 -- how a run ends that came so far in the reading of its input
-abbrev pub ending_of : Result Ended Stop → Ending
+abbrev pub ending_of : Result (Ended Bool) Stop → Ending
 ending_of (Ok (ended.Finished true)) = ending.Done
 ending_of (Ok (ended.Finished false)) = ending.Dirty
 ending_of (Ok ended.ReadFault) = ending.ReadFault
@@ -52,6 +52,8 @@ ending_of (Ok ended.TooLong) = ending.TooLong
 ending_of (Err stop.Out) = ending.WriteFault
 ending_of (Err stop.Notes) = ending.WriteFault
 ending_of (Err stop.Memory) = ending.Memory
+-- it doesn't come: all records of any input can be counted
+ending_of (Err stop.Limit) = ending.Memory
 
 -- The reading of an input by a description, by the ending, over what the source and `out` told, and their counts of
 -- failures, before and after.
@@ -68,20 +70,6 @@ module _ (d : Description) (left left' o o' : Option (List ℕ)) (source source'
   LinesGive ending.FileFault = ⊥
 
 -- The text in a file describes something, and by it and an input that is known this was written.
-module _ (content : Option (List ℕ)) (coding : Coding) (cutting : Cutting) (left : Option (List ℕ)) where
-  abbrev pub Reads : (Description → List ℕ → Type 0) → Type 0
-  Reads Wrote = (made : Contents) × IsDescribedIn content coding made × IfSome left (Wrote (described made cutting))
-
-  -- By the ending, over what `out` and the source told, and the counts of failures of files, source and `out`, before
-  -- and after.
-  module _ (left' o o' : Option (List ℕ)) (files files' source source' out out' : ℕ) where
-    abbrev pub ParseGives : Ending → Type 0
-    ParseGives ending.Done = Reads (WroteAll left' o o' true)
-    ParseGives ending.Dirty = Reads (WroteAll left' o o' false)
-    ParseGives (ending.Refused verdict) = IsRefusedIn content verdict × (o' ≡ o)
-    ParseGives ending.FileFault = Rose files files' × (o' ≡ o)
-    ParseGives ending.ReadFault = Rose source source' × Reads (WroteComplete left' o o')
-    ParseGives ending.WriteFault = Rose out out' × Reads (WroteSome left' o o')
-    ParseGives ending.TooLong = Reads (WroteMost left' o o')
-    ParseGives ending.Memory = ((o' ≡ o) × (left' ≡ left)) ⊎ Reads (WrotePrefix left' o o')
-    ParseGives ending.Usage = ⊥
+abbrev pub Reads : Option (List ℕ) → Settings → Option (List ℕ) → (Description → List ℕ → Type 0) → Type 0
+Reads content settings left Wrote =
+    (made : Contents) × IsDescribedIn content settings.coding made × IfSome left (Wrote (described made settings.cutting))

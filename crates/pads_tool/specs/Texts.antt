@@ -5,8 +5,8 @@ use Rattle.pads_describe.specs.Answers.{IsAcceptedWith}
 use Rattle.pads_describe.specs.Describing.{Describes}
 use Rattle.pads_describe.specs.Verdicts.{IsRefused}
 use Rattle.pads_io.specs.Faults.{Rose}
-use Rattle.pads_trans.specs.Modules.{Contents}
-use Rattle.pads_verdicts.specs.declared.verdict.Verdict.{Verdict}
+use Rattle.pads_calc.specs.Modules.{Contents}
+use Rattle.pads_describe.specs.declared.verdict.Verdict.{Verdict}
 use Rattle.pads_tool.specs.declared.ending.Ending.{Ending}
 use Rattle.pads_tool.specs.declared.ending.Ending.TheVariants as ending
 

@@ -1,11 +1,12 @@
-ghost use Rattle.std.specs.Prelude.{◌≡◌, IfOk, OnOk, OnErr, ◌≢◌};
-ghost use Rattle.pads_tool.specs.Checking.{CheckGives, accepted_line};
+ghost use Rattle.std.specs.Prelude.{◌≡◌, ◌≢◌, ℕ, List, Option};
+ghost use Rattle.pads_tool.specs.Checking.{accepted_line};
+ghost use Rattle.pads_tool.specs.Promises.{Keeps, checking, counts, seen};
 ghost use Rattle.pads_tool.specs.declared.ending.Ending.TheVariants as ending;
 
 use crate::ending::Ending;
 use crate::text::accepted_in;
+use pads_describe::{Line, put, put_number};
 use pads_io::{Files, Sink, write_all};
-use pads_verdicts::{Line, put, put_number};
 use std::alloc::Global;
 
 /// The line that tells of so many declarations.
@@ -26,8 +27,9 @@ pub(crate) fn check<F: Files, K: Sink>(
     files: &mut F,
     out: &mut K,
 ) -> Ending
-    ensures gives { CheckGives (F.content files.old name.now) (K.written out.old) (K.written out.new)
-        (F.faults files.old) (F.faults files.new) (K.faults out.old) (K.faults out.new) result }
+    ensures gives { (left left' : Option (List ℕ)) (source source' : ℕ) → Keeps (checking name.now)
+        (seen (F.content files.old) left left' (K.written out.old) (K.written out.new))
+        (counts (F.faults files.old) (F.faults files.new) source source' (K.faults out.old) (K.faults out.new)) result }
     ensures files_kept { result ≢ ending.FileFault → F.faults files.new ≡ F.faults files.old }
     ensures out_kept { result ≢ ending.WriteFault → K.faults out.new ≡ K.faults out.old }
 {

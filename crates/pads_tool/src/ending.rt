@@ -1,4 +1,4 @@
-use pads_verdicts::Verdict;
+use pads_describe::Verdict;
 
 /// How a run ends, with the reason of a refusal.
 #[derive(Clone, Copy, Debug, PartialEq, Eq)]

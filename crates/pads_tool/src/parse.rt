@@ -1,23 +1,23 @@
-ghost use Rattle.std.specs.Prelude.{◌≡◌, ◌≤◌, ◌++◌, ◌&&◌, length, OnOk, ◌≢◌};
+ghost use Rattle.std.specs.Prelude.{◌≡◌, ◌≢◌, ◌&&◌, Err};
 ghost use Rattle.pads_orders.specs.Orders.{IsWithinLimits};
-ghost use Rattle.pads_tool.specs.Describing.{described};
+ghost use Rattle.pads_drive.specs.declared.stop.Stop.TheVariants as stop;
+ghost use Rattle.pads_tool.specs.Describing.{described, is_clean};
 ghost use Rattle.pads_tool.specs.Endings.{status_of};
-ghost use Rattle.pads_tool.specs.Parsing.{LinesGive, ParseGives, ending_of};
+ghost use Rattle.pads_tool.specs.Parsing.{LinesGive, ending_of};
+ghost use Rattle.pads_tool.specs.Promises.{Keeps, counts, parsing, seen};
 ghost use Rattle.pads_tool.specs.Running.{IsBeforeInput};
 ghost use Rattle.pads_tool.specs.declared.ending.Ending.TheVariants as ending;
-ghost use Rattle.pads_trans.specs.Modules.{contents};
-ghost use Rattle.pads_value.specs.Header.{is_ok_class};
-ghost use Rattle.pads_value.specs.declared.descriptor.Pd.{out-Pd};
+ghost use Rattle.pads_calc.specs.Modules.{contents};
 
 use crate::ending::Ending;
 use crate::text::described_in;
 use pads_calc::Module;
 use pads_code::Coding;
-use pads_drive::{Command, Ended, Output, Stop, drive};
+use pads_drive::{Command, Ended, Limit, Output, Stop, drive};
 use pads_io::{Calls, Files, MemSink, Sink, Source};
 use pads_json::record_line;
-use pads_orders::Cutting;
-use pads_value::{Class, Frame, Memory, Row};
+use pads_orders::{Cutting, Settings};
+use pads_value::{Class, Kept, Memory, Refusal, Row, Rows};
 use pads_walk::walk;
 use std::alloc::Global;
 
@@ -28,31 +28,51 @@ pub(crate) struct Lines {
 }
 
 impl Command for Lines {
-    ghost use Rattle.pads_tool.specs.Describing.{line_in, no_notes, is_clean_in};
-    ghost use Rattle.pads_trans.specs.Modules.{contents};
+    ghost use Rattle.std.specs.Prelude.{false};
+    ghost use Rattle.pads_tool.specs.Describing.{lines};
+    ghost use Rattle.pads_calc.specs.Modules.{contents};
 
-    ghost out = { λ lines. line_in (contents lines.module) };
+    type Row = Row;
 
-    ghost notes = { λ _. no_notes };
+    /// Whether all records are clean.
+    type Tally = bool;
 
-    ghost is_clean = { λ lines. is_clean_in (contents lines.module) };
+    ghost work = { λ command. lines (contents command.module) };
 
-    fn add(
+    fn read(&self, alloc: Global, number: u64, frames: &[Kept]) -> Result<Rows, Memory> {
+        let mut rows = Rows::new(alloc);
+        let mut next = number;
+        'frames: for kept in frames {
+            let row = walk(alloc, &self.module, next, &kept.lend())?;
+            rows.push(row)?;
+            next += 1;
+        }
+        Ok(rows)
+    }
+
+    fn give(
         &self,
         alloc: Global,
-        number: u64,
-        frame: &Frame<'_>,
+        row: &Row,
         output: &mut Output,
-    ) -> Result<(), Memory> {
-        let row = walk(alloc, &self.module, number, frame)?;
-        let line = record_line(alloc, &self.module, &row)?;
-        put(output, line.as_slice(), is_clean(&row))
+        tally: &mut bool,
+    ) -> Result<(), Refusal<Limit>> {
+        let Ok(line) = record_line(alloc, &self.module, row) else {
+            return Err(Refusal::Memory);
+        };
+        let Ok(()) = output.out.extend_from_slice(line.as_slice()) else {
+            return Err(Refusal::Memory);
+        };
+        *tally = are_clean(*tally, row);
+        Ok(())
     }
+
+    ghost stays_over = { λ _ _ _ over. over };
 }
 
 /// Whether nothing is wrong with a record.
 fn is_clean(row: &Row) -> bool
-    ensures clean { result ≡ is_ok_class (out-Pd row.now.pd).class }
+    ensures clean { result ≡ is_clean row.now }
 {
     match row.pd.class {
         Class::Ok => true,
@@ -60,21 +80,16 @@ fn is_clean(row: &Row) -> bool
     }
 }
 
-/// Puts a record's line behind the output.
-fn put(output: &mut Output, line: &[u8], clean: bool) -> Result<(), Memory>
-    ensures ok { OnOk result (output.new ≡ record {
-      out = output.old.out ++ line.now;
-      notes = output.old.notes;
-      clean = output.old.clean && clean;
-    }) }
+/// Whether all records are clean, with one more.
+fn are_clean(before: bool, row: &Row) -> bool
+    ensures clean { result ≡ (before && is_clean row.now) }
 {
-    output.out.extend_from_slice(line)?;
-    output.clean = output.clean && clean;
-    Ok(())
+    before && is_clean(row)
 }
 
 /// How a run ends that came so far in the reading of its input.
-fn ending_of(outcome: Result<Ended, Stop>) -> Ending
+fn ending_of(outcome: Result<Ended<bool>, Stop>) -> Ending
+    requires countable { outcome ≢ Err stop.Limit }
     ensures ending { result ≡ ending_of outcome }
 {
     match outcome {
@@ -84,6 +99,7 @@ fn ending_of(outcome: Result<Ended, Stop>) -> Ending
         Ok(Ended::TooLong) => Ending::TooLong,
         Err(Stop::Out | Stop::Notes) => Ending::WriteFault,
         Err(Stop::Memory) => Ending::Memory,
+        Err(Stop::Limit) => unreachable!(),
     }
 }
 
@@ -104,30 +120,38 @@ fn write_lines<S: Source, K: Sink>(
 {
     let mut unused = MemSink::new(alloc, 0, Calls::new(alloc));
     let Cutting { discipline, max } = cutting;
-    ending_of(drive(lines, alloc, discipline, max, source, out, &mut unused))
+    ending_of(drive(
+        lines,
+        alloc,
+        true,
+        discipline,
+        max,
+        source,
+        out,
+        &mut unused,
+    ))
 }
 
 /// Writes one line for each record of the source, by the description in a file.
 pub(crate) fn parse<F: Files, S: Source, K: Sink>(
     alloc: Global,
     name: &str,
-    coding: Coding,
-    cutting: Cutting,
+    settings: &Settings,
     files: &mut F,
     source: &mut S,
     out: &mut K,
 ) -> Ending
-    requires limits { IsWithinLimits cutting }
-    ensures gives { ParseGives (F.content files.old name.now) coding cutting (S.left source.old) (S.left source.new)
-        (K.written out.old) (K.written out.new) (F.faults files.old) (F.faults files.new)
-        (S.faults source.old) (S.faults source.new) (K.faults out.old) (K.faults out.new) result }
+    requires limits { IsWithinLimits settings.now.cutting }
+    ensures gives { Keeps (parsing name.now settings.now)
+        (seen (F.content files.old) (S.left source.old) (S.left source.new) (K.written out.old) (K.written out.new))
+        (counts (F.faults files.old) (F.faults files.new) (S.faults source.old) (S.faults source.new) (K.faults out.old) (K.faults out.new)) result }
     ensures untouched { IsBeforeInput (status_of result) → source.new ≡ source.old }
     ensures files_kept { result ≢ ending.FileFault → F.faults files.new ≡ F.faults files.old }
     ensures out_kept { result ≢ ending.WriteFault → K.faults out.new ≡ K.faults out.old }
     ensures source_kept { result ≢ ending.ReadFault → result ≢ ending.WriteFault → result ≢ ending.Memory → S.faults source.new ≡ S.faults source.old }
 {
-    match described_in(alloc, files, name, coding) {
-        Ok(module) => write_lines(alloc, &Lines { module }, cutting, source, out),
+    match described_in(alloc, files, name, settings.coding) {
+        Ok(module) => write_lines(alloc, &Lines { module }, settings.cutting, source, out),
         Err(ending) => ending,
     }
 }

@@ -1,9 +1,10 @@
-ghost use Rattle.std.specs.Prelude.{◌≡◌, ◌≢◌, ◌↔◌, ℕ, true, false, None};
+ghost use Rattle.std.specs.Prelude.{◌≡◌, ◌≢◌, ◌↔◌, true, false, None};
 ghost use Rattle.pads_io.specs.Faults.{Rose};
 ghost use Rattle.pads_orders.specs.Orders.{KeepsLimits, order_of};
 ghost use Rattle.pads_tool.specs.Closing.{Leaves};
 ghost use Rattle.pads_tool.specs.Endings.{status_of, last_line};
-ghost use Rattle.pads_tool.specs.Running.{Ordered, IsCheck, Finishes, StopsReading, StopsAtLimit, StopsWriting, StaysNear, StopsEarly, OrderGives, RunGives, HasReason, IsFair, EndsOrWantsMemory, IsBeforeInput};
+ghost use Rattle.pads_tool.specs.Promises.{Keeps, counts, promise_of, seen};
+ghost use Rattle.pads_tool.specs.Running.{Ordered, RunGives, HasReason, IsFair, EndsOrWantsMemory, IsBeforeInput};
 ghost use Rattle.pads_tool.specs.declared.ending.Ending.{Ending};
 ghost use Rattle.pads_tool.specs.declared.status.Status.TheVariants as status;
 ghost use Rattle.pads_tool.specs.declared.ending.Ending.TheVariants as ending;
@@ -27,10 +28,10 @@ fn perform<F: Files, S: Source, K: Sink>(
     out: &mut K,
 ) -> Ending
     requires limits { KeepsLimits order.now }
-    ensures gives { OrderGives (F.content files.old) (S.left source.old) (S.left source.new) (K.written out.old) (K.written out.new)
-        (F.faults files.old) (F.faults files.new) (S.faults source.old) (S.faults source.new) (K.faults out.old) (K.faults out.new)
-        order.now result }
-    ensures unread { IsCheck order.now → source.new ≡ source.old }
+    ensures gives { Keeps (promise_of order.now)
+        (seen (F.content files.old) (S.left source.old) (S.left source.new) (K.written out.old) (K.written out.new))
+        (counts (F.faults files.old) (F.faults files.new) (S.faults source.old) (S.faults source.new) (K.faults out.old) (K.faults out.new)) result }
+    ensures unread { (promise_of order.now).reads_source ≡ false → source.new ≡ source.old }
     ensures untouched { IsBeforeInput (status_of result) → source.new ≡ source.old }
     ensures files_kept { result ≢ ending.FileFault → F.faults files.new ≡ F.faults files.old }
     ensures out_kept { result ≢ ending.WriteFault → K.faults out.new ≡ K.faults out.old }
@@ -40,17 +41,8 @@ fn perform<F: Files, S: Source, K: Sink>(
         Order::Check { description, .. } => check(alloc, description.as_str(), files, out),
         Order::Parse {
             description,
-            coding,
-            cutting,
-        } => parse(
-            alloc,
-            description.as_str(),
-            *coding,
-            *cutting,
-            files,
-            source,
-            out,
-        ),
+            settings,
+        } => parse(alloc, description.as_str(), settings, files, source, out),
     }
 }
 
@@ -62,10 +54,10 @@ fn obey<F: Files, S: Source, K: Sink>(
     source: &mut S,
     out: &mut K,
 ) -> Ending
-    ensures gives { RunGives words.now (F.content files.old) (S.left source.old) (S.left source.new) (K.written out.old) (K.written out.new)
-        (F.faults files.old) (F.faults files.new) (S.faults source.old) (S.faults source.new) (K.faults out.old) (K.faults out.new)
-        result }
-    ensures unread { Ordered words.now IsCheck → source.new ≡ source.old }
+    ensures gives { RunGives words.now
+        (seen (F.content files.old) (S.left source.old) (S.left source.new) (K.written out.old) (K.written out.new))
+        (counts (F.faults files.old) (F.faults files.new) (S.faults source.old) (S.faults source.new) (K.faults out.old) (K.faults out.new)) result }
+    ensures unread { Ordered words.now (λ promise. promise.reads_source ≡ false) → source.new ≡ source.old }
     ensures untouched { IsBeforeInput (status_of result) → source.new ≡ source.old }
     ensures files_kept { result ≢ ending.FileFault → F.faults files.new ≡ F.faults files.old }
     ensures out_kept { result ≢ ending.WriteFault → K.faults out.new ≡ K.faults out.old }
@@ -91,10 +83,10 @@ pub fn run<F: Files, S: Source, K: Sink, E: Sink>(
     notes: &mut E,
 ) -> Status
     // All was read and written that the order asks for.
-    ensures done { result ≡ status.Done → Ordered words.now (Finishes (F.content files.old) (S.left source.old) (S.left source.new)
-        (K.written out.old) (K.written out.new) true) }
-    ensures dirty { result ≡ status.Dirty → Ordered words.now (Finishes (F.content files.old) (S.left source.old) (S.left source.new)
-        (K.written out.old) (K.written out.new) false) }
+    ensures done { result ≡ status.Done → Ordered words.now (λ promise. promise.finishes true
+        (seen (F.content files.old) (S.left source.old) (S.left source.new) (K.written out.old) (K.written out.new))) }
+    ensures dirty { result ≡ status.Dirty → Ordered words.now (λ promise. promise.finishes false
+        (seen (F.content files.old) (S.left source.old) (S.left source.new) (K.written out.old) (K.written out.new))) }
 
     // When each other answer may come; that of want of memory is free. Why a description is refused, the last words tell.
     ensures usage { (result ≡ status.Usage) ↔ (order_of words.now ≡ None) }
@@ -109,26 +101,28 @@ pub fn run<F: Files, S: Source, K: Sink, E: Sink>(
     ensures source_told { result ≢ status.ReadFault → result ≢ status.WriteFault → result ≢ status.Memory
         → S.faults source.new ≡ S.faults source.old }
 
-    ensures completeness { IsFair words.now (F.content files.old) (S.left source.old) (F.faults files.old) (F.faults files.new)
-        (S.faults source.old) (S.faults source.new) (K.faults out.old) (K.faults out.new) → EndsOrWantsMemory result }
+    ensures completeness { IsFair words.now (F.content files.old) (S.left source.old)
+        (counts (F.faults files.old) (F.faults files.new) (S.faults source.old) (S.faults source.new) (K.faults out.old) (K.faults out.new))
+        → EndsOrWantsMemory result }
 
     // What stands on `out` where not all was read and written.
     ensures nothing { IsBeforeInput result → K.written out.new ≡ K.written out.old }
-    ensures complete { result ≡ status.ReadFault → Ordered words.now (StopsReading (F.content files.old) (S.left source.old)
-        (S.left source.new) (K.written out.old) (K.written out.new)) }
-    ensures too_long { result ≡ status.TooLong → Ordered words.now (StopsAtLimit (F.content files.old) (S.left source.old)
-        (S.left source.new) (K.written out.old) (K.written out.new)) }
-    ensures prefix { result ≡ status.WriteFault → Ordered words.now (StopsWriting (F.content files.old) (S.left source.old)
-        (S.left source.new) (K.written out.old) (K.written out.new)) }
-    ensures memory { result ≡ status.Memory → Ordered words.now (StopsEarly (F.content files.old) (S.left source.old)
-        (S.left source.new) (K.written out.old) (K.written out.new)) }
+    ensures complete { result ≡ status.ReadFault → Ordered words.now (λ promise. promise.stops_reading
+        (seen (F.content files.old) (S.left source.old) (S.left source.new) (K.written out.old) (K.written out.new))) }
+    ensures too_long { result ≡ status.TooLong → Ordered words.now (λ promise. promise.stops_at_limit
+        (seen (F.content files.old) (S.left source.old) (S.left source.new) (K.written out.old) (K.written out.new))) }
+    ensures prefix { result ≡ status.WriteFault → Ordered words.now (λ promise. promise.stops_writing
+        (seen (F.content files.old) (S.left source.old) (S.left source.new) (K.written out.old) (K.written out.new))) }
+    ensures memory { result ≡ status.Memory → Ordered words.now (λ promise. promise.stops_early
+        (seen (F.content files.old) (S.left source.old) (S.left source.new) (K.written out.old) (K.written out.new))) }
 
     // Where a write fails, little more was read than was written for.
-    ensures ahead { result ≡ status.WriteFault → Ordered words.now (StaysNear (F.content files.old) (S.left source.old)
-        (S.left source.new) (K.written out.old) (K.written out.new)) }
+    ensures ahead { result ≡ status.WriteFault → Ordered words.now (λ promise. promise.stays_near
+        (seen (F.content files.old) (S.left source.old) (S.left source.new) (K.written out.old) (K.written out.new))) }
 
-    // `check` reads no source, and no run does that ends at its words or at the description. Words that are no order reach no file.
-    ensures unread { Ordered words.now IsCheck → source.new ≡ source.old }
+    // A command as `check` reads no source, and no run does that ends at its words or at the description. Words that are no
+    // order reach no file.
+    ensures unread { Ordered words.now (λ promise. promise.reads_source ≡ false) → source.new ≡ source.old }
     ensures untouched { IsBeforeInput result → source.new ≡ source.old }
     ensures unopened { order_of words.now ≡ None → files.new ≡ files.old }
 

@@ -1,16 +1,16 @@
 ghost use Rattle.std.specs.Prelude.{◌≡◌, IfOk, IfErr, ◌≢◌, OnOk};
 ghost use Rattle.pads_tool.specs.Texts.{IsAcceptedIn, IsDescribedIn, IsRefusedIn, IsTextIn, StopsBefore};
 ghost use Rattle.pads_tool.specs.declared.ending.Ending.TheVariants as ending;
-ghost use Rattle.pads_trans.specs.Modules.{contents};
+ghost use Rattle.pads_calc.specs.Modules.{contents};
 
 use crate::description::Described;
 use crate::ending::Ending;
 use crate::files::read_description;
 use pads_calc::Module;
 use pads_code::Coding;
+use pads_describe::Verdict;
 use pads_io::Files;
 use pads_value::{Bytes, Refusal};
-use pads_verdicts::Verdict;
 use std::alloc::Global;
 
 /// The text in a description's file, or how the run ends without it.
@@ -39,7 +39,7 @@ pub(crate) fn accepted_in<F: Files>(alloc: Global, files: &mut F, name: &str) ->
         Ok(text) => text,
         Err(ending) => return Err(ending),
     };
-    match pads_describe::check(alloc, text.as_slice()) {
+    match pads_describe::check_text(alloc, text.as_slice()) {
         Ok(count) => Ok(count),
         Err(Refusal::Fault(verdict)) => Err(Ending::Refused(verdict)),
         Err(Refusal::Memory) => Err(Ending::Memory),

@@ -3,7 +3,7 @@ ghost use Rattle.pads_tool.specs.Endings.{exit_status, status_of, last_line};
 
 use crate::ending::Ending;
 use crate::status::Status;
-use pads_verdicts::{Line, put};
+use pads_describe::{Line, put};
 
 impl Status {
     /// The exit status of the process, from 0 for `Done` to 9 for `Limit`.

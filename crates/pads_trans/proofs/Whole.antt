@@ -2,8 +2,9 @@
 use Rattle.std.proofs.Common.{◌≡◌, ◌∙◌, ap, refl, true, ◌&&◌, nat_lt, List, [], length}
 use Rattle.std.specs.List.{flat_map}
 use Rattle.pads_code.specs.declared.Coding.{Coding}
-use Rattle.pads_resolved.specs.declared.decl.Description.{Description}
-use Rattle.pads_trans.specs.Modules.{module_by_table, module_of, is_formed, is_module}
+use Rattle.pads_typed_tree.specs.declared.decl.Description.{Description}
+use Rattle.pads_calc.specs.Modules.{is_formed}
+use Rattle.pads_trans.specs.Modules.{module_by_table, module_of, is_module}
 use Rattle.pads_trans_expr.specs.Met.{in_decl, names_of}
 use Rattle.pads_trans_expr.specs.Names.{Name, with_names}
 use Rattle.pads_trans_expr.proofs.Places.{again}

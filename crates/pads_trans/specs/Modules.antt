@@ -1,32 +1,17 @@
 -- The translation of a description: its module.
 use Rattle.std.specs.Prelude.{Bool, ◌&&◌, nat_lt, List, [], length, map, Result, Ok, Err}
-use Rattle.pads_calc.specs.Counts.{module_counts}
-use Rattle.pads_calc.specs.Scopes.{module_in_scope}
-use Rattle.pads_calc.specs.declared.decl.Decl.{Decl}
+use Rattle.pads_calc.specs.Modules.{Contents, made_of, is_formed}
 use Rattle.pads_calc.specs.declared.decl.Shape.{Shape}
 use Rattle.pads_calc.specs.declared.module.IllFormed.{IllFormed}
 use Rattle.pads_calc.specs.declared.module.Module.{Module}
 use Rattle.pads_code.specs.declared.Coding.{Coding}
-use Rattle.pads_resolved.specs.declared.decl.Description.{Description}
-use Rattle.pads_resolved.specs.declared.decl.Source.{Source}
+use Rattle.pads_typed_tree.specs.declared.decl.Description.{Description}
+use Rattle.pads_typed_tree.specs.declared.decl.Source.{Source}
 use Rattle.pads_value.specs.declared.memory.Refusal.{Refusal}
 use Rattle.pads_value.specs.declared.memory.Refusal.TheVariants as refusal
 use Rattle.pads_trans.specs.Terms.{decl_of}
 use Rattle.pads_trans_expr.specs.Met.{names_of}
 use Rattle.pads_trans_expr.specs.Names.{Name, with_names}
-
--- What a module has: declarations, the names of the numbers in them, and which declarations the records
--- have.
-pub record Contents : Type 0 where
-  pub decls : List Decl
-  pub names : List Name
-  pub shape : Shape
-
-abbrev pub made_of : List Decl → List Name → Shape → Contents
-made_of decls names shape = record { decls = decls; names = names; shape = shape }
-
-abbrev pub contents : Module → Contents
-contents m = made_of m.decls m.names m.shape
 
 abbrev pub shape_of : Source → Shape
 shape_of source = record { head = source.header; each = source.record }
@@ -43,10 +28,6 @@ module_by_table names description ambient =
 -- The module of a description in a coding.
 abbrev pub module_of : Description → Coding → Contents
 module_of description ambient = module_by (names_of description) description ambient
-
--- Names, declarations and variables are there, and 16 bits count the parts of each term.
-abbrev pub is_formed : Contents → Bool
-is_formed m = module_counts m.decls && module_in_scope m.decls m.names m.shape
 
 -- It is well formed and has fewer than 65,535 names.
 abbrev pub is_module : Contents → Bool

@@ -35,57 +35,57 @@ use Rattle.pads_dispatch.specs.declared.base.Base.{Base}
 use Rattle.pads_dispatch.specs.declared.base.Base.TheVariants as base
 use Rattle.pads_expr.specs.declared.expr.Expr.{Expr}
 use Rattle.pads_int.specs.Kinds.{least, greatest}
-use Rattle.pads_resolved.specs.declared.base_type.BaseType.{BaseType}
-use Rattle.pads_resolved.specs.declared.base_type.BaseType.TheVariants as base_type
-use Rattle.pads_resolved.specs.declared.base_type.Prefix.{Prefix}
-use Rattle.pads_resolved.specs.declared.base_type.Prefix.TheVariants as prefix
-use Rattle.pads_resolved.specs.declared.decl.Array.{Array}
-use Rattle.pads_resolved.specs.declared.decl.ArrayOption.{ArrayOption}
-use Rattle.pads_resolved.specs.declared.decl.ArrayOption.TheVariants as option
-use Rattle.pads_resolved.specs.declared.decl.Case.{Case as CaseTree}
-use Rattle.pads_resolved.specs.declared.decl.Computed.{Computed}
-use Rattle.pads_resolved.specs.declared.decl.Computed.TheVariants as computed
-use Rattle.pads_resolved.specs.declared.decl.Constraint.{Constraint}
-use Rattle.pads_resolved.specs.declared.decl.Decl.{Decl as DeclTree}
-use Rattle.pads_resolved.specs.declared.decl.DeclBody.{DeclBody}
-use Rattle.pads_resolved.specs.declared.decl.DeclBody.TheVariants as body
-use Rattle.pads_resolved.specs.declared.decl.Label.{Label}
-use Rattle.pads_resolved.specs.declared.decl.Part.{Part as PartTree}
-use Rattle.pads_resolved.specs.declared.decl.Part.TheVariants as part
-use Rattle.pads_resolved.specs.declared.decl.Role.{Role}
-use Rattle.pads_resolved.specs.declared.decl.Role.TheVariants as role
-use Rattle.pads_resolved.specs.declared.decl.Struct.{Struct}
-use Rattle.pads_resolved.specs.declared.decl.Switch.{Switch}
-use Rattle.pads_resolved.specs.declared.decl.Union.{Union}
-use Rattle.pads_resolved.specs.declared.decl.Union.TheVariants as union
-use Rattle.pads_resolved.specs.declared.expr.Expr.{Expr as ExprTree}
-use Rattle.pads_resolved.specs.declared.types.Branch.{Branch}
-use Rattle.pads_resolved.specs.declared.types.Const.{Const}
-use Rattle.pads_resolved.specs.declared.types.Const.TheVariants as const
-use Rattle.pads_resolved.specs.declared.types.Literal.{Literal}
-use Rattle.pads_resolved.specs.declared.types.Literal.TheVariants as literal
-use Rattle.pads_resolved.specs.declared.types.«Type».{«Type» as Typed}
-use Rattle.pads_resolved.specs.declared.types.TypeName.{TypeName}
-use Rattle.pads_resolved.specs.declared.types.TypeName.TheVariants as type_name
+use Rattle.pads_typed_tree.specs.declared.base_type.BaseType.{BaseType}
+use Rattle.pads_typed_tree.specs.declared.base_type.BaseType.TheVariants as base_type
+use Rattle.pads_base_names.specs.declared.meaning.NamedCoding.{NamedCoding}
+use Rattle.pads_base_names.specs.declared.meaning.NamedCoding.TheVariants as named_coding
+use Rattle.pads_typed_tree.specs.declared.decl.Array.{Array}
+use Rattle.pads_typed_tree.specs.declared.decl.ArrayOption.{ArrayOption}
+use Rattle.pads_typed_tree.specs.declared.decl.ArrayOption.TheVariants as option
+use Rattle.pads_typed_tree.specs.declared.decl.Case.{Case as CaseTree}
+use Rattle.pads_typed_tree.specs.declared.decl.Computed.{Computed}
+use Rattle.pads_typed_tree.specs.declared.decl.Computed.TheVariants as computed
+use Rattle.pads_typed_tree.specs.declared.decl.Constraint.{Constraint}
+use Rattle.pads_typed_tree.specs.declared.decl.Decl.{Decl as DeclTree}
+use Rattle.pads_typed_tree.specs.declared.decl.DeclBody.{DeclBody}
+use Rattle.pads_typed_tree.specs.declared.decl.DeclBody.TheVariants as body
+use Rattle.pads_typed_tree.specs.declared.decl.Label.{Label}
+use Rattle.pads_typed_tree.specs.declared.decl.Part.{Part as PartTree}
+use Rattle.pads_typed_tree.specs.declared.decl.Part.TheVariants as part
+use Rattle.pads_typed_tree.specs.declared.decl.Role.{Role}
+use Rattle.pads_typed_tree.specs.declared.decl.Role.TheVariants as role
+use Rattle.pads_typed_tree.specs.declared.decl.Struct.{Struct}
+use Rattle.pads_typed_tree.specs.declared.decl.Switch.{Switch}
+use Rattle.pads_typed_tree.specs.declared.decl.Union.{Union}
+use Rattle.pads_typed_tree.specs.declared.decl.Union.TheVariants as union
+use Rattle.pads_typed_tree.specs.declared.expr.Expr.{Expr as ExprTree}
+use Rattle.pads_typed_tree.specs.declared.types.Branch.{Branch}
+use Rattle.pads_typed_tree.specs.declared.types.Const.{Const}
+use Rattle.pads_typed_tree.specs.declared.types.Const.TheVariants as const
+use Rattle.pads_typed_tree.specs.declared.types.Literal.{Literal}
+use Rattle.pads_typed_tree.specs.declared.types.Literal.TheVariants as literal
+use Rattle.pads_typed_tree.specs.declared.types.«Type».{«Type» as Typed}
+use Rattle.pads_typed_tree.specs.declared.types.TypeName.{TypeName}
+use Rattle.pads_typed_tree.specs.declared.types.TypeName.TheVariants as type_name
 use Rattle.pads_trans_expr.specs.Expressions.{expr_of, option_of}
 use Rattle.pads_trans_expr.specs.Names.{Name, at_sign, some_name, none_name, number_of}
 
 -- The coding that a base type's name says, in a description of this coding.
-abbrev pub coding_of : Coding → Prefix → Coding
-coding_of ambient prefix.Ambient = ambient
-coding_of ambient prefix.Ascii = coding.Ascii
-coding_of ambient prefix.Ebcdic = coding.Ebcdic
+abbrev pub coding_of : Coding → NamedCoding → Coding
+coding_of ambient named_coding.Ambient = ambient
+coding_of ambient named_coding.Ascii = coding.Ascii
+coding_of ambient named_coding.Ebcdic = coding.Ebcdic
 
 abbrev pub base_of : Coding → BaseType → Base
-base_of ambient (base_type.Int prefix kind) = base.Int kind (coding_of ambient prefix)
-base_of ambient (base_type.IntFw prefix kind) = base.IntFw kind (coding_of ambient prefix)
+base_of ambient (base_type.Int named kind) = base.Int kind (coding_of ambient named)
+base_of ambient (base_type.IntFw named kind) = base.IntFw kind (coding_of ambient named)
 base_of ambient (base_type.Bin order kind) = base.Bin kind order
-base_of ambient (base_type.Until prefix) = base.Until (coding_of ambient prefix)
-base_of ambient (base_type.UntilEor prefix) = base.UntilEor (coding_of ambient prefix)
-base_of ambient (base_type.Fixed prefix) = base.Fixed (coding_of ambient prefix)
-base_of ambient (base_type.Class prefix) = base.Class (coding_of ambient prefix)
-base_of ambient (base_type.Char prefix) = base.Char (coding_of ambient prefix)
-base_of ambient (base_type.Ip prefix) = base.Ip (coding_of ambient prefix)
+base_of ambient (base_type.Until named) = base.Until (coding_of ambient named)
+base_of ambient (base_type.UntilEor named) = base.UntilEor (coding_of ambient named)
+base_of ambient (base_type.Fixed named) = base.Fixed (coding_of ambient named)
+base_of ambient (base_type.Class named) = base.Class (coding_of ambient named)
+base_of ambient (base_type.Char named) = base.Char (coding_of ambient named)
+base_of ambient (base_type.Ip named) = base.Ip (coding_of ambient named)
 
 -- A text is its code points, encoded.
 abbrev pub text_of : Coding → List ℕ → Term

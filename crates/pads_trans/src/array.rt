@@ -8,8 +8,8 @@ use crate::types::{constrained, literal, text, type_term};
 use pads_calc::{Seq, Term};
 use pads_code::Coding;
 use pads_expr::Expr;
-use pads_resolved::{Array, ArrayOption, Expr as Tree, Literal};
 use pads_trans_expr::{Numbering, translate_expr, translate_option};
+use pads_typed_tree::{Array, ArrayOption, Expr as Tree, Literal};
 use pads_value::{Boxed, Bytes, Memory};
 use std::alloc::Global;
 

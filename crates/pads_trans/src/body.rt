@@ -7,11 +7,11 @@ ghost use Rattle.pads_trans_expr.specs.Expressions.{expr_of};
 use crate::types::{constrained, form, key, literal, type_term};
 use pads_calc::{Arm, Arms, Case, Cases, Part, Parts, Term};
 use pads_code::Coding;
-use pads_resolved::{
+use pads_trans_expr::{Numbering, translate_expr};
+use pads_typed_tree::{
     Branch, Case as CaseTree, Computed, Expr as Tree, Literal, Part as PartTree, Struct, Switch,
     Union,
 };
-use pads_trans_expr::{Numbering, translate_expr};
 use pads_value::{Boxed, Items, Memory};
 use std::alloc::Global;
 

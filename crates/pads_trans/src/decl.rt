@@ -8,8 +8,8 @@ use crate::body::{structure, union_term};
 use crate::types::{enumeration, guarded, optional, type_term};
 use pads_calc::{Decl, Decls, NameIds, Term};
 use pads_code::Coding;
-use pads_resolved::{Constraint, Decl as DeclTree, DeclBody, Param, Role, Type, Typedef};
 use pads_trans_expr::Numbering;
+use pads_typed_tree::{Constraint, Decl as DeclTree, DeclBody, Param, Role, Type, Typedef};
 use pads_value::{Items, Memory};
 use std::alloc::Global;
 

@@ -3,24 +3,23 @@ ghost use Rattle.std.specs.Prelude.{◌≡◌, ◌∷◌, [], map, Some, IfOk};
 ghost use Rattle.pads_code.specs.CodePage.{byte_of};
 ghost use Rattle.pads_trans.specs.Terms.{coding_of, base_of, text_of, literal_of, form_of, key_of, spelling_of, label_of, enum_of, constrained as constrained_by, some_arm, none_arm, optional as optional_of, named_type as named, bare_type as bare, type_of};
 
+use pads_base_names::NamedCoding;
 use pads_bases::{Label as Spelled, Labels};
 use pads_calc::{Arm, Arms, Base, Exprs, Key, Result2, Term};
 use pads_code::{Coding, encode};
-use pads_resolved::{
-    BaseType, Computed, Const, Expr as Tree, Label, Literal, Prefix, Type, TypeName,
-};
 use pads_trans_expr::{Numbering, translate_expr, translate_exprs};
+use pads_typed_tree::{BaseType, Computed, Const, Expr as Tree, Label, Literal, Type, TypeName};
 use pads_value::{Boxed, Bytes, Items, Memory};
 use std::alloc::Global;
 
 /// The coding that a base type's name says.
-fn coding(ambient: Coding, prefix: Prefix) -> Coding
-    ensures coding { result ≡ coding_of ambient prefix }
+fn coding(ambient: Coding, named: NamedCoding) -> Coding
+    ensures coding { result ≡ coding_of ambient named }
 {
-    match prefix {
-        Prefix::Ambient => ambient,
-        Prefix::Ascii => Coding::Ascii,
-        Prefix::Ebcdic => Coding::Ebcdic,
+    match named {
+        NamedCoding::Ambient => ambient,
+        NamedCoding::Ascii => Coding::Ascii,
+        NamedCoding::Ebcdic => Coding::Ebcdic,
     }
 }
 
@@ -28,15 +27,15 @@ fn base(ambient: Coding, base: BaseType) -> Base
     ensures base { result ≡ base_of ambient base }
 {
     match base {
-        BaseType::Int(prefix, kind) => Base::Int(kind, coding(ambient, prefix)),
-        BaseType::IntFw(prefix, kind) => Base::IntFw(kind, coding(ambient, prefix)),
+        BaseType::Int(named, kind) => Base::Int(kind, coding(ambient, named)),
+        BaseType::IntFw(named, kind) => Base::IntFw(kind, coding(ambient, named)),
         BaseType::Bin(order, kind) => Base::Bin(kind, order),
-        BaseType::Until(prefix) => Base::Until(coding(ambient, prefix)),
-        BaseType::UntilEor(prefix) => Base::UntilEor(coding(ambient, prefix)),
-        BaseType::Fixed(prefix) => Base::Fixed(coding(ambient, prefix)),
-        BaseType::Class(prefix) => Base::Class(coding(ambient, prefix)),
-        BaseType::Char(prefix) => Base::Char(coding(ambient, prefix)),
-        BaseType::Ip(prefix) => Base::Ip(coding(ambient, prefix)),
+        BaseType::Until(named) => Base::Until(coding(ambient, named)),
+        BaseType::UntilEor(named) => Base::UntilEor(coding(ambient, named)),
+        BaseType::Fixed(named) => Base::Fixed(coding(ambient, named)),
+        BaseType::Class(named) => Base::Class(coding(ambient, named)),
+        BaseType::Char(named) => Base::Char(coding(ambient, named)),
+        BaseType::Ip(named) => Base::Ip(coding(ambient, named)),
     }
 }
 

@@ -1,14 +1,14 @@
 -- The translation of an expression, form by form.
 use Rattle.std.proofs.Common.{◌≡◌, ◌∙◌, sym, ap, ℕ, ℤ, List, Bool}
-use Rattle.pads_sorts.specs.declared.sort.Sort.{Sort}
+use Rattle.pads_rules.specs.declared.sort.Sort.{Sort}
 use Rattle.pads_expr.specs.declared.expr.Expr.{Expr}
 use Rattle.pads_expr.specs.declared.expr.Expr.TheVariants as expr
-use Rattle.pads_resolved.specs.declared.expr.BinaryOperator.{BinaryOperator}
-use Rattle.pads_resolved.specs.declared.expr.Meaning.{Meaning}
-use Rattle.pads_resolved.specs.declared.expr.Expr.{Expr as Tree, Expr-F as Tree-F, fold-roll-Expr as fold-roll-Tree, roll-Expr as roll-Tree, map-Expr as map-Tree}
-use Rattle.pads_resolved.specs.declared.expr.Expr.TheVariants as tree
+use Rattle.pads_expr.specs.declared.expr.BinOp.{BinOp}
+use Rattle.pads_typed_tree.specs.declared.expr.Meaning.{Meaning}
+use Rattle.pads_typed_tree.specs.declared.expr.Expr.{Expr as Tree, Expr-F as Tree-F, fold-roll-Expr as fold-roll-Tree, roll-Expr as roll-Tree, map-Expr as map-Tree}
+use Rattle.pads_typed_tree.specs.declared.expr.Expr.TheVariants as tree
 use Rattle.pads_trans_expr.specs.Names.{Name, number_of}
-use Rattle.pads_trans_expr.specs.Expressions.{operator_of, meaning_of, expr_of, expr_step}
+use Rattle.pads_trans_expr.specs.Expressions.{meaning_of, expr_of, expr_step}
 
 module _ (names : List Name) where
   expr-roll : (layer : Tree-F Tree) → expr_of names (roll-Tree layer) ≡ expr_step names (map-Tree Tree Expr (expr_of names) layer)
@@ -48,7 +48,7 @@ module _ (names : List Name) where
   pub made-Not : (operand : Tree) → expr_of names (tree.Not operand) ≡ expr.Not (expr_of names operand)
   made-Not operand = ap (expr_of names) (sym (tree.rolls-Not operand)) ∙ expr-roll (Tree-F.Not operand)
 
-  pub made-Binary : (op : BinaryOperator) (left : Tree) (right : Tree) → expr_of names (tree.Binary op left right) ≡ expr.Bin (operator_of op) (expr_of names left) (expr_of names right)
+  pub made-Binary : (op : BinOp) (left : Tree) (right : Tree) → expr_of names (tree.Binary op left right) ≡ expr.Bin op (expr_of names left) (expr_of names right)
   made-Binary op left right = ap (expr_of names) (sym (tree.rolls-Binary op left right)) ∙ expr-roll (Tree-F.Binary op left right)
 
   pub made-Pforall : (name : Name) (low : Tree) (high : Tree) (body : Tree) → expr_of names (tree.Pforall name low high body) ≡ expr.Forall (number_of names name) (expr_of names low) (expr_of names high) (expr_of names body)

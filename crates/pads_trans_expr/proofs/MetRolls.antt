@@ -1,10 +1,10 @@
 -- The names that an expression gives, form by form.
 use Rattle.std.proofs.Common.{◌≡◌, ◌∙◌, sym, ap, ℕ, ℤ, List, [], ◌∷◌, ◌++◌, Bool}
-use Rattle.pads_sorts.specs.declared.sort.Sort.{Sort}
-use Rattle.pads_resolved.specs.declared.expr.BinaryOperator.{BinaryOperator}
-use Rattle.pads_resolved.specs.declared.expr.Meaning.{Meaning}
-use Rattle.pads_resolved.specs.declared.expr.Expr.{Expr, Expr-F, fold-roll-Expr, roll-Expr, map-Expr}
-use Rattle.pads_resolved.specs.declared.expr.Expr.TheVariants as expr
+use Rattle.pads_rules.specs.declared.sort.Sort.{Sort}
+use Rattle.pads_expr.specs.declared.expr.BinOp.{BinOp}
+use Rattle.pads_typed_tree.specs.declared.expr.Meaning.{Meaning}
+use Rattle.pads_typed_tree.specs.declared.expr.Expr.{Expr, Expr-F, fold-roll-Expr, roll-Expr, map-Expr}
+use Rattle.pads_typed_tree.specs.declared.expr.Expr.TheVariants as expr
 use Rattle.pads_trans_expr.specs.Met.{Met, in_expr, expr_met}
 
 pub met-roll : (layer : Expr-F Expr) → in_expr (roll-Expr layer) ≡ expr_met (map-Expr Expr Met in_expr layer)
@@ -44,7 +44,7 @@ met-Minus operand = ap in_expr (sym (expr.rolls-Minus operand)) ∙ met-roll (Ex
 pub met-Not : (operand : Expr) → in_expr (expr.Not operand) ≡ in_expr operand
 met-Not operand = ap in_expr (sym (expr.rolls-Not operand)) ∙ met-roll (Expr-F.Not operand)
 
-pub met-Binary : (op : BinaryOperator) (left : Expr) (right : Expr) → in_expr (expr.Binary op left right) ≡ in_expr left ++ in_expr right
+pub met-Binary : (op : BinOp) (left : Expr) (right : Expr) → in_expr (expr.Binary op left right) ≡ in_expr left ++ in_expr right
 met-Binary op left right = ap in_expr (sym (expr.rolls-Binary op left right)) ∙ met-roll (Expr-F.Binary op left right)
 
 pub met-Pforall : (variable : List ℕ) (low : Expr) (high : Expr) (body : Expr) → in_expr (expr.Pforall variable low high body) ≡ variable ∷ in_expr low ++ in_expr high ++ in_expr body

@@ -2,10 +2,9 @@
 use Rattle.std.proofs.Common.{◌≡◌, refl, pos, List, [], ◌∷◌}
 use Rattle.pads_expr.specs.declared.expr.BinOp.TheVariants as bin
 use Rattle.pads_expr.specs.declared.expr.Expr.TheVariants as expr
-use Rattle.pads_sorts.specs.declared.sort.Sort.{Sort}
-use Rattle.pads_resolved.specs.declared.expr.BinaryOperator.TheVariants as operator
-use Rattle.pads_resolved.specs.declared.expr.Expr.TheVariants as tree
-use Rattle.pads_resolved.specs.declared.expr.Meaning.TheVariants as meaning
+use Rattle.pads_rules.specs.declared.sort.Sort.{Sort}
+use Rattle.pads_typed_tree.specs.declared.expr.Expr.TheVariants as tree
+use Rattle.pads_typed_tree.specs.declared.expr.Meaning.TheVariants as meaning
 use Rattle.pads_trans_expr.specs.Names.{Name, some_name, none_name, number_of, with_name, with_names, at_sign}
 use Rattle.pads_trans_expr.specs.Expressions.{expr_of, meaning_of}
 use Rattle.pads_trans_expr.proofs.ExprRolls.{made-Binary, made-Name, made-Number}
@@ -26,6 +25,6 @@ names = some_name ∷ none_name ∷ y ∷ x ∷ []
 
 module _ (sort : Sort) where
   -- y >= 1
-  y_bound : expr_of names (tree.Binary operator.AtLeast (tree.Name (meaning.Variable y) sort) (tree.Number (pos 1))) ≡ expr.Bin bin.Ge (expr.Var 2) (expr.Num (pos 1))
+  y_bound : expr_of names (tree.Binary bin.Ge (tree.Name (meaning.Variable y) sort) (tree.Number (pos 1))) ≡ expr.Bin bin.Ge (expr.Var 2) (expr.Num (pos 1))
   unfolding meaning_of number_of names y x
-  y_bound = rw (made-Binary names operator.AtLeast (tree.Name (meaning.Variable y) sort) (tree.Number (pos 1)), made-Name names (meaning.Variable y) sort, made-Number names (pos 1)) refl
+  y_bound = rw (made-Binary names bin.Ge (tree.Name (meaning.Variable y) sort) (tree.Number (pos 1)), made-Name names (meaning.Variable y) sort, made-Number names (pos 1)) refl

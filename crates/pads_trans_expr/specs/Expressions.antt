@@ -6,31 +6,12 @@
 --   .name                a part of a struct; a branch of a union or an optional
 --   a[i], Plen, Pis, Pforall and operators stay what they are
 use Rattle.std.specs.Prelude.{List, Option, option_map}
-use Rattle.pads_expr.specs.declared.expr.BinOp.{BinOp}
-use Rattle.pads_expr.specs.declared.expr.BinOp.TheVariants as bin
 use Rattle.pads_expr.specs.declared.expr.Expr.{Expr}
 use Rattle.pads_expr.specs.declared.expr.Expr.TheVariants as expr
-use Rattle.pads_resolved.specs.declared.expr.BinaryOperator.{BinaryOperator}
-use Rattle.pads_resolved.specs.declared.expr.BinaryOperator.TheVariants as operator
-use Rattle.pads_resolved.specs.declared.expr.Expr.{Expr as Tree, Expr-F as Tree-F, fold-Expr as fold-Tree}
-use Rattle.pads_resolved.specs.declared.expr.Meaning.{Meaning}
-use Rattle.pads_resolved.specs.declared.expr.Meaning.TheVariants as meaning
+use Rattle.pads_typed_tree.specs.declared.expr.Expr.{Expr as Tree, Expr-F as Tree-F, fold-Expr as fold-Tree}
+use Rattle.pads_typed_tree.specs.declared.expr.Meaning.{Meaning}
+use Rattle.pads_typed_tree.specs.declared.expr.Meaning.TheVariants as meaning
 use Rattle.pads_trans_expr.specs.Names.{Name, at_sign, number_of}
-
-abbrev pub operator_of : BinaryOperator → BinOp
-operator_of operator.Or = bin.Or
-operator_of operator.And = bin.And
-operator_of operator.EqualTo = bin.Eq
-operator_of operator.NotEqualTo = bin.Ne
-operator_of operator.LessThan = bin.Lt
-operator_of operator.AtMost = bin.Le
-operator_of operator.GreaterThan = bin.Gt
-operator_of operator.AtLeast = bin.Ge
-operator_of operator.Plus = bin.Add
-operator_of operator.Minus = bin.Sub
-operator_of operator.Times = bin.Mul
-operator_of operator.Divide = bin.Div
-operator_of operator.Remainder = bin.Rem
 
 -- By the names of the description.
 module _ (names : List Name) where
@@ -55,7 +36,7 @@ module _ (names : List Name) where
   expr_step (Tree-F.Plen value) = expr.Len value
   expr_step (Tree-F.Minus operand) = expr.Neg operand
   expr_step (Tree-F.Not operand) = expr.Not operand
-  expr_step (Tree-F.Binary op left right) = expr.Bin (operator_of op) left right
+  expr_step (Tree-F.Binary op left right) = expr.Bin op left right
   expr_step (Tree-F.Pforall name low high body) = expr.Forall (number_of names name) low high body
 
   unfoldable pub expr_of : Tree → Expr

@@ -2,27 +2,27 @@
 -- then its body. A name is met where it is given; where it is used it was met before.
 use Rattle.std.specs.Prelude.{List, [], ◌∷◌, ◌++◌, map, Option, Some, None, if◌then◌else◌}
 use Rattle.std.specs.List.{flat_map}
-use Rattle.pads_resolved.specs.declared.decl.Array.{Array}
-use Rattle.pads_resolved.specs.declared.decl.ArrayOption.{ArrayOption}
-use Rattle.pads_resolved.specs.declared.decl.ArrayOption.TheVariants as option
-use Rattle.pads_resolved.specs.declared.decl.Case.{Case}
-use Rattle.pads_resolved.specs.declared.decl.Constraint.{Constraint}
-use Rattle.pads_resolved.specs.declared.decl.Decl.{Decl}
-use Rattle.pads_resolved.specs.declared.decl.DeclBody.{DeclBody}
-use Rattle.pads_resolved.specs.declared.decl.DeclBody.TheVariants as body
-use Rattle.pads_resolved.specs.declared.decl.Description.{Description}
-use Rattle.pads_resolved.specs.declared.decl.Part.{Part}
-use Rattle.pads_resolved.specs.declared.decl.Part.TheVariants as part
-use Rattle.pads_resolved.specs.declared.decl.Role.{Role}
-use Rattle.pads_resolved.specs.declared.decl.Role.TheVariants as role
-use Rattle.pads_resolved.specs.declared.decl.Struct.{Struct}
-use Rattle.pads_resolved.specs.declared.decl.Switch.{Switch}
-use Rattle.pads_resolved.specs.declared.decl.Typedef.{Typedef}
-use Rattle.pads_resolved.specs.declared.decl.Union.{Union}
-use Rattle.pads_resolved.specs.declared.decl.Union.TheVariants as union
-use Rattle.pads_resolved.specs.declared.expr.Expr.{Expr, Expr-F, fold-Expr}
-use Rattle.pads_resolved.specs.declared.types.Branch.{Branch}
-use Rattle.pads_resolved.specs.declared.types.«Type».{«Type» as Typed}
+use Rattle.pads_typed_tree.specs.declared.decl.Array.{Array}
+use Rattle.pads_typed_tree.specs.declared.decl.ArrayOption.{ArrayOption}
+use Rattle.pads_typed_tree.specs.declared.decl.ArrayOption.TheVariants as option
+use Rattle.pads_typed_tree.specs.declared.decl.Case.{Case}
+use Rattle.pads_typed_tree.specs.declared.decl.Constraint.{Constraint}
+use Rattle.pads_typed_tree.specs.declared.decl.Decl.{Decl}
+use Rattle.pads_typed_tree.specs.declared.decl.DeclBody.{DeclBody}
+use Rattle.pads_typed_tree.specs.declared.decl.DeclBody.TheVariants as body
+use Rattle.pads_typed_tree.specs.declared.decl.Description.{Description}
+use Rattle.pads_typed_tree.specs.declared.decl.Part.{Part}
+use Rattle.pads_typed_tree.specs.declared.decl.Part.TheVariants as part
+use Rattle.pads_typed_tree.specs.declared.decl.Role.{Role}
+use Rattle.pads_typed_tree.specs.declared.decl.Role.TheVariants as role
+use Rattle.pads_typed_tree.specs.declared.decl.Struct.{Struct}
+use Rattle.pads_typed_tree.specs.declared.decl.Switch.{Switch}
+use Rattle.pads_typed_tree.specs.declared.decl.Typedef.{Typedef}
+use Rattle.pads_typed_tree.specs.declared.decl.Union.{Union}
+use Rattle.pads_typed_tree.specs.declared.decl.Union.TheVariants as union
+use Rattle.pads_typed_tree.specs.declared.expr.Expr.{Expr, Expr-F, fold-Expr}
+use Rattle.pads_typed_tree.specs.declared.types.Branch.{Branch}
+use Rattle.pads_typed_tree.specs.declared.types.«Type».{«Type» as Typed}
 use Rattle.pads_trans_expr.specs.Names.{Name, at_sign, some_name, none_name, with_names}
 
 abbrev pub Met : Type 0

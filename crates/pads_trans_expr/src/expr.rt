@@ -1,33 +1,13 @@
 //! The translation of expressions.
 ghost use Rattle.std.specs.Prelude.{◌≡◌, map, IfOk};
 ghost use Rattle.pads_expr.specs.declared.expr.Expr.TheVariants as expr_form;
-ghost use Rattle.pads_trans_expr.specs.Expressions.{operator_of, variable as variable_of, meaning_of, expr_of, option_of};
+ghost use Rattle.pads_trans_expr.specs.Expressions.{variable as variable_of, meaning_of, expr_of, option_of};
 
 use crate::numbering::Numbering;
-use pads_expr::{BinOp, Expr};
-use pads_resolved::{BinaryOperator, Expr as Tree, Meaning};
+use pads_expr::Expr;
+use pads_typed_tree::{Expr as Tree, Meaning};
 use pads_value::{Boxed, Bytes, Items, Memory};
 use std::alloc::Global;
-
-fn operator(operator: BinaryOperator) -> BinOp
-    ensures operator { result ≡ operator_of operator }
-{
-    match operator {
-        BinaryOperator::Or => BinOp::Or,
-        BinaryOperator::And => BinOp::And,
-        BinaryOperator::EqualTo => BinOp::Eq,
-        BinaryOperator::NotEqualTo => BinOp::Ne,
-        BinaryOperator::LessThan => BinOp::Lt,
-        BinaryOperator::AtMost => BinOp::Le,
-        BinaryOperator::GreaterThan => BinOp::Gt,
-        BinaryOperator::AtLeast => BinOp::Ge,
-        BinaryOperator::Plus => BinOp::Add,
-        BinaryOperator::Minus => BinOp::Sub,
-        BinaryOperator::Times => BinOp::Mul,
-        BinaryOperator::Divide => BinOp::Div,
-        BinaryOperator::Remainder => BinOp::Rem,
-    }
-}
 
 /// A variable by its name's number.
 fn variable(names: &Numbering, name: &[u8]) -> Expr
@@ -82,7 +62,7 @@ pub fn translate_expr(alloc: Global, names: &Numbering, e: &Tree) -> Result<Expr
             right,
         } => {
             let left = boxed(alloc, names, left)?;
-            Ok(Expr::Bin(operator(*op), left, boxed(alloc, names, right)?))
+            Ok(Expr::Bin(*op, left, boxed(alloc, names, right)?))
         }
         Tree::Pforall {
             variable,

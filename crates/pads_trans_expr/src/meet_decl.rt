@@ -6,7 +6,7 @@ ghost use Rattle.pads_trans_expr.specs.Names.{some_name, none_name, with_names};
 
 use crate::meet_expr::{meet_expr, meet_exprs, meet_option};
 use crate::names::Names;
-use pads_resolved::{
+use pads_typed_tree::{
     Array, ArrayOption, Branch, Case, Constraint, Decl, DeclBody, Expr, Param, Part, Role, Struct,
     Switch, Type, Typedef, Union,
 };

@@ -5,7 +5,7 @@ ghost use Rattle.pads_trans_expr.specs.Met.{in_expr, in_option};
 ghost use Rattle.pads_trans_expr.specs.Names.{with_names};
 
 use crate::names::Names;
-use pads_resolved::Expr;
+use pads_typed_tree::Expr;
 use pads_value::Memory;
 
 /// The names of an expression.

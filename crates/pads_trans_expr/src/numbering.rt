@@ -5,7 +5,7 @@ ghost use Rattle.pads_trans_expr.specs.Names.{number_of, with_names};
 
 use crate::meet_decl::meet_decls;
 use crate::names::Names;
-use pads_resolved::Description;
+use pads_typed_tree::Description;
 use pads_value::{Memory, NameTable};
 use std::alloc::Global;
 use std::marker::Model;

@@ -1,6 +1,6 @@
 -- What a table of names keeps, from what the set of names below it says.
-use Rattle.std.proofs.Common.{◌≡◌, ℕ, ◌+◌, Bool, false, not, cond, if◌then◌else◌, List, [], ◌∷◌, ◌++◌, length, map, position, nat_eq, Some, None, refl, sym, ap, ◌∙◌}
-use Rattle.std.specs.List.{prefix_len, list_any}
+use Rattle.std.proofs.Common.{◌≡◌, ℕ, ◌+◌, Bool, false, not, cond, if◌then◌else◌, List, [], ◌∷◌, ◌++◌, length, map, position, nat_eq, Some, None, refl, sym, ap, ◌∙◌, vec_len}
+use Rattle.std.specs.List.{prefix_len, list_any, AllZip}
 use Rattle.std.proofs.lemmas.List.{length-map, map-append}
 use Rattle.std.specs.declared.vec.Vec.{Vec}
 use Rattle.std.specs.declared.alloc.Global.{Global}
@@ -42,3 +42,17 @@ numbered-last keys name added new at absent text inserted =
       sym (length-map keys (λ (key : Held). key.items)),
       ap texts last ∙ map-append (λ (key : Held). key.items) keys (added ∷ []) ∙ ap (λ t. texts keys ++ t ∷ []) text,
     )
+
+-- texts that are equal place by place are equal
+same_items : (xs ys : List ℕ) → AllZip (λ x y. y ≡ x) xs ys → ys ≡ xs
+same_items [] [] same = refl
+same_items [] (y ∷ ys) same = absurd same
+same_items (x ∷ xs) [] same = absurd same
+same_items (x ∷ xs) (y ∷ ys) same = rw (same.0, same_items xs ys same.1) refl
+
+-- copies of names have the texts of the names
+pub texts-copied : (keys copies : List Held) → AllZip (λ key copy. AllZip (λ x y. y ≡ x) key.items copy.items × (vec_len copy ≡ vec_len key)) keys copies → texts copies ≡ texts keys
+texts-copied [] [] same = refl
+texts-copied [] (copy ∷ copies) same = absurd same
+texts-copied (key ∷ keys) [] same = absurd same
+texts-copied (key ∷ keys) (copy ∷ copies) same = rw (same_items key.items copy.items same.0.0, texts-copied keys copies same.1) refl

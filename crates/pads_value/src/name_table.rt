@@ -56,6 +56,16 @@ impl NameTable {
         Ok(number)
     }
 
+    /// A table equal to this one.
+    pub fn copy(&self, alloc: Global) -> Result<NameTable, Memory>
+        ensures equal { IfOk result (λ copied. copied ≡ self.now) }
+    {
+        Ok(NameTable {
+            names: self.names.clone()?,
+            alloc,
+        })
+    }
+
     /// The name of a number; `None` exactly past the end.
     pub fn at(&self, number: u16) -> Option<&[u8]>
         ensures name { option_map (λ name. name.now) result ≡ slice_get self.now number }

@@ -16,7 +16,7 @@ use Rattle.pads_calc.specs.declared.record.Record.{Record}
 use Rattle.pads_calc.specs.declared.term.Term.{Term}
 use Rattle.pads_calc.specs.declared.term.Term.TheVariants as term
 use Rattle.pads_calc.specs.Leaves.{lit_of}
-use Rattle.pads_calc.specs.Readings.{Reader, leaf, fails, is_ok, blame}
+use Rattle.pads_calc.specs.Readings.{Subject, subject_of, Reader, leaf, fails, is_ok, blame}
 use Rattle.pads_calc.specs.Wrappers.{absorb_of, found_at, scan, scan_from}
 use Rattle.pads_calc.proofs.Cases.{pick}
 use Rattle.pads_calc.proofs.Rolls.{read-Lit, read-Absorb}
@@ -44,64 +44,64 @@ module _ (origin : ℕ) (inner : Reader) (env : Pairs) (i end : ℕ) where
       scan-next origin inner env i end j (omega arith) (none j (omega arith) (omega arith))
       ∙ scan-nowhere d (j + 1) (omega arith) (λ k from to. none k (omega arith) to)
 
-module _ (origin : ℕ) (bytes literal : List ℕ) where
+module _ (subject : Subject) (literal : List ℕ) where
   abbrev starts_at : ℕ → Bool
-  starts_at j = starts_with nat_eq (drop j bytes) literal
+  starts_at j = starts_with nat_eq (drop j subject.bytes) literal
 
   abbrev reads_at : Reader
-  reads_at env j = lit_of origin bytes literal j
+  reads_at env j = lit_of subject literal j
 
-  pub ok-there : (j : ℕ) → starts_at j ≡ true → is_ok (lit_of origin bytes literal j) ≡ true
-  ok-there j starts = ap (λ (b : Bool). is_ok (if b then leaf origin val.Unit j (j + length literal) else fails origin cause.MissingLiteral j)) starts ∙ simp out-roll-Pd
+  pub ok-there : (j : ℕ) → starts_at j ≡ true → is_ok (lit_of subject literal j) ≡ true
+  ok-there j starts = ap (λ (b : Bool). is_ok (if b then leaf subject.origin val.Unit j (j + length literal) else fails subject.origin cause.MissingLiteral j)) starts ∙ simp out-roll-Pd
 
-  bad-elsewhere : (j : ℕ) → starts_at j ≡ false → is_ok (lit_of origin bytes literal j) ≡ false
-  bad-elsewhere j starts = ap (λ (b : Bool). is_ok (if b then leaf origin val.Unit j (j + length literal) else fails origin cause.MissingLiteral j)) starts ∙ simp out-roll-Pd
+  bad-elsewhere : (j : ℕ) → starts_at j ≡ false → is_ok (lit_of subject literal j) ≡ false
+  bad-elsewhere j starts = ap (λ (b : Bool). is_ok (if b then leaf subject.origin val.Unit j (j + length literal) else fails subject.origin cause.MissingLiteral j)) starts ∙ simp out-roll-Pd
 
-  blamed : (j : ℕ) → starts_at j ≡ false → blame (lit_of origin bytes literal j) ≡ cause.MissingLiteral
-  blamed j starts = ap (λ (b : Bool). blame (if b then leaf origin val.Unit j (j + length literal) else fails origin cause.MissingLiteral j)) starts ∙ simp out-roll-Pd
+  blamed : (j : ℕ) → starts_at j ≡ false → blame (lit_of subject literal j) ≡ cause.MissingLiteral
+  blamed j starts = ap (λ (b : Bool). blame (if b then leaf subject.origin val.Unit j (j + length literal) else fails subject.origin cause.MissingLiteral j)) starts ∙ simp out-roll-Pd
 
   -- a literal's value is not kept, or is nothing
-  pub absorbs : (j : ℕ) → absorb_of (lit_of origin bytes literal j) ≡ lit_of origin bytes literal j
+  pub absorbs : (j : ℕ) → absorb_of (lit_of subject literal j) ≡ lit_of subject literal j
   absorbs j =
-      pick (λ r. absorb_of r ≡ r) (starts_at j) (leaf origin val.Unit j (j + length literal)) (fails origin cause.MissingLiteral j)
+      pick (λ r. absorb_of r ≡ r) (starts_at j) (leaf subject.origin val.Unit j (j + length literal)) (fails subject.origin cause.MissingLiteral j)
       (λ _. simp out-roll-Pd) (λ _. simp out-roll-Pd)
 
-  pub occurs-starts : (i k : ℕ) → OccursAt (drop i bytes) literal k → starts_at (i + k) ≡ true
+  pub occurs-starts : (i k : ℕ) → OccursAt (drop i subject.bytes) literal k → starts_at (i + k) ≡ true
   occurs-starts i k occurs =
-      (starts_is Decides-eqb (drop (i + k) bytes) literal (starts_at (i + k)) refl).1 _ (sym (drop-drop k i bytes) ∙ OccursAt-split (drop i bytes) literal k occurs)
+      (starts_is Decides-eqb (drop (i + k) subject.bytes) literal (starts_at (i + k)) refl).1 _ (sym (drop-drop k i subject.bytes) ∙ OccursAt-split (drop i subject.bytes) literal k occurs)
 
-  starts-occurs : (i k : ℕ) → i + k ≤ length bytes → starts_at (i + k) ≡ true → OccursAt (drop i bytes) literal k
+  starts-occurs : (i k : ℕ) → i + k ≤ length subject.bytes → starts_at (i + k) ≡ true → OccursAt (drop i subject.bytes) literal k
   starts-occurs i k within starts =
-      let split = drop-drop k i bytes ∙ (starts_is Decides-eqb (drop (i + k) bytes) literal (starts_at (i + k)) refl).0 starts in
-      let size = ap length split ∙ length-append literal (drop (length literal) (drop (i + k) bytes)) in
-      OccursAt-from_part (drop i bytes) literal k (omega (arith, size, length-drop k (drop i bytes), length-drop i bytes))
-      (ap (take (length literal)) split ∙ take-append_seam literal (drop (length literal) (drop (i + k) bytes)))
+      let split = drop-drop k i subject.bytes ∙ (starts_is Decides-eqb (drop (i + k) subject.bytes) literal (starts_at (i + k)) refl).0 starts in
+      let size = ap length split ∙ length-append literal (drop (length literal) (drop (i + k) subject.bytes)) in
+      OccursAt-from_part (drop i subject.bytes) literal k (omega (arith, size, length-drop k (drop i subject.bytes), length-drop i subject.bytes))
+      (ap (take (length literal)) split ∙ take-append_seam literal (drop (length literal) (drop (i + k) subject.bytes)))
 
   -- where it occurs nowhere up to a place, it reads with a fault up to there
-  misses : (i n : ℕ) → i + n ≤ length bytes + 1 → Nowhere (OccursAt (drop i bytes) literal) 0 n → (j : ℕ) → i ≤ j → j < i + n → starts_at j ≡ false
+  misses : (i n : ℕ) → i + n ≤ length subject.bytes + 1 → Nowhere (OccursAt (drop i subject.bytes) literal) 0 n → (j : ℕ) → i ≤ j → j < i + n → starts_at j ≡ false
   misses i n within none j from to =
       let there : i + (j - i) ≡ j = omega arith in
       ⊎_elim (λ starts. absurd (none (j - i) (omega arith) (omega arith) (starts-occurs i (j - i) (omega arith) (ap starts_at there ∙ starts)))) (λ no_starts. no_starts)
       (cases_Bool (starts_at j))
 
-  module _ (i : ℕ) (within : i ≤ length bytes) (env : Pairs) where
-    places : scan_from origin (length bytes + 1 - i) reads_at env i i ≡ scan origin bytes reads_at env i
-    places = let same : length bytes + 1 - i ≡ suc (length bytes - i) = omega arith in rw same refl
+  module _ (i : ℕ) (within : i ≤ length subject.bytes) (env : Pairs) where
+    places : scan_from subject.origin (length subject.bytes + 1 - i) reads_at env i i ≡ scan subject reads_at env i
+    places = let same : length subject.bytes + 1 - i ≡ suc (length subject.bytes - i) = omega arith in rw same refl
 
-    pub scan-literal : (k : ℕ) → NoneBefore (OccursAt (drop i bytes) literal) 0 (length (drop i bytes) + 1) k → OccursAt (drop i bytes) literal k
-        → found_at origin i (i + k) (lit_of origin bytes literal (i + k)) ≡ scan origin bytes reads_at env i
+    pub scan-literal : (k : ℕ) → NoneBefore (OccursAt (drop i subject.bytes) literal) 0 (length (drop i subject.bytes) + 1) k → OccursAt (drop i subject.bytes) literal k
+        → found_at subject.origin i (i + k) (lit_of subject literal (i + k)) ≡ scan subject reads_at env i
     scan-literal k first occurs =
-        let size = length-drop i bytes in
-        sym (scan-first origin reads_at env i (length bytes + 1) (i + k) (omega (arith, size, first.high)) (ok-there (i + k) (occurs-starts i k occurs)) k i refl
+        let size = length-drop i subject.bytes in
+        sym (scan-first subject.origin reads_at env i (length subject.bytes + 1) (i + k) (omega (arith, size, first.high)) (ok-there (i + k) (occurs-starts i k occurs)) k i refl
         (λ j from to. bad-elsewhere j (misses i k (omega (arith, size, first.high)) first.before j from to)))
         ∙ places
 
-    pub scan-none : Nowhere (OccursAt (drop i bytes) literal) 0 (length (drop i bytes) + 1) → fails origin cause.MissingLiteral i ≡ scan origin bytes reads_at env i
+    pub scan-none : Nowhere (OccursAt (drop i subject.bytes) literal) 0 (length (drop i subject.bytes) + 1) → fails subject.origin cause.MissingLiteral i ≡ scan subject reads_at env i
     scan-none none =
-        let size = length-drop i bytes in
-        let missing = misses i (length (drop i bytes) + 1) (omega (arith, size)) none in
-        ap (λ c. fails origin c i) (sym (blamed i (missing i (omega arith) (omega arith))))
-        ∙ sym (scan-nowhere origin reads_at env i (length bytes + 1) (length bytes + 1 - i) i (omega arith) (λ j from to. bad-elsewhere j (missing j from (omega (arith, size)))))
+        let size = length-drop i subject.bytes in
+        let missing = misses i (length (drop i subject.bytes) + 1) (omega (arith, size)) none in
+        ap (λ c. fails subject.origin c i) (sym (blamed i (missing i (omega arith) (omega arith))))
+        ∙ sym (scan-nowhere subject.origin reads_at env i (length subject.bytes + 1) (length subject.bytes + 1 - i) i (omega arith) (λ j from to. bad-elsewhere j (missing j from (omega (arith, size)))))
         ∙ places
 
 -- what a term reads as that is a literal, its value kept or not
@@ -111,8 +111,8 @@ literal-reads from decls depth t literal is = λ k env i. at env i k
     at : (env : Pairs) (i : ℕ) → reads from decls depth t env i ≡ literal_reader from literal env i
     at env i =
         ⊎_elim
-        (λ plain. ap (λ t. reads from decls depth t env i) plain ∙ read-Lit from.origin from.bytes.now (calls from decls depth) literal env i)
-        (λ absorbed. ap (λ t. reads from decls depth t env i) absorbed ∙ read-Absorb from.origin from.bytes.now (calls from decls depth) (term.Lit literal) env i
-        ∙ ap absorb_of (read-Lit from.origin from.bytes.now (calls from decls depth) literal env i)
-        ∙ absorbs from.origin from.bytes.now literal i)
+        (λ plain. ap (λ t. reads from decls depth t env i) plain ∙ read-Lit (subject_of from) (calls from decls depth) literal env i)
+        (λ absorbed. ap (λ t. reads from decls depth t env i) absorbed ∙ read-Absorb (subject_of from) (calls from decls depth) (term.Lit literal) env i
+        ∙ ap absorb_of (read-Lit (subject_of from) (calls from decls depth) literal env i)
+        ∙ absorbs (subject_of from) literal i)
         is

@@ -5,7 +5,7 @@ use Rattle.pads_calc.specs.declared.record.Record.{Record}
 use Rattle.pads_calc.specs.declared.term.Term.{Term}
 use Rattle.pads_calc.specs.declared.term.Term.TheVariants as term
 use Rattle.pads_calc.specs.Leaves.{lit_of}
-use Rattle.pads_calc.specs.Readings.{Reader}
+use Rattle.pads_calc.specs.Readings.{subject_of, Reader}
 use Rattle.pads_calc.specs.Wrappers.{scan}
 use Rattle.pads_expr.specs.Value.{Pairs}
 
@@ -15,8 +15,8 @@ IsLiteral t literal = (t ≡ term.Lit literal) ⊎ (t ≡ term.Absorb (term.Lit 
 
 -- what the literal reads as at a place
 abbrev pub literal_reader : Record → List ℕ → Reader
-literal_reader from literal env i = lit_of from.origin from.bytes.now literal i
+literal_reader from literal env i = lit_of (subject_of from) literal i
 
 -- the reading is that of a search of the literal from the place on, whatever the environment
 abbrev pub IsFound : Record → List ℕ → ℕ → Reading → Type 0
-IsFound from literal i r = (env : Pairs) → r ≡ scan from.origin from.bytes.now (literal_reader from literal) env i
+IsFound from literal i r = (env : Pairs) → r ≡ scan (subject_of from) (literal_reader from literal) env i

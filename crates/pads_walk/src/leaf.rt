@@ -3,6 +3,7 @@ ghost use Rattle.std.specs.Prelude.{◌≡◌, ◌≤◌, true, length, IfOk};
 ghost use Rattle.pads_calc.specs.Arguments.{arguments};
 ghost use Rattle.pads_calc.specs.Leaves.{base_of, compute_of, eor_of, lit_of, unit_of};
 ghost use Rattle.pads_calc.specs.Places.{EndsWithin};
+ghost use Rattle.pads_calc.specs.Readings.{subject_of};
 ghost use Rattle.pads_dispatch.specs.Labels.{labels_fit};
 ghost use Rattle.pads_expr.specs.Value.{value};
 ghost use Rattle.pads_expr.specs.Worth.{told};
@@ -24,7 +25,7 @@ pub(crate) fn base(
 ) -> Result<Reading, Memory>
     requires labels { labels_fit base.now ≡ true }
     requires place { place ≤ length from.now.bytes.now }
-    ensures base { IfOk result (λ r. r ≡ base_of from.now.origin from.now.bytes.now base.now (arguments args.now env.now.pairs) place) }
+    ensures base { IfOk result (λ r. r ≡ base_of (subject_of from.now) base.now (arguments args.now env.now.pairs) place) }
     ensures within { IfOk result (λ r. EndsWithin from.now.bytes.now place r) }
 {
     from.base(alloc, base, args.as_slice(), env, place)
@@ -66,7 +67,7 @@ pub(crate) fn literal(
     place: u64,
 ) -> Result<Reading, Memory>
     requires { place ≤ length from.now.bytes.now }
-    ensures literal { IfOk result (λ r. r ≡ lit_of from.now.origin from.now.bytes.now literal.now place) }
+    ensures literal { IfOk result (λ r. r ≡ lit_of (subject_of from.now) literal.now place) }
     ensures within { IfOk result (λ r. EndsWithin from.now.bytes.now place r) }
 {
     Ok(from.literal(alloc, literal, place))
@@ -76,7 +77,7 @@ pub(crate) fn literal(
 #[inline(never)]
 pub(crate) fn end(alloc: Global, from: &Record, place: u64) -> Result<Reading, Memory>
     requires { place ≤ length from.now.bytes.now }
-    ensures end { IfOk result (λ r. r ≡ eor_of from.now.origin from.now.bytes.now place) }
+    ensures end { IfOk result (λ r. r ≡ eor_of (subject_of from.now) place) }
     ensures within { IfOk result (λ r. EndsWithin from.now.bytes.now place r) }
 {
     Ok(from.end(alloc, place))

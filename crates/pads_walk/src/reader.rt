@@ -6,6 +6,7 @@ ghost use Rattle.pads_calc.specs.Arrays.{ending_at, is_stopped, turn_from, eleme
 ghost use Rattle.pads_calc.specs.Choices.{alt_from, chosen as chosen_of, switch_of};
 ghost use Rattle.pads_calc.specs.Counts.{few, counts_fit, option_counts, module_counts};
 ghost use Rattle.pads_calc.specs.Places.{EndsWithin, TurnsWithin};
+ghost use Rattle.pads_calc.specs.Readings.{subject_of};
 ghost use Rattle.pads_calc.specs.Structs.{in_turn, struct_of};
 ghost use Rattle.pads_calc.specs.Wrappers.{scan};
 ghost use Rattle.pads_walk.specs.Reads.{calls, reads, reads_part, reads_arm, reads_case, reads_seq};
@@ -69,7 +70,7 @@ impl Reader<'_> {
             Term::Switch(e, cases) => self.read_switch(e, cases.as_slice(), env, place, depth),
             Term::Guard(inner, binder, condition) => {
                 let reading = self.read(inner.get(), env, place, depth)?;
-                guarded(reading, *binder, condition, env)
+                Ok(guarded(reading, *binder, condition, env))
             }
             Term::Seq(seq) => self.read_seq(seq.get(), env, place, depth),
             Term::Call(number, args) => self.read_call(*number, args.as_slice(), env, place, depth),
@@ -190,7 +191,7 @@ impl Reader<'_> {
         requires elem { counts_fit seq.now.elem ≡ true }
         requires sep { option_counts seq.now.sep ≡ true }
         requires stop { option_counts seq.now.stop ≡ true }
-        ensures value { IfOk result (λ r. r ≡ seq_of self.now.record.origin self.now.record.bytes.now (reads_seq self.now.record self.now.decls.now depth seq.now) env.old.pairs place) }
+        ensures value { IfOk result (λ r. r ≡ seq_of (subject_of self.now.record) (reads_seq self.now.record self.now.decls.now depth seq.now) env.old.pairs place) }
         ensures within { IfOk result (λ r. EndsWithin self.now.record.bytes.now place r) }
         ensures env { OnOk result (env.new.pairs ≡ env.old.pairs) }
     {
@@ -230,7 +231,7 @@ impl Reader<'_> {
         if is_full(size, run.values.len()) {
             return Ok(Ending::Ends(None));
         }
-        let is_last = run.is_last(self.alloc, seq.last.as_ref(), seq.elts, env)?;
+        let is_last = run.is_last(self.alloc, seq.last.as_ref(), seq.elts, env);
         if is_last {
             return Ok(Ending::Ends(None));
         }
@@ -357,7 +358,7 @@ impl Reader<'_> {
     ) -> Result<Reading, Memory>
         requires within { place ≤ length self.now.record.bytes.now }
         requires counted { counts_fit inner.now ≡ true }
-        ensures value { IfOk result (λ r. r ≡ scan self.now.record.origin self.now.record.bytes.now (reads self.now.record self.now.decls.now depth inner.now) env.old.pairs place) }
+        ensures value { IfOk result (λ r. r ≡ scan (subject_of self.now.record) (reads self.now.record self.now.decls.now depth inner.now) env.old.pairs place) }
         ensures within { IfOk result (λ r. EndsWithin self.now.record.bytes.now place r) }
         ensures env { OnOk result (env.new.pairs ≡ env.old.pairs) }
     {
@@ -373,7 +374,7 @@ impl Reader<'_> {
     fn search(&self, inner: &Term, env: &mut Env, place: u64, depth: u8) -> Result<Reading, Memory>
         requires within { place ≤ length self.now.record.bytes.now }
         requires counted { counts_fit inner.now ≡ true }
-        ensures value { IfOk result (λ r. r ≡ scan self.now.record.origin self.now.record.bytes.now (reads self.now.record self.now.decls.now depth inner.now) env.old.pairs place) }
+        ensures value { IfOk result (λ r. r ≡ scan (subject_of self.now.record) (reads self.now.record self.now.decls.now depth inner.now) env.old.pairs place) }
         ensures within { IfOk result (λ r. EndsWithin self.now.record.bytes.now place r) }
         ensures env { OnOk result (env.new.pairs ≡ env.old.pairs) }
     {

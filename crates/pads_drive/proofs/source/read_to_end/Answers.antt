@@ -1,15 +1,16 @@
-use Rattle.std.proofs.Common.{◌≡◌, ℕ, Bool, true, Err, List, [], ◌∙◌, sym, refl, ap, arith}
+use Rattle.std.proofs.Common.{◌≡◌, ℕ, Bool, true, List, [], ◌∙◌, sym, refl, ap, arith}
 use Rattle.std.proofs.lemmas.Bool.{true≢false}
 use Rattle.pads_frame.specs.State.{MayCome, State, reach, rest}
 use Rattle.pads_drive.specs.Ends.{Anything}
 use Rattle.pads_drive.proofs.Blame.{none-counted}
-use Rattle.pads_drive.proofs.Halting.{caught-none, caught-took, caught-kept, halts-read, halts-when, same_stop}
+use Rattle.pads_drive.proofs.Halting.{caught-none, caught-took, caught-kept, halts-read, halts-when}
+use Rattle.pads_drive.proofs.Progress.{at-sink-map}
 use Rattle.pads_drive.proofs.ReadSteps.{reads-none, reads-pumped, reads-more, reads-kept, reads-stopped}
 use Rattle.pads_drive.proofs.source.read_to_end.Goals as goal
 
 pub reads-init : goal.reads-init
 reads-init g c = record {
-  reads = reads-none _ _ _ _ _ _ _;
+  reads = reads-none _ _ _ _ _;
   within = c.requires.within;
   open_still = c.requires.open;
   source_kept = refl;
@@ -21,69 +22,69 @@ reads-init g c = record {
 
 pub returns-in-Err-clause-err : goal.returns-in-Err-clause-err
 returns-in-Err-clause-err g c =
-    reads-stopped _ _ _ _ _ _ _ _ _ _ _ _ _ _ (λ ended more e. absurd (true≢false (sym e ∙ c.reads.invariant.open_still))) c.reads.invariant.open_still c.reads.invariant.reads c.in-Err.ensures.err
+    reads-stopped _ _ _ _ _ _ _ _ _ _ _ _ _ (λ ended more e. absurd (true≢false (sym e ∙ c.reads.invariant.open_still))) c.reads.invariant.open_still c.reads.invariant.reads c.in-Err.ensures.err
 
 pub returns-in-Err-clause-halts : goal.returns-in-Err-clause-halts
-returns-in-Err-clause-halts g c = λ e.
+returns-in-Err-clause-halts g c =
     let never = λ (ended : Bool) (more : List ℕ) (any : Unit {0}) (over : c.reads.reading.framer.ended ≡ true). absurd (true≢false (sym over ∙ c.reads.invariant.open_still)) in
-    halts-read _ _ _ _ _ _ _ _ _ _ _ _ [] Anything never c.reads.invariant.reads c.reads.invariant.caught
-    (halts-when _ _ _ _ [] (MayCome c.reads.reading.framer) Anything never (c.in-Err.ensures.halts (ap Err (same_stop _ _ _ _ refl refl e))))
+    at-sink-map _ _ _ (λ h. halts-read _ _ _ _ _ _ _ _ _ _ _ [] Anything never c.reads.invariant.reads c.reads.invariant.caught
+    (halts-when _ _ _ _ _ _ [] (MayCome c.reads.reading.framer) Anything never h)) c.in-Err.ensures.halts
 
 pub returns-in-End-clause-caught : goal.returns-in-End-clause-caught
 returns-in-End-clause-caught g c =
-    let pumped = reads-pumped _ _ _ _ _ _ _ _ _ _ _ _ _ _ c.reads.invariant.reads c.in_default.ensures.ok in
-    caught-kept _ _ _ _ _ _ _ _ _ _ _ _ _ pumped (c.in_default.ensures.ended ∙ c.reads.invariant.open_still) c.in_default.ensures.waiting c.in-End.ensures.gives.0 refl
+    let pumped = reads-pumped _ _ _ _ _ _ _ _ _ _ _ _ c.reads.invariant.reads c.in_default.ensures.ok in
+    caught-kept _ _ _ _ _ _ _ _ _ _ _ pumped (c.in_default.ensures.ended ∙ c.reads.invariant.open_still) c.in_default.ensures.waiting c.in-End.ensures.gives.0 refl
 
 pub returns-in-ReadFault-clause-caught : goal.returns-in-ReadFault-clause-caught
 returns-in-ReadFault-clause-caught g c =
-    let pumped = reads-pumped _ _ _ _ _ _ _ _ _ _ _ _ _ _ c.reads.invariant.reads c.in_default.ensures.ok in
-    caught-kept _ _ _ _ _ _ _ _ _ _ _ _ _ pumped (c.in_default.ensures.ended ∙ c.reads.invariant.open_still) c.in_default.ensures.waiting c.in-ReadFault.ensures.gives.0 refl
+    let pumped = reads-pumped _ _ _ _ _ _ _ _ _ _ _ _ c.reads.invariant.reads c.in_default.ensures.ok in
+    caught-kept _ _ _ _ _ _ _ _ _ _ _ pumped (c.in_default.ensures.ended ∙ c.reads.invariant.open_still) c.in_default.ensures.waiting c.in-ReadFault.ensures.gives.0 refl
 
 pub returns-in-TooLong-clause-caught : goal.returns-in-TooLong-clause-caught
 returns-in-TooLong-clause-caught g c =
-    let pumped = reads-pumped _ _ _ _ _ _ _ _ _ _ _ _ _ _ c.reads.invariant.reads c.in_default.ensures.ok in
-    caught-took _ _ _ _ _ _ _ _ _ _ _ _ _ _ _ pumped (c.in_default.ensures.ended ∙ c.reads.invariant.open_still) c.in_default.ensures.waiting c.in-TooLong.ensures.gives.2 refl
+    let pumped = reads-pumped _ _ _ _ _ _ _ _ _ _ _ _ c.reads.invariant.reads c.in_default.ensures.ok in
+    caught-took _ _ _ _ _ _ _ _ _ _ _ _ _ pumped (c.in_default.ensures.ended ∙ c.reads.invariant.open_still) c.in_default.ensures.waiting c.in-TooLong.ensures.gives.2 refl
 
 pub reads-preserved : goal.reads-preserved
 reads-preserved g c =
-    let pumped = reads-pumped _ _ _ _ _ _ _ _ _ _ _ _ _ _ c.reads.invariant.reads c.in_default.ensures.ok in
+    let pumped = reads-pumped _ _ _ _ _ _ _ _ _ _ _ _ c.reads.invariant.reads c.in_default.ensures.ok in
     let still = c.in_default.ensures.ended ∙ c.reads.invariant.open_still in
     let took = c.in-More.ensures.gives.1 in
     record {
-      reads = reads-more _ _ _ _ _ _ _ _ _ _ _ _ _ _ [] pumped refl refl refl still took;
+      reads = reads-more _ _ _ _ _ _ _ _ _ _ _ _ [] pumped refl refl refl still took;
       within = took.within;
       open_still = took.input.ended ∙ still;
       source_kept = c.in-More.ensures.kept (λ e. cc) ∙ c.reads.invariant.source_kept;
       out_kept = (none-counted _ _ _ _ _ _ c.in_default.ensures.cause).0 ∙ c.reads.invariant.out_kept;
       notes_kept = (none-counted _ _ _ _ _ _ c.in_default.ensures.cause).1 ∙ c.reads.invariant.notes_kept;
       filled = c.in_default.ensures.filled;
-      caught = caught-took _ _ _ _ _ _ _ _ _ _ _ _ _ _ [] pumped still c.in_default.ensures.waiting took refl;
+      caught = caught-took _ _ _ _ _ _ _ _ _ _ _ _ [] pumped still c.in_default.ensures.waiting took refl;
     }
 
 pub returns-in-End-clause-ok : goal.returns-in-End-clause-ok
 returns-in-End-clause-ok g c =
-    let pumped = reads-pumped _ _ _ _ _ _ _ _ _ _ _ _ _ _ c.reads.invariant.reads c.in_default.ensures.ok in
+    let pumped = reads-pumped _ _ _ _ _ _ _ _ _ _ _ _ c.reads.invariant.reads c.in_default.ensures.ok in
     let still = c.in_default.ensures.ended ∙ c.reads.invariant.open_still in
     let gives = c.in-End.ensures.gives in (
-      reads-kept _ _ _ _ _ _ _ _ _ _ _ _ _ pumped gives.0 refl refl refl still (λ ended more. ap (λ (s : State). rest ended s more) gives.2) (ap reach gives.2) (ap (λ (s : State). s.first) gives.2),
+      reads-kept _ _ _ _ _ _ _ _ _ _ _ pumped gives.0 refl refl refl still (λ ended more. ap (λ (s : State). rest ended s more) gives.2) (ap reach gives.2) (ap (λ (s : State). s.first) gives.2),
       gives.1,
       ap (λ (s : State). s.ended) gives.2,
     )
 
 pub returns-in-ReadFault-clause-ok : goal.returns-in-ReadFault-clause-ok
 returns-in-ReadFault-clause-ok g c =
-    let pumped = reads-pumped _ _ _ _ _ _ _ _ _ _ _ _ _ _ c.reads.invariant.reads c.in_default.ensures.ok in
+    let pumped = reads-pumped _ _ _ _ _ _ _ _ _ _ _ _ c.reads.invariant.reads c.in_default.ensures.ok in
     let still = c.in_default.ensures.ended ∙ c.reads.invariant.open_still in
     let gives = c.in-ReadFault.ensures.gives in
     let rose = gives.1 in (
-      reads-kept _ _ _ _ _ _ _ _ _ _ _ _ _ pumped gives.0 refl refl refl still (λ ended more. ap (λ (s : State). rest ended s more) gives.2) (ap reach gives.2) (ap (λ (s : State). s.first) gives.2),
+      reads-kept _ _ _ _ _ _ _ _ _ _ _ pumped gives.0 refl refl refl still (λ ended more. ap (λ (s : State). rest ended s more) gives.2) (ap reach gives.2) (ap (λ (s : State). s.first) gives.2),
       omega (arith, c.reads.invariant.source_kept, rose),
       ap (λ (s : State). s.ended) gives.2 ∙ still,
     )
 
 pub returns-in-TooLong-clause-ok : goal.returns-in-TooLong-clause-ok
 returns-in-TooLong-clause-ok g c =
-    let pumped = reads-pumped _ _ _ _ _ _ _ _ _ _ _ _ _ _ c.reads.invariant.reads c.in_default.ensures.ok in
+    let pumped = reads-pumped _ _ _ _ _ _ _ _ _ _ _ _ c.reads.invariant.reads c.in_default.ensures.ok in
     let still = c.in_default.ensures.ended ∙ c.reads.invariant.open_still in
     let gives = c.in-TooLong.ensures.gives in
-    (gives.1, reads-more _ _ _ _ _ _ _ _ _ _ _ _ _ _ _ pumped refl refl refl still gives.2, gives.3, gives.4, gives.2.input.ended ∙ still)
+    (gives.1, reads-more _ _ _ _ _ _ _ _ _ _ _ _ _ pumped refl refl refl still gives.2, gives.3, gives.4, gives.2.input.ended ∙ still)

@@ -4,9 +4,9 @@ use Rattle.std.proofs.lemmas.Result.{on_ok_weaker}
 use Rattle.std.specs.Option.{option_copied}
 use Rattle.pads_value.specs.declared.descriptor.Pd.{Pd}
 use Rattle.pads_json.specs.Faults.{kid_told, kids_told, listed}
-use Rattle.pads_json.specs.Forms.{form_seen}
-use Rattle.pads_json.specs.Slots.{Slot}
-use Rattle.pads_json.specs.Steps.{steps}
+use Rattle.pads_forms.specs.Forms.{form_seen}
+use Rattle.pads_forms.specs.Slots.{Slot}
+use Rattle.pads_json.specs.Places.{steps}
 use Rattle.pads_json.proofs.FaultLayers.{bare_written, faults_written, kid_next}
 use Rattle.pads_json.proofs.faults.+faults.Goals as goal
 use Rattle.pads_json.proofs.faults.+faults.Goals.{write_kids-then-not-is_bare+in_ok-write_kid, write_kids-else-not-is_bare}

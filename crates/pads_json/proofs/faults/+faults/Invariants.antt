@@ -1,8 +1,8 @@
 use Rattle.std.proofs.Common.{◌≡◌, ◌++◌, map, drop}
 use Rattle.std.specs.Option.{option_copied}
 use Rattle.pads_json.specs.Faults.{faults, kids_faults, kids_told, listed}
-use Rattle.pads_json.specs.Forms.{form_seen}
-use Rattle.pads_json.specs.Steps.{steps}
+use Rattle.pads_forms.specs.Forms.{form_seen}
+use Rattle.pads_json.specs.Places.{steps}
 use Rattle.pads_json.proofs.faults.+faults.Given as goal
 
 -- what is written already, then the rest, is the whole

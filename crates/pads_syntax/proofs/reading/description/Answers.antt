@@ -1,6 +1,6 @@
 use Rattle.std.proofs.Common.{sym, ◌∙◌}
-use Rattle.pads_syntax_decl.specs.Declarations.{decls}
-use Rattle.pads_syntax_decl.proofs.DeclDecides.{decls_ok}
+use Rattle.pads_syntax.specs.Declarations.{decls}
+use Rattle.pads_syntax.proofs.DeclDecides.{decls_ok}
 use Rattle.pads_syntax.specs.Trees.{description}
 use Rattle.pads_syntax.proofs.Stops.{ends, fewer_found, fewer_met, completed, stopped_at, stopped_behind}
 use Rattle.pads_syntax.proofs.reading.description.Goals as goal

@@ -1,5 +1,5 @@
-use Rattle.pads_syntax_decl.specs.Declarations.{decls}
-use Rattle.pads_syntax_decl.proofs.DeclDecides.{decls_ok}
+use Rattle.pads_syntax.specs.Declarations.{decls}
+use Rattle.pads_syntax.proofs.DeclDecides.{decls_ok}
 use Rattle.pads_syntax.specs.Trees.{description}
 use Rattle.pads_syntax.proofs.Answered.{answer_found, answer_only, answer_fault, answer_place}
 use Rattle.pads_syntax.proofs.reading.parse.Goals as goal

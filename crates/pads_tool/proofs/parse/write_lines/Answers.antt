@@ -1,4 +1,4 @@
-use Rattle.pads_trans.specs.Modules.{contents}
+use Rattle.pads_calc.specs.Modules.{contents}
 use Rattle.pads_tool.specs.Describing.{described}
 use Rattle.pads_tool.proofs.Lines.{lines-give, out-kept, source-kept}
 use Rattle.pads_tool.proofs.parse.write_lines.Goals as goal

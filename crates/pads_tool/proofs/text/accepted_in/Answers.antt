@@ -3,9 +3,9 @@ use Rattle.pads_describe.specs.Verdicts.{IsRefused}
 use Rattle.pads_tool.proofs.Texts.{of-text}
 use Rattle.pads_tool.proofs.text.accepted_in.Goals as goal
 
-pub returns-in-Ok-check-clause-accepted : goal.returns-in-Ok-check-clause-accepted
-returns-in-Ok-check-clause-accepted g c =
-    of-text (λ text. IsAcceptedWith text c.in-Ok-check.count) _ c.in-Ok.text c.in-Ok.ensures.text (rw c.as_slice.ensures.items at c.in-Ok-check.ensures.accepted)
+pub returns-in-Ok-check_text-clause-accepted : goal.returns-in-Ok-check_text-clause-accepted
+returns-in-Ok-check_text-clause-accepted g c =
+    of-text (λ text. IsAcceptedWith text c.in-Ok-check_text.count) _ c.in-Ok.text c.in-Ok.ensures.text (rw c.as_slice.ensures.items at c.in-Ok-check_text.ensures.accepted)
 
 pub returns-in-Err-Fault-clause-stops : goal.returns-in-Err-Fault-clause-stops
 returns-in-Err-Fault-clause-stops g c =

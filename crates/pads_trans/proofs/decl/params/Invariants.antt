@@ -1,5 +1,5 @@
 use Rattle.std.proofs.Common.{◌≡◌, map, take}
-use Rattle.pads_resolved.specs.declared.types.Param.{Param}
+use Rattle.pads_typed_tree.specs.declared.types.Param.{Param}
 use Rattle.pads_trans.proofs.decl.params.Given as goal
 use Rattle.pads_trans_expr.specs.Names.{number_of}
 

@@ -1,5 +1,5 @@
 use Rattle.std.proofs.Common.{◌∙◌, ◌+◌, ap}
-use Rattle.pads_calc.specs.Readings.{is_ok}
+use Rattle.pads_calc.specs.Readings.{subject_of, is_ok}
 use Rattle.pads_calc.specs.Wrappers.{found_at}
 use Rattle.pads_walk.proofs.Searches.{ok-there, occurs-starts, scan-literal, scan-none}
 use Rattle.pads_walk.proofs.search.find.Goals as goal
@@ -9,17 +9,17 @@ found-requires-clause-ok c =
     let from = c.args.from.now in
     let literal = c.args.literal.now in
     ap is_ok c.literal.ensures.literal
-    ∙ ok-there from.origin from.bytes.now literal (c.args.place + c.in-Some.skipped)
-    (occurs-starts from.origin from.bytes.now literal c.args.place c.in-Some.skipped (rw c.rest.ensures.rest at c.in-Some.ensures.1))
+    ∙ ok-there (subject_of from) literal (c.args.place + c.in-Some.skipped)
+    (occurs-starts (subject_of from) literal c.args.place c.in-Some.skipped (rw c.rest.ensures.rest at c.in-Some.ensures.1))
 
 pub returns-in-Some-clause-found : goal.returns-in-Some-clause-found
 returns-in-Some-clause-found c env =
     let from = c.args.from.now in
     c.found.ensures.found
     ∙ ap (found_at from.origin c.args.place (c.args.place + c.in-Some.skipped)) c.literal.ensures.literal
-    ∙ scan-literal from.origin from.bytes.now c.args.literal.now c.args.place c.requires.within env c.in-Some.skipped (rw c.rest.ensures.rest at c.in-Some.ensures.0) (rw c.rest.ensures.rest at c.in-Some.ensures.1)
+    ∙ scan-literal (subject_of from) c.args.literal.now c.args.place c.requires.within env c.in-Some.skipped (rw c.rest.ensures.rest at c.in-Some.ensures.0) (rw c.rest.ensures.rest at c.in-Some.ensures.1)
 
 pub returns-in-None-clause-found : goal.returns-in-None-clause-found
 returns-in-None-clause-found c env =
     let from = c.args.from.now in
-    c.fails.ensures.fails ∙ scan-none from.origin from.bytes.now c.args.literal.now c.args.place c.requires.within env (rw c.rest.ensures.rest at c.in-None.ensures)
+    c.fails.ensures.fails ∙ scan-none (subject_of from) c.args.literal.now c.args.place c.requires.within env (rw c.rest.ensures.rest at c.in-None.ensures)

@@ -2,6 +2,7 @@ use Rattle.std.proofs.Common.{◌≡◌, ◌-◌, length, refl, arith}
 use Rattle.std.proofs.lemmas.List.{length-drop}
 use Rattle.pads_frame.specs.Cutters.{held_of, state_of}
 use Rattle.pads_frame.proofs.Passing.{none_owed, searched_all}
+use Rattle.pads_frame.proofs.Taking.{lost_already}
 use Rattle.pads_frame.proofs.cutter.Cutter.advance.Goals as goal
 
 pub returns-in-Wait-clause-kept : goal.returns-in-Wait-clause-kept
@@ -30,6 +31,7 @@ returns-in-Wait-clause-gives c =
       owed = λ ended more. refl;
       done = none_owed (state_of old) c.in-Wait.ensures.0;
       first = refl;
+      lost = lost_already old.discipline old.max old.passed (held_of old) c.requires.kept.may_pass;
       free = omega (arith, c.in-Wait.ensures.1);
       reach = refl;
       input = record { discipline = refl; max = refl; ended = refl };

@@ -14,7 +14,7 @@ use Rattle.pads_calc.specs.Places.{TurnsWithin}
 use Rattle.pads_calc.specs.declared.turn.Ending.TheVariants as ending
 use Rattle.pads_calc.specs.declared.turn.Turn.TheVariants as turn
 use Rattle.pads_calc.specs.Counts.{counts_fit}
-use Rattle.pads_calc.specs.Readings.{Reader, is_ok}
+use Rattle.pads_calc.specs.Readings.{subject_of, Reader, is_ok}
 use Rattle.pads_calc.specs.Structs.{bind, in_turn}
 use Rattle.pads_calc.specs.Wrappers.{scan}
 use Rattle.pads_calc.proofs.CountRolls.{counts-Base, counts-Guard, counts-Absorb, counts-Scan, fit-parts, few-arms, fit-arms, few-cases, fit-cases, fit-elem, fit-sep, fit-stop, fit-body, all-there}
@@ -78,24 +78,24 @@ read-read_scan-requires t c =
     (under _ _ _ _ 2 (omega arith) c.decreases (rw (c.in-Scan.is, c.get-in-Scan.ensures.value) (size-Scan c.in-Scan.inner)), (c.requires.within, ap counts_fit c.get-in-Scan.ensures.value ∙ sym (counts-Scan c.in-Scan.inner) ∙ fits))
 
 pub read_call-returns-then-depth-eq0-clause-value : goal.read_call-returns-then-depth-eq0-clause-value
-read_call-returns-then-depth-eq0-clause-value t c = c.fails.ensures.fails ∙ sym (call-deep c.args.self.now.record.origin c.args.self.now.record.bytes.now c.args.self.now.decls.now c.args.number c.args.args.now c.args.env.now.pairs c.args.place c.args.depth c.if-depth-eq0.true)
+read_call-returns-then-depth-eq0-clause-value t c = c.fails.ensures.fails ∙ sym (call-deep (subject_of c.args.self.now.record) c.args.self.now.decls.now c.args.number c.args.args.now c.args.env.now.pairs c.args.place c.args.depth c.if-depth-eq0.true)
 
 pub read_call-returns-in_default-clause-value : goal.read_call-returns-in_default-clause-value
 read_call-returns-in_default-clause-value t c =
     let none : arguments c.args.args.now c.args.env.now.pairs ≡ None = sym c.in_ok-args.ensures.arguments ∙ c.in_default.is in
-    c.fails-in_default.ensures.fails ∙ sym (call-unargued c.args.self.now.record.origin c.args.self.now.record.bytes.now c.args.self.now.decls.now c.args.number c.args.args.now c.args.env.now.pairs c.args.place c.args.depth c.if-depth-eq0.false none)
+    c.fails-in_default.ensures.fails ∙ sym (call-unargued (subject_of c.args.self.now.record) c.args.self.now.decls.now c.args.number c.args.args.now c.args.env.now.pairs c.args.place c.args.depth c.if-depth-eq0.false none)
 
 pub search-returns-then-is_ok-clause-value : goal.search-returns-then-is_ok-clause-value
 search-returns-then-is_ok-clause-value t c =
     let f = reads c.args.self.now.record c.args.self.now.decls.now c.args.depth c.args.inner.now in
     let ok : is_ok (f c.args.env.now.pairs c.args.place) ≡ true = ap is_ok (sym c.in_ok-first.ensures.value) ∙ sym c.is_ok.ensures.ok ∙ c.if-is_ok.true in
-    c.in_ok-first.ensures.value ∙ sym (scan-here c.args.self.now.record.origin f c.args.env.now.pairs c.args.place c.args.self.now.record.bytes.now ok)
+    c.in_ok-first.ensures.value ∙ sym (scan-here (subject_of c.args.self.now.record) f c.args.env.now.pairs c.args.place ok)
 
 pub read_scan-returns-in-Some-clause-value : goal.read_scan-returns-in-Some-clause-value
 read_scan-returns-in-Some-clause-value t c =
     let from = c.args.self.now.record in
     c.find_from.ensures.found c.args.env.now.pairs
-    ∙ ap (λ (f : Reader). scan from.origin from.bytes.now f c.args.env.now.pairs c.args.place)
+    ∙ ap (λ (f : Reader). scan (subject_of from) f c.args.env.now.pairs c.args.place)
     (sym (literal-reads from c.args.self.now.decls.now c.args.depth c.args.inner.now c.in-Some.literal.now c.in-Some.ensures.literal))
 
 pub search-loop-at-init : goal.search-loop-at-init
@@ -104,7 +104,7 @@ search-loop-at-init t c =
     let bad : is_ok (f c.args.env.now.pairs c.args.place) ≡ false = ap is_ok (sym c.in_ok-first.ensures.value) ∙ sym c.is_ok.ensures.ok ∙ c.if-is_ok.false in
     record {
       env = c.in_ok-first.ensures.env;
-      rest = scan-on c.args.self.now.record.origin f c.args.env.now.pairs c.args.place c.args.self.now.record.bytes.now c.requires.within bad;
+      rest = scan-on (subject_of c.args.self.now.record) f c.args.env.now.pairs c.args.place c.requires.within bad;
     }
 
 pub search-returns-then-is_ok-2-clause-value : goal.search-returns-then-is_ok-2-clause-value
@@ -172,7 +172,7 @@ read_struct-loop-part-preserved t c =
     let held = c.loop-part.invariant in
     let part = c.part-item.result in
     let value = c.in_ok-reading.reading.value in
-    let next = parts-next c.args.self.now.record.origin c.args.self.now.record.bytes.now f c.args.parts.now c.loop-part.part-index part c.loop-part.env.pairs c.loop-part.fields.place c.loop-part-test.true c.part-item.is in
+    let next = parts-next (subject_of c.args.self.now.record) f c.args.parts.now c.loop-part.part-index part c.loop-part.env.pairs c.loop-part.fields.place c.loop-part-test.true c.part-item.is in
     let next' = rw (← c.in_ok-reading.ensures.value) at next in
     let follows = rw next' at held.follows in
     let within = c.in_ok-reading.ensures.within in
@@ -221,7 +221,7 @@ pub read_switch-returns-clause-value : goal.read_switch-returns-clause-value
 read_switch-returns-clause-value t c =
     let there : slice_get c.args.cases.now c.in-Some.number ≡ Some c.in-Some-item.case.now = sym c.in-Some-item.ensures.item in
     let number = chosen (argument c.args.e.now c.args.env.now.pairs) (map (λ case. case.key) c.args.cases.now) in
-    rw (switch-found c.args.self.now.record.origin c.args.self.now.record.bytes.now (calls c.args.self.now.record c.args.self.now.decls.now c.args.depth) c.args.env.now.pairs c.args.place c.args.cases.now number c.in-Some.number c.in-Some-item.case.now (sym c.in_ok-number.ensures.chosen ∙ c.in-Some.is) there, ← c.in_ok-reading.ensures.value)
+    rw (switch-found (subject_of c.args.self.now.record) (calls c.args.self.now.record c.args.self.now.decls.now c.args.depth) c.args.env.now.pairs c.args.place c.args.cases.now number c.in-Some.number c.in-Some-item.case.now (sym c.in_ok-number.ensures.chosen ∙ c.in-Some.is) there, ← c.in_ok-reading.ensures.value)
     c.branch-reading-2.ensures.branch
 
 pub turn-returns-in_default-clause-turn : goal.turn-returns-in_default-clause-turn
@@ -240,7 +240,7 @@ pub read_call-returns-in_default-item-clause-value : goal.read_call-returns-in_d
 read_call-returns-in_default-item-clause-value t c =
     let argued : arguments c.args.args.now c.args.env.now.pairs ≡ Some c.in-Some.args = sym c.in_ok-args.ensures.arguments ∙ c.in-Some.is in
     c.fails-in_default-item.ensures.fails
-    ∙ sym (call-undeclared c.args.self.now.record.origin c.args.self.now.record.bytes.now c.args.self.now.decls.now c.args.number c.args.args.now c.args.env.now.pairs c.args.place c.args.depth c.in-Some.args c.if-depth-eq0.false argued (sym c.in_default-item.ensures.item))
+    ∙ sym (call-undeclared (subject_of c.args.self.now.record) c.args.self.now.decls.now c.args.number c.args.args.now c.args.env.now.pairs c.args.place c.args.depth c.in-Some.args c.if-depth-eq0.false argued (sym c.in_default-item.ensures.item))
 
 pub read_call-read-requires : goal.read_call-read-requires
 read_call-read-requires t c =
@@ -254,7 +254,7 @@ pub read_call-returns-clause-value : goal.read_call-returns-clause-value
 read_call-returns-clause-value t c =
     let there : slice_get c.args.self.now.decls.now c.args.number ≡ Some c.in-Some-item.decl.now = sym c.in-Some-item.ensures.item in
     let argued : arguments c.args.args.now c.args.env.now.pairs ≡ Some c.in-Some.args = sym c.in_ok-args.ensures.arguments ∙ c.in-Some.is in
-    rw (call-found c.args.self.now.record.origin c.args.self.now.record.bytes.now c.args.self.now.decls.now c.args.number c.args.args.now c.args.env.now.pairs c.args.place c.args.depth c.in-Some.args c.in-Some-item.decl.now c.if-depth-eq0.false argued there, ← c.as_slice.ensures.items, ← c.in_ok-inner.ensures.bound)
+    rw (call-found (subject_of c.args.self.now.record) c.args.self.now.decls.now c.args.number c.args.args.now c.args.env.now.pairs c.args.place c.args.depth c.in-Some.args c.in-Some-item.decl.now c.if-depth-eq0.false argued there, ← c.as_slice.ensures.items, ← c.in_ok-inner.ensures.bound)
     c.read.ensures.value
 
 pub read_seq-elements-init : goal.read_seq-elements-init
@@ -288,7 +288,7 @@ read_seq-returns-in-Ends-clause-value t c =
     rw c.elements.invariant.env at (sym c.in_ok-own.ensures.ending ∙ c.in-Ends.is) in
     rw c.in_ok-own.ensures.run at c.into_array.ensures.node
     ∙ sym (gathers-ended c.args.self.now.record.bytes.now s c.in-Some.size c.args.env.now.pairs whole c.args.place c.args.self.now.record.origin run.values run.pds run.place c.in-Ends.own some c.elements.invariant.kept ended)
-    ∙ sym (seq-sized c.args.self.now.record.origin c.args.self.now.record.bytes.now s c.args.env.now.pairs c.args.place c.in-Some.size sized)
+    ∙ sym (seq-sized (subject_of c.args.self.now.record) s c.args.env.now.pairs c.args.place c.in-Some.size sized)
 
 pub read_seq-returns-in-Ends-clause-within : goal.read_seq-returns-in-Ends-clause-within
 read_seq-returns-in-Ends-clause-within t c = rw (c.into_array.ensures.node, c.in_ok-own.ensures.run) (c.elements.invariant.from, c.elements.invariant.to)
@@ -308,7 +308,7 @@ read_seq-returns-in-Undone-clause-value t c =
     let turns = rw (c.is_empty.ensures.empty, c.in_ok-own.ensures.run, c.in_ok-own.ensures.env, c.elements.invariant.env) at (sym c.in_ok-cause.ensures.turn ∙ c.in-Undone.is) in
     rw c.in_ok-own.ensures.run at c.into_array-in-Undone.ensures.node
     ∙ sym (gathers-undone c.args.self.now.record.bytes.now s c.in-Some.size c.args.env.now.pairs whole c.args.place c.args.self.now.record.origin run.values run.pds run.place c.in-Undone.cause some c.elements.invariant.kept on turns)
-    ∙ sym (seq-sized c.args.self.now.record.origin c.args.self.now.record.bytes.now s c.args.env.now.pairs c.args.place c.in-Some.size sized)
+    ∙ sym (seq-sized (subject_of c.args.self.now.record) s c.args.env.now.pairs c.args.place c.in-Some.size sized)
 
 pub read_seq-returns-in-Undone-clause-within : goal.read_seq-returns-in-Undone-clause-within
 read_seq-returns-in-Undone-clause-within t c = rw (c.into_array-in-Undone.ensures.node, c.in_ok-own.ensures.run) (c.elements.invariant.from, c.elements.invariant.to)
@@ -361,31 +361,31 @@ pub ending-returns-then-is_last-clause-ending : goal.ending-returns-then-is_last
 ending-returns-then-is_last-clause-ending t c =
     let full : is_full c.args.size (length c.args.run.now.values) ≡ false = ap (λ n. is_full c.args.size n) (sym c.len.ensures.length) ∙ sym c.is_full.ensures.full ∙ c.if-is_full.false in
     let last : is_last c.args.seq.now.last c.args.seq.now.elts c.args.run.now.values c.args.env.now.pairs ≡ true =
-    ap (λ o. is_last o c.args.seq.now.elts c.args.run.now.values c.args.env.now.pairs) (sym c.as_ref.ensures.value) ∙ sym c.in_ok-is_last.ensures.last ∙ c.if-is_last.true in
+    ap (λ o. is_last o c.args.seq.now.elts c.args.run.now.values c.args.env.now.pairs) (sym c.as_ref.ensures.value) ∙ sym c.is_last-is_last.ensures.last ∙ c.if-is_last.true in
     sym (ending-last c.args.self.now.record.bytes.now (reads_seq c.args.self.now.record c.args.self.now.decls.now c.args.depth c.args.seq.now) c.args.size c.args.run.now.values c.args.env.now.pairs c.args.run.now.place full last)
 
 pub ending-returns-then-stops-clause-ending : goal.ending-returns-then-stops-clause-ending
 ending-returns-then-stops-clause-ending t c =
     let full : is_full c.args.size (length c.args.run.now.values) ≡ false = ap (λ n. is_full c.args.size n) (sym c.len.ensures.length) ∙ sym c.is_full.ensures.full ∙ c.if-is_full.false in
     let last : is_last c.args.seq.now.last c.args.seq.now.elts c.args.run.now.values c.args.env.now.pairs ≡ false =
-    ap (λ o. is_last o c.args.seq.now.elts c.args.run.now.values c.args.env.now.pairs) (sym c.as_ref.ensures.value) ∙ sym c.in_ok-is_last.ensures.last ∙ c.if-is_last.false in
-    let stop = rw (c.in_ok-is_last.ensures.kept, c.in_ok-is_last.ensures.env) at (sym c.in_ok-stops.ensures.stops ∙ c.if-stops.true) in
+    ap (λ o. is_last o c.args.seq.now.elts c.args.run.now.values c.args.env.now.pairs) (sym c.as_ref.ensures.value) ∙ sym c.is_last-is_last.ensures.last ∙ c.if-is_last.false in
+    let stop = rw c.is_last-is_last.ensures.kept at (sym c.in_ok-stops.ensures.stops ∙ c.if-stops.true) in
     ap ending.Ends c.short_of.ensures.cause ∙ sym (ending-stop c.args.self.now.record.bytes.now (reads_seq c.args.self.now.record c.args.self.now.decls.now c.args.depth c.args.seq.now) c.args.size c.args.run.now.values c.args.env.now.pairs c.args.run.now.place full last stop)
 
 pub ending-returns-then-is_end-clause-ending : goal.ending-returns-then-is_end-clause-ending
 ending-returns-then-is_end-clause-ending t c =
     let full : is_full c.args.size (length c.args.run.now.values) ≡ false = ap (λ n. is_full c.args.size n) (sym c.len.ensures.length) ∙ sym c.is_full.ensures.full ∙ c.if-is_full.false in
     let last : is_last c.args.seq.now.last c.args.seq.now.elts c.args.run.now.values c.args.env.now.pairs ≡ false =
-    ap (λ o. is_last o c.args.seq.now.elts c.args.run.now.values c.args.env.now.pairs) (sym c.as_ref.ensures.value) ∙ sym c.in_ok-is_last.ensures.last ∙ c.if-is_last.false in
-    let stop = rw (c.in_ok-is_last.ensures.kept, c.in_ok-is_last.ensures.env) at (sym c.in_ok-stops.ensures.stops ∙ c.if-stops.false) in
-    let over = rw c.in_ok-is_last.ensures.kept at (sym c.is_end.ensures.end ∙ c.if-is_end.true) in
+    ap (λ o. is_last o c.args.seq.now.elts c.args.run.now.values c.args.env.now.pairs) (sym c.as_ref.ensures.value) ∙ sym c.is_last-is_last.ensures.last ∙ c.if-is_last.false in
+    let stop = rw c.is_last-is_last.ensures.kept at (sym c.in_ok-stops.ensures.stops ∙ c.if-stops.false) in
+    let over = rw c.is_last-is_last.ensures.kept at (sym c.is_end.ensures.end ∙ c.if-is_end.true) in
     ap ending.Ends c.short_of-then-is_end.ensures.cause ∙ sym (ending-over c.args.self.now.record.bytes.now (reads_seq c.args.self.now.record c.args.self.now.decls.now c.args.depth c.args.seq.now) c.args.size c.args.run.now.values c.args.env.now.pairs c.args.run.now.place full last stop over)
 
 pub ending-returns-clause-ending : goal.ending-returns-clause-ending
 ending-returns-clause-ending t c =
     let full : is_full c.args.size (length c.args.run.now.values) ≡ false = ap (λ n. is_full c.args.size n) (sym c.len.ensures.length) ∙ sym c.is_full.ensures.full ∙ c.if-is_full.false in
     let last : is_last c.args.seq.now.last c.args.seq.now.elts c.args.run.now.values c.args.env.now.pairs ≡ false =
-    ap (λ o. is_last o c.args.seq.now.elts c.args.run.now.values c.args.env.now.pairs) (sym c.as_ref.ensures.value) ∙ sym c.in_ok-is_last.ensures.last ∙ c.if-is_last.false in
-    let stop = rw (c.in_ok-is_last.ensures.kept, c.in_ok-is_last.ensures.env) at (sym c.in_ok-stops.ensures.stops ∙ c.if-stops.false) in
-    let over = rw c.in_ok-is_last.ensures.kept at (sym c.is_end.ensures.end ∙ c.if-is_end.false) in
+    ap (λ o. is_last o c.args.seq.now.elts c.args.run.now.values c.args.env.now.pairs) (sym c.as_ref.ensures.value) ∙ sym c.is_last-is_last.ensures.last ∙ c.if-is_last.false in
+    let stop = rw c.is_last-is_last.ensures.kept at (sym c.in_ok-stops.ensures.stops ∙ c.if-stops.false) in
+    let over = rw c.is_last-is_last.ensures.kept at (sym c.is_end.ensures.end ∙ c.if-is_end.false) in
     sym (ending-on c.args.self.now.record.bytes.now (reads_seq c.args.self.now.record c.args.self.now.decls.now c.args.depth c.args.seq.now) c.args.size c.args.run.now.values c.args.env.now.pairs c.args.run.now.place full last stop over)

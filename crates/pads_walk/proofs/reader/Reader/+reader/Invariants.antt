@@ -7,6 +7,7 @@ use Rattle.pads_calc.specs.declared.term.Seq.{size-Seq}
 use Rattle.pads_calc.specs.declared.term.Term.{size-Term}
 use Rattle.pads_calc.specs.Arrays.{elements, turns_from}
 use Rattle.pads_calc.specs.Choices.{alt_from}
+use Rattle.pads_calc.specs.Readings.{subject_of}
 use Rattle.pads_calc.specs.Structs.{in_turn}
 use Rattle.pads_calc.specs.Wrappers.{scan, scan_from}
 use Rattle.pads_calc.proofs.Elements.{Kept}
@@ -88,7 +89,7 @@ invariant-search-loop-at l =
     let f = reads l.self.record l.self.decls.now l.depth l.inner in
     record {
       env : l.env.pairs ≡ l.fn.env.pairs;
-      rest : scan l.self.record.origin l.self.record.bytes.now f l.fn.env.pairs l.place
+      rest : scan (subject_of l.self.record) f l.fn.env.pairs l.place
           ≡ scan_from l.self.record.origin (length l.self.record.bytes.now + 1 - l.at) f l.fn.env.pairs l.place l.at;
     }
 

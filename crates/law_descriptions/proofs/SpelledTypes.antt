@@ -1,0 +1,64 @@
+-- The names in the parts that declarations share.
+use Rattle.std.proofs.Common.{[], ◌∷◌}
+use Rattle.pads_grammar.specs.declared.kind.Kind.TheVariants as kind
+use Rattle.pads_grammar.specs.Grammar.{optional}
+use Rattle.pads_ast.specs.declared.types.Arg.{Arg}
+use Rattle.pads_ast.specs.declared.types.Arg.TheVariants as arg_form
+use Rattle.pads_ast.specs.declared.types.Branch.{Branch}
+use Rattle.pads_ast.specs.declared.types.Param.{Param}
+use Rattle.pads_ast.specs.declared.types.Type.{«Type»}
+use Rattle.pads_rules.specs.NameTokens.{names_in_expr, names_in_option, names_in_arg, names_in_type, names_in_param, names_in_branch}
+use Rattle.pads_syntax_expr.specs.Leaves.{mark}
+use Rattle.pads_syntax_parts.specs.Types.{expression, arg, args, type_use, param, params, constraint, branch}
+use Rattle.law_descriptions.specs.WellSorted.{Each, IfThere}
+use Rattle.law_descriptions.specs.Described.{IsSpelled, AreSpelled}
+use Rattle.law_descriptions.proofs.Given.{each-both}
+use Rattle.law_descriptions.proofs.SpelledExpressions.{SpelledExpr, keeps-name, keeps-expr}
+use Rattle.law_descriptions.proofs.Keeps.{Keeps, keeps-token, keeps-any, keeps-pair, keeps-apply, keeps-first, keeps-second, keeps-either, keeps-optional, keeps-listed}
+use Rattle.law_descriptions.proofs.SpelledLists.{each-written, each-listed}
+
+pub keeps-expression : Keeps expression SpelledExpr
+unfolding expression
+keeps-expression = keeps-expr 64
+
+abbrev SpelledArg : Arg → Type 0
+SpelledArg a = AreSpelled (names_in_arg a)
+
+keeps-arg : Keeps arg SpelledArg
+unfolding arg
+keeps-arg = keeps-either (keeps-token SpelledArg kind.Peor (λ t. arg_form.Peor t.begin) (λ t is fine. tt)) (keeps-apply SpelledArg arg_form.Expr keeps-expression (λ e spelled. spelled))
+
+keeps-args : Keeps args (Each SpelledArg)
+keeps-args = keeps-first (mark kind.CloseParams) (keeps-second (mark kind.OpenParams) (keeps-listed kind.Comma keeps-arg))
+
+abbrev pub SpelledType : «Type» → Type 0
+SpelledType t = AreSpelled (names_in_type t)
+
+pub keeps-type : Keeps type_use SpelledType
+unfolding type_use
+keeps-type = keeps-apply SpelledType (λ all. record { optional = all.0.0; name = all.0.1; args = all.1 })
+    (keeps-pair (keeps-pair (keeps-any (optional (mark kind.Popt))) keeps-name) (keeps-optional keeps-args))
+    (λ all spelled. (spelled.0.1, each-written IsSpelled names_in_arg all.1 spelled.1))
+
+abbrev pub SpelledParam : Param → Type 0
+SpelledParam p = AreSpelled (names_in_param p)
+
+keeps-param : Keeps param SpelledParam
+unfolding param
+keeps-param = keeps-apply SpelledParam (λ both. record { of = both.0; name = both.1 }) (keeps-pair keeps-type keeps-name)
+    (λ both spelled. each-both IsSpelled (names_in_type both.0) (both.1.text ∷ []) spelled.0 (spelled.1, tt))
+
+pub keeps-params : Keeps params (Each SpelledParam)
+keeps-params = keeps-first (mark kind.CloseParams) (keeps-second (mark kind.OpenParams) (keeps-listed kind.Comma keeps-param))
+
+abbrev pub SpelledBranch : Branch → Type 0
+SpelledBranch b = AreSpelled (names_in_branch b)
+
+keeps-constraint : Keeps constraint (IfThere SpelledExpr)
+keeps-constraint = keeps-optional (keeps-second (mark kind.Colon) keeps-expression)
+
+pub keeps-branch : Keeps branch SpelledBranch
+unfolding branch
+keeps-branch = keeps-apply SpelledBranch (λ all. record { of = all.0.0; name = all.0.1; constraint = all.1 })
+    (keeps-first (mark kind.Semicolon) (keeps-pair (keeps-pair keeps-type keeps-name) keeps-constraint))
+    (λ all spelled. each-both IsSpelled (names_in_type all.0.0) (all.0.1.text ∷ names_in_option all.1) spelled.0.0 (spelled.0.1, each-listed IsSpelled names_in_expr all.1 spelled.1))

@@ -1,0 +1,5 @@
+pub mod Sorts
+pub mod Expressions
+pub mod WellSorted
+pub mod Described
+pub mod Known

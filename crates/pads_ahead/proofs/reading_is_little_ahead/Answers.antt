@@ -1,5 +1,0 @@
-use Rattle.pads_ahead.proofs.Ahead.{little_ahead}
-use Rattle.pads_ahead.proofs.reading_is_little_ahead.Goals as goal
-
-pub returns : goal.returns
-returns c = record { ahead = λ d max seen piece more done hand others fits whole e met batch few. little_ahead d max seen piece more done hand others fits whole e met batch few }

@@ -1,0 +1,10 @@
+pub mod BaseBytes
+pub mod CanonicalReads
+pub mod CanonicalRecords
+pub mod CanonicalRows
+pub mod CleanFits
+pub mod FitsOut
+pub mod FittingRows
+pub mod PlainTerms
+pub mod Rolls
+pub mod Spelled

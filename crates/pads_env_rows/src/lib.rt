@@ -1,5 +1,0 @@
-//! What expressions are worth in an environment.
-#![tactic(auto)]
-
-#[cfg(test)]
-mod names;

@@ -1,7 +1,0 @@
-use Rattle.std.proofs.Common.{◌≡◌}
-use Rattle.pads_json.specs.Forms.{through}
-use Rattle.pads_json.proofs.form.through.Given as goal
-
--- the way on leads to the same form
-abbrev pub invariant-inside : goal.invariant-inside
-invariant-inside l = through l.absorbs l.term ≡ through l.absorbs l.initial.term

@@ -1,7 +1,0 @@
-use Rattle.std.proofs.Common.{◌≡◌, take}
-use Rattle.pads_rules.specs.Faults.{each, least}
-use Rattle.pads_pieces.specs.Told.{at_key}
-use Rattle.pads_pieces.proofs.constants.keys.Given as goal
-
-abbrev pub invariant-loop-case : goal.invariant-loop-case
-invariant-loop-case l = l.best ≡ least (each (λ case. at_key l.sort case.key) (take l.case-index l.cases))

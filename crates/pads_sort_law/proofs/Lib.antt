@@ -1,2 +1,0 @@
-pub mod SortLaws
-pub mod ScopeLaws

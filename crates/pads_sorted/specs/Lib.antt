@@ -1,7 +1,0 @@
-pub mod Evaluated
-pub mod Expressions
-pub mod Plain
-pub mod Sorted
-pub mod Sorts
-pub mod Terms
-pub mod Values

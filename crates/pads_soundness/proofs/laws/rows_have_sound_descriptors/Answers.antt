@@ -1,5 +1,0 @@
-use Rattle.pads_soundness.proofs.Rows.{sound-row_counts, sound-row_spans, sound-row_span}
-use Rattle.pads_soundness.proofs.laws.rows_have_sound_descriptors.Goals as goal
-
-pub returns : goal.returns
-returns c = record { counts = sound-row_counts; spans = sound-row_spans; extent = sound-row_span }

@@ -1,9 +1,0 @@
-pub mod Declarations
-pub mod Expressions
-pub mod Keeps
-pub mod Lists
-pub mod Parts
-pub mod Refused
-pub mod Tokens
-pub mod Types
-pub mod Whole

@@ -1,0 +1,106 @@
+-- What each command promises: one record a command, with what holds at each answer.
+use Rattle.std.specs.Prelude.{◌≡◌, ℕ, ◌^◌, ◌≤◌, ◌⊎◌, Bool, true, false, List, Option, Some, length}
+use Rattle.std.specs.Io.KnownBytes.{Appends}
+use Rattle.pads_ast.specs.declared.decl.Ast.{Ast}
+use Rattle.pads_describe.specs.Trees.{IsAccepted}
+use Rattle.pads_io.specs.Faults.{Rose}
+use Rattle.pads_io.specs.Transfer.{AppendsPrefix}
+use Rattle.pads_orders.specs.declared.order.Order.{Order}
+use Rattle.pads_orders.specs.declared.order.Order.TheVariants as order
+use Rattle.pads_orders.specs.declared.order.Settings.{Settings}
+use Rattle.pads_describe.specs.declared.verdict.Verdict.{Verdict}
+use Rattle.pads_tool.specs.Checking.{Accepts}
+use Rattle.pads_tool.specs.Parsing.{ReadLittleAhead, Reads, WroteAll, WroteComplete, WroteMost, WrotePrefix}
+use Rattle.pads_tool.specs.Texts.{IsRefusedIn}
+use Rattle.pads_tool.specs.declared.ending.Ending.{Ending}
+use Rattle.pads_tool.specs.declared.ending.Ending.TheVariants as ending
+
+-- What the objects of a run tell: the content of the files, what the source has left, and what stands on `out`, before and
+-- after.
+pub record Seen : Type 0 where
+  pub content : List ℕ → Option (List ℕ)
+  pub left : Option (List ℕ)
+  pub left' : Option (List ℕ)
+  pub out : Option (List ℕ)
+  pub out' : Option (List ℕ)
+
+abbrev pub seen : (List ℕ → Option (List ℕ)) → Option (List ℕ) → Option (List ℕ) → Option (List ℕ) → Option (List ℕ) → Seen
+seen content left left' out out' = record { content = content; left = left; left' = left'; out = out; out' = out' }
+
+-- Their counts of failures, before and after.
+pub record Counts : Type 0 where
+  pub files : ℕ
+  pub files' : ℕ
+  pub source : ℕ
+  pub source' : ℕ
+  pub out : ℕ
+  pub out' : ℕ
+
+abbrev pub counts : ℕ → ℕ → ℕ → ℕ → ℕ → ℕ → Counts
+counts files files' source source' out out' =
+    record { files = files; files' = files'; source = source; source' = source'; out = out; out' = out' }
+
+pub record Promise : Type 1 where
+  -- All that the order asks for was written, and is clean or not.
+  pub finishes : Bool → Seen → Type 0
+  -- The source failed: all that the bytes read complete was written.
+  pub stops_reading : Seen → Type 0
+  -- All that the first 2^62 bytes of a longer input complete was written.
+  pub stops_at_limit : Seen → Type 0
+  -- A sink failed: a prefix of all that the order asks for was written,
+  pub stops_writing : Seen → Type 0
+  -- and little more was read than was written for.
+  pub stays_near : Seen → Type 0
+  -- There was no memory.
+  pub stops_early : Seen → Type 0
+  -- The description in the files' content is refused for this reason.
+  pub refused_for : (List ℕ → Option (List ℕ)) → Verdict → Type 0
+  -- With this content, and this left of the source, the order can be done.
+  pub can_finish : (List ℕ → Option (List ℕ)) → Option (List ℕ) → Type 0
+  pub reads_source : Bool
+
+-- `check`: an accepted description is told.
+abbrev pub checking : List ℕ → Promise
+checking name = record {
+  finishes = λ clean s. (clean ≡ true) × Accepts (s.content name) (Appends s.out s.out');
+  stops_reading = λ s. ⊥;
+  stops_at_limit = λ s. ⊥;
+  stops_writing = λ s. Accepts (s.content name) (AppendsPrefix s.out s.out');
+  stays_near = λ s. Unit {0};
+  stops_early = λ s. s.out' ≡ s.out;
+  refused_for = λ content verdict. IsRefusedIn (content name) verdict;
+  can_finish = λ content left. (text : List ℕ) × (tree : Ast) × (content name ≡ Some text) × IsAccepted text tree;
+  reads_source = false;
+}
+
+-- `parse`: by an accepted description and an input of at most 2^62 bytes, a line is written for each record. Where there is
+-- no memory, nothing was read and written, or a prefix was written.
+abbrev pub parsing : List ℕ → Settings → Promise
+parsing name settings = record {
+  finishes = λ clean s. Reads (s.content name) settings s.left (WroteAll s.left' s.out s.out' clean);
+  stops_reading = λ s. Reads (s.content name) settings s.left (WroteComplete s.left' s.out s.out');
+  stops_at_limit = λ s. Reads (s.content name) settings s.left (WroteMost s.left' s.out s.out');
+  stops_writing = λ s. Reads (s.content name) settings s.left (WrotePrefix s.left' s.out s.out');
+  stays_near = λ s. Reads (s.content name) settings s.left (ReadLittleAhead s.left' s.out s.out');
+  stops_early = λ s. ((s.out' ≡ s.out) × (s.left' ≡ s.left)) ⊎ Reads (s.content name) settings s.left (WrotePrefix s.left' s.out s.out');
+  refused_for = λ content verdict. IsRefusedIn (content name) verdict;
+  can_finish = λ content left.
+      (text : List ℕ) × (tree : Ast) × (input : List ℕ) × (content name ≡ Some text) × IsAccepted text tree × (left ≡ Some input) × (length input ≤ 2 ^ 62);
+  reads_source = true;
+}
+
+abbrev pub promise_of : Order → Promise
+promise_of (order.Check name settings) = checking name
+promise_of (order.Parse name settings) = parsing name settings
+
+-- A promise is kept, by the ending. What can be done isn't refused, and meets no limit.
+abbrev pub Keeps : Promise → Seen → Counts → Ending → Type 0
+Keeps p s n ending.Done = p.finishes true s
+Keeps p s n ending.Dirty = p.finishes false s
+Keeps p s n (ending.Refused verdict) = p.refused_for s.content verdict × (s.out' ≡ s.out) × (p.can_finish s.content s.left → ⊥)
+Keeps p s n ending.FileFault = Rose n.files n.files' × (s.out' ≡ s.out)
+Keeps p s n ending.ReadFault = Rose n.source n.source' × p.stops_reading s
+Keeps p s n ending.WriteFault = Rose n.out n.out' × p.stops_writing s × p.stays_near s
+Keeps p s n ending.TooLong = p.stops_at_limit s × (p.can_finish s.content s.left → ⊥)
+Keeps p s n ending.Memory = p.stops_early s
+Keeps p s n ending.Usage = ⊥

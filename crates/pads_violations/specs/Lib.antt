@@ -1,0 +1,5 @@
+pub mod InBodies
+pub mod Repeats
+pub mod OptionKinds
+pub mod AtDeclaration
+pub mod InDescription

@@ -1,0 +1,58 @@
+//! The rules that look at one name.
+
+ghost use Rattle.std.specs.Prelude.{◌≡◌, ◌<◌, length};
+ghost use Rattle.pads_rules.specs.DeclRules as rules;
+ghost use Rattle.pads_rules.specs.Faults.{least};
+ghost use Rattle.pads_piece_rules.specs.Told.{stands};
+
+use pads_ast::DeclBody;
+use pads_base_names::base_name;
+use pads_declared::{is_psource, name_of, params_of, same_text};
+use pads_piece_rules::{Site, earlier, is_source_shape};
+use pads_rules::{CheckFault, fault_if};
+
+/// The name is an earlier declaration's or a base type's.
+pub(crate) fn name_taken(site: &Site<'_>) -> Option<CheckFault>
+    ensures told { result ≡ least (rules.name_taken (stands site.now)) }
+{
+    let name = name_of(&site.decl.body);
+    let declared = earlier(site).declared_as(name.text.as_slice()).is_some();
+    let base = base_name(name.text.as_slice()).is_some();
+    fault_if(declared || base, 1, name.at)
+}
+
+/// The first name behind a typedef's colon isn't its own.
+pub(crate) fn other_name(site: &Site<'_>) -> Option<CheckFault>
+    ensures told { result ≡ least (rules.other_name (stands site.now)) }
+{
+    let DeclBody::Typedef(d) = &site.decl.body else {
+        return None;
+    };
+    match &d.constraint {
+        None => None,
+        Some(constraint) => {
+            let same = same_text(constraint.name.text.as_slice(), d.name.text.as_slice());
+            fault_if(!same, 11, constraint.name.at)
+        }
+    }
+}
+
+/// A marked declaration has parameters.
+pub(crate) fn marked_with_params(site: &Site<'_>) -> Option<CheckFault>
+    ensures told { result ≡ least (rules.marked_with_params (stands site.now)) }
+{
+    let bare = params_of(&site.decl.body).is_empty();
+    let marked = site.decl.mark.is_some();
+    fault_if(marked && !bare, 21, name_of(&site.decl.body).at)
+}
+
+/// A `Psource` declaration isn't the last, or isn't a source shape.
+pub(crate) fn misplaced_source(site: &Site<'_>) -> Option<CheckFault>
+    requires { site.now.number < length site.now.decls.now }
+    ensures told { result ≡ least (rules.misplaced_source (stands site.now)) }
+{
+    let source = is_psource(site.decl.mark);
+    let last = site.number == site.decls.len() - 1;
+    let shape = is_source_shape(site);
+    fault_if(source && !(last && shape), 22, name_of(&site.decl.body).at)
+}

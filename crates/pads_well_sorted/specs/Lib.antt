@@ -1,3 +1,0 @@
-pub mod Sorts
-pub mod Expressions
-pub mod WellSorted

@@ -1,0 +1,62 @@
+//! Tries each row of `limits.txt`: a verdict, and below it how a description is made that gets it, which is as long
+//! or holds as much as one may, or is one past that. What a row says was worked out by hand. Prints each row whose
+//! description gets another verdict, and how many rows there are.
+#![tactic(auto)]
+
+use pads_value::Bytes;
+use std::alloc::{AllocError, Global};
+use std::{fs, io};
+use test_rows::{Tally, Trouble, lines_of, put_part, verdict_on};
+
+/// Puts these parts, so many times.
+fn put_rounds(alloc: Global, out: &mut Bytes, parts: &[&str], rounds: u32) -> Result<(), Trouble> {
+    for round in 0..rounds {
+        for part in parts {
+            put_part(alloc, out, part, round)?;
+        }
+    }
+    Ok(())
+}
+
+/// The text of these lines: parts, and `N rounds` and `end` around parts that come N times.
+fn made(alloc: Global, lines: &[&str]) -> Result<Bytes, Trouble> {
+    let mut out = Bytes::new(alloc);
+    let mut parts = Vec::new(alloc);
+    let mut rounds = 1;
+    for line in lines {
+        if let Some(count) = line.strip_suffix(" rounds") {
+            put_rounds(alloc, &mut out, parts.as_slice(), rounds)?;
+            parts.clear();
+            let Ok(count) = count.parse::<u32>() else {
+                return Err(Trouble::Row("a number of rounds that is no number"));
+            };
+            rounds = count;
+        } else if *line == "end" {
+            put_rounds(alloc, &mut out, parts.as_slice(), rounds)?;
+            parts.clear();
+            rounds = 1;
+        } else {
+            parts.push(*line).map_err(AllocError::from)?;
+        }
+    }
+    put_rounds(alloc, &mut out, parts.as_slice(), rounds)?;
+    Ok(out)
+}
+
+/// The verdict on the description of a row where it isn't the row's; nothing where it is.
+fn tried(alloc: Global, verdict: &str, parts: &[&str]) -> Result<String, Trouble> {
+    let text = made(alloc, parts)?;
+    verdict_on(alloc, text.as_slice(), verdict)
+}
+
+fn main(rt: HostRuntime) -> io::Result<()> {
+    let table = fs::read_to_string(&rt, "limits.txt")?;
+    let mut tally = Tally::new();
+    for block in table.split("\n\n") {
+        let lines = lines_of(rt.alloc(), block)?;
+        if let [verdict, parts @ ..] = lines.as_slice() {
+            tally.count(&rt, block, tried(rt.alloc(), verdict, parts))?;
+        }
+    }
+    tally.print(&rt, "limits.txt")
+}

@@ -1,0 +1,89 @@
+//! What a run leaves.
+
+use crate::row::{Asked, Moves};
+use pads_io::{
+    MemFiles, MemSink, MemSource, NamedFile, NamedFiles, SureFiles, SureSink, SureSource,
+};
+use pads_tool::{Status, run};
+use pads_value::{Bytes, Items, Memory};
+use std::alloc::Global;
+
+/// How a run ended, and what stands on its objects.
+#[derive(Drop)]
+pub(crate) struct Left {
+    pub(crate) status: Status,
+    /// How many bytes of the input weren't read.
+    pub(crate) unread: u64,
+    pub(crate) out: Bytes,
+    pub(crate) notes: Bytes,
+}
+
+/// The file `d` alone.
+fn files_of(alloc: Global, description: Bytes) -> Result<NamedFiles, Memory> {
+    let mut named = Items::new(alloc);
+    named.push(NamedFile {
+        name: Bytes::from_slice(alloc, b"d")?,
+        bytes: description,
+    })?;
+    Ok(named)
+}
+
+/// What stands on these objects behind a run.
+fn left_on(
+    alloc: Global,
+    status: Status,
+    unread: &[u8],
+    out: &[u8],
+    notes: &[u8],
+) -> Result<Left, Memory> {
+    Ok(Left {
+        status,
+        unread: unread.len() as u64,
+        out: Bytes::from_slice(alloc, out)?,
+        notes: Bytes::from_slice(alloc, notes)?,
+    })
+}
+
+/// Makes the run over objects that fail at listed calls.
+fn left_over_failing(alloc: Global, asked: Asked) -> Result<Left, Memory> {
+    let Moves { most, failing } = asked.source;
+    let mut source = MemSource::new(asked.input, most, failing);
+    let Moves { most, failing } = asked.out;
+    let mut out = MemSink::new(alloc, most, failing);
+    let mut notes = MemSink::new(alloc, 0, asked.notes);
+    let mut files = MemFiles::new(files_of(alloc, asked.description)?, asked.files);
+    let status = run(
+        alloc,
+        &asked.words,
+        &mut files,
+        &mut source,
+        &mut out,
+        &mut notes,
+    );
+    left_on(alloc, status, source.unread(), out.bytes(), notes.bytes())
+}
+
+/// Makes the run over objects that never fail but where the room is used up.
+fn left_over_sure(alloc: Global, asked: Asked, room: u64) -> Result<Left, Memory> {
+    let mut source = SureSource::new(asked.input, asked.source.most);
+    let mut out = SureSink::new(alloc, asked.out.most, room)?;
+    let mut notes = SureSink::new(alloc, 0, room)?;
+    let mut files = SureFiles::new(files_of(alloc, asked.description)?);
+    let status = run(
+        alloc,
+        &asked.words,
+        &mut files,
+        &mut source,
+        &mut out,
+        &mut notes,
+    );
+    left_on(alloc, status, source.unread(), out.bytes(), notes.bytes())
+}
+
+/// Makes the run.
+pub(crate) fn left_by(alloc: Global, asked: Asked) -> Result<Left, Memory> {
+    match asked.room {
+        None => left_over_failing(alloc, asked),
+        Some(room) => left_over_sure(alloc, asked, room),
+    }
+}

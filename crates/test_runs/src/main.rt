@@ -1,0 +1,88 @@
+//! Tries each row of `records.txt`, `refusals.txt` and `failures.txt`: a run of the program over objects in memory,
+//! and what it must leave. What a row says was worked out by hand. Prints each row whose run leaves something else,
+//! and how many rows each table has.
+#![tactic(auto)]
+
+mod head;
+mod left;
+mod row;
+
+use crate::left::{Left, left_by};
+use crate::row::{Row, Wanted, row_of};
+use std::alloc::{AllocError, Global};
+use std::{fs, io};
+use test_rows::{Tally, Trouble, difference, lines_of};
+
+/// Puts what came out in place of what is wanted, under its name.
+fn put_difference(
+    alloc: Global,
+    text: &mut String,
+    name: &str,
+    came: &[u8],
+    wanted: &[u8],
+) -> Result<(), AllocError> {
+    let shown = difference(alloc, came, wanted)?;
+    if !shown.is_empty() {
+        write!(text, "{name} {shown}; ")?;
+    }
+    Ok(())
+}
+
+/// What a run left in place of what is wanted; nothing where it left that.
+fn differences(alloc: Global, left: &Left, wanted: &Wanted<'_>) -> Result<String, AllocError> {
+    let mut text = String::new(alloc);
+    let status = left.status;
+    let status = format!(in alloc; "{status:?}")?;
+    put_difference(
+        alloc,
+        &mut text,
+        "status",
+        status.as_bytes(),
+        wanted.status.as_bytes(),
+    )?;
+    put_difference(
+        alloc,
+        &mut text,
+        "out",
+        left.out.as_slice(),
+        wanted.out.as_slice(),
+    )?;
+    put_difference(
+        alloc,
+        &mut text,
+        "notes",
+        left.notes.as_slice(),
+        wanted.notes.as_slice(),
+    )?;
+    let unread = left.unread;
+    if unread < wanted.unread {
+        write!(text, "unread {unread}; ")?;
+    }
+    Ok(text)
+}
+
+/// What the run of a row left in place of what it wants; nothing where it left that.
+fn tried(alloc: Global, lines: &[&str]) -> Result<String, Trouble> {
+    let Row { asked, wanted } = row_of(alloc, lines)?;
+    let left = left_by(alloc, asked)?;
+    Ok(differences(alloc, &left, &wanted)?)
+}
+
+/// Tries the rows of a table.
+fn try_table(rt: &HostRuntime, name: &str) -> io::Result<()> {
+    let table = fs::read_to_string(rt, name)?;
+    let mut tally = Tally::new();
+    for block in table.split("\n\n") {
+        let lines = lines_of(rt.alloc(), block)?;
+        if let [first, ..] = lines.as_slice() {
+            tally.count(rt, first, tried(rt.alloc(), lines.as_slice()))?;
+        }
+    }
+    tally.print(rt, name)
+}
+
+fn main(rt: HostRuntime) -> io::Result<()> {
+    try_table(&rt, "records.txt")?;
+    try_table(&rt, "refusals.txt")?;
+    try_table(&rt, "failures.txt")
+}
