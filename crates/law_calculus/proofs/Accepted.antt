@@ -10,17 +10,17 @@ use Rattle.pads_dispatch.specs.declared.base.Base.TheVariants as base
 use Rattle.pads_calc.specs.declared.decl.Decl.{Decl}
 use Rattle.pads_calc.specs.declared.term.Part.{Part}
 use Rattle.pads_calc.specs.declared.term.Term.{Term, Term-F, roll-Term, out-roll-Term}
-use Rattle.law_calculus.specs.Expressions.{Scope, sort_named, sort_in, expr_step}
+use Rattle.law_calculus.specs.Expressions.{SortScope, sort_named, sort_in, expr_step}
 use Rattle.law_calculus.specs.Plain.{Plain, IsPlain, IsMark}
 use Rattle.law_calculus.specs.Sorted.{Sorts, Sorted, IsSorted, IsSortedDecl, are_parameters, has}
 use Rattle.law_calculus.specs.Sorts.{Sort, Number, Truth, Struct, is_number, is_truth, sort_of}
 use Rattle.law_calculus.proofs.SortedForms.{sort-roll}
 use Rattle.law_calculus.proofs.Made.{sorted-made, plain-made}
 
-pub sort_in-roll : (declared : List Sort) (layer : Expr-F Expr) (scope : Scope)
-    → sort_in declared (roll-Expr layer) scope ≡ expr_step declared (map-Expr Expr (Scope → Option Sort) (sort_in declared) layer) scope
+pub sort_in-roll : (declared : List Sort) (layer : Expr-F Expr) (scope : SortScope)
+    → sort_in declared (roll-Expr layer) scope ≡ expr_step declared (map-Expr Expr (SortScope → Option Sort) (sort_in declared) layer) scope
 unfolding sort_in
-sort_in-roll declared layer scope = ap (λ (f : Scope → Option Sort). f scope) (fold-roll-Expr (Scope → Option Sort) (expr_step declared) layer)
+sort_in-roll declared layer scope = ap (λ (f : SortScope → Option Sort). f scope) (fold-roll-Expr (SortScope → Option Sort) (expr_step declared) layer)
 
 abbrev pub low : ℕ
 low = 0
@@ -85,11 +85,11 @@ sort-above_low = sort-roll declared (Term-F.Guard number above is_above) ∙ sor
 sort-pair : sort_of declared pair ≡ Struct parts
 sort-pair = sort-roll declared (Term-F.Struct parts)
 
-number-sorted : (scope : Scope) → IsSorted sorts scope number
+number-sorted : (scope : SortScope) → IsSorted sorts scope number
 number-sorted scope = sorted-made sorts scope (Term-F.Base integer []) refl tt
 
 -- `low` is a number, and so is the value
-abbrev below : Scope
+abbrev below : SortScope
 below = (low, Number) ∷ []
 
 condition-truth : sort_in declared is_above ((above, Number) ∷ below) ≡ Some Truth
@@ -101,13 +101,13 @@ above-sorted =
     (ap (λ sort. has is_truth (sort_in declared is_above ((above, sort) ∷ below))) sort-number ∙ ap (has is_truth) condition-truth)
     (number-sorted below, tt)
 
-mark-sorted : (scope : Scope) → IsSorted sorts scope searched
+mark-sorted : (scope : SortScope) → IsSorted sorts scope searched
 mark-sorted scope =
     sorted-made sorts scope (Term-F.Scan absorbed) refl
     (sorted-made sorts scope (Term-F.Absorb comma) refl (sorted-made sorts scope (Term-F.Lit (44 ∷ [])) refl tt, tt), tt)
 
 -- `x` is a number, as the call asks
-call-sorted : (scope : Scope) → sort_named scope named_x ≡ Some Number → IsSorted sorts scope called
+call-sorted : (scope : SortScope) → sort_named scope named_x ≡ Some Number → IsSorted sorts scope called
 call-sorted scope h =
     sorted-made sorts scope (Term-F.Call 0 (variable named_x ∷ []))
     (ap (λ sort. has is_number sort && true) (sort_in-roll declared (Expr-F.Var named_x) scope ∙ h)) tt

@@ -5,7 +5,7 @@ use Rattle.pads_value.specs.declared.value.Val.{Val}
 use Rattle.pads_value.specs.declared.value.Val.TheVariants as val
 use Rattle.pads_expr.specs.declared.expr.Expr.{Expr}
 use Rattle.pads_expr.specs.Value.{Pairs, value}
-use Rattle.pads_expr.specs.Worth.{Worth, Answer, Is, Absent, Ill, told}
+use Rattle.pads_expr.specs.Worth.{Worth, Answer, Is, Absent, Ill, worth_or_none}
 use Rattle.pads_expr.specs.Worth as worth
 use Rattle.pads_dispatch.specs.declared.base.Arg.{Arg}
 use Rattle.pads_dispatch.specs.declared.base.Arg.TheVariants as arg
@@ -16,8 +16,8 @@ use Rattle.pads_calc.specs.declared.term.Arm.{Arm}
 use Rattle.pads_calc.specs.declared.term.Case.{Case}
 use Rattle.pads_calc.specs.declared.term.Key.{Key}
 use Rattle.pads_calc.specs.declared.term.Part.{Part}
-use Rattle.pads_calc.specs.declared.term.Result2.{Result2}
-use Rattle.pads_calc.specs.declared.term.Result2.TheVariants as form
+use Rattle.pads_calc.specs.declared.term.ComputedForm.{ComputedForm}
+use Rattle.pads_calc.specs.declared.term.ComputedForm.TheVariants as form
 use Rattle.pads_calc.specs.declared.term.Seq.{Seq}
 use Rattle.pads_calc.specs.declared.term.Term.{Term, Term-F, out-Term}
 use Rattle.pads_calc.specs.Arguments.{arg_told, argument, arguments, and_more, bound_to, value_of_arg}
@@ -26,7 +26,7 @@ use Rattle.pads_calc.specs.Readings.{Subject}
 use Rattle.pads_calc.specs.Structs.{bind}
 use Rattle.pads_calc.proofs.Choices.{slice_get-map}
 use Rattle.law_calculus.specs.Evaluated.{Moment, moment, IsOneOf, ReadsPart, ReadsBody, ReadsNext, IsOwn, IsConstraint, AreElements, IsSize, IsLast, Asks, Evaluates, asks, reads}
-use Rattle.law_calculus.specs.Expressions.{Scope, sort_in}
+use Rattle.law_calculus.specs.Expressions.{SortScope, sort_in}
 use Rattle.law_calculus.specs.Sorted.{Sorts, has, takes, no_argument, one_number, one_text, chooses, is_argument, are_arguments, calls, computes, size_fits, last_fits, sorts_in, fits, Standing, stands, bind_sort, parts_standing, standing_in, IsSorted, sorted, params_scope, are_parameters, AreSorted}
 use Rattle.law_calculus.specs.Sorts.{Sort, Number, Text, Array, is_number, is_text, is_truth, sort_of}
 use Rattle.law_calculus.specs.Terms.{terms_in}
@@ -109,10 +109,10 @@ chooses-there : (o : Option Sort) (keys : List (Option Key)) → chooses o keys 
 chooses-there None keys h = cc
 chooses-there (Some sort) keys h = (sort, refl)
 
-computes-there : (f : Result2) (o : Option Sort) → computes f o ≡ true → IsThere o
+computes-there : (f : ComputedForm) (o : Option Sort) → computes f o ≡ true → IsThere o
 computes-there f None h = by_form f h
   where
-    by_form : (f : Result2) → computes f None ≡ true → IsThere None
+    by_form : (f : ComputedForm) → computes f None ≡ true → IsThere None
     by_form (form.Range least greatest) h = cc
     by_form form.Text h = cc
 computes-there f (Some sort) h = (sort, refl)
@@ -120,12 +120,12 @@ computes-there f (Some sort) h = (sort, refl)
 module _ (sorts : Sorts) (decls : List Decl) (are : AreSorted sorts decls) (subject : Subject) where
   -- an expression that has a sort, where names have sorts that their values have
   abbrev Sure : Expr → Pairs → Type 0
-  Sure e env = (scope : Scope) × (sort : Sort) × HasSorts sorts.declared scope env × (sort_in sorts.declared e scope ≡ Some sort)
+  Sure e env = (scope : SortScope) × (sort : Sort) × HasSorts sorts.declared scope env × (sort_in sorts.declared e scope ≡ Some sort)
 
-  sure : (scope : Scope) (e : Expr) (env other : Pairs) → HasSorts sorts.declared scope env → other ≡ env → IsThere (sort_in sorts.declared e scope) → Sure e other
+  sure : (scope : SortScope) (e : Expr) (env other : Pairs) → HasSorts sorts.declared scope env → other ≡ env → IsThere (sort_in sorts.declared e scope) → Sure e other
   sure scope e env other h is there = (scope, there.0, subst (HasSorts sorts.declared scope) (sym is) h, there.1)
 
-  own-sure : (scope : Scope) (es : List Expr) (now : Moment) (e : Expr) (env : Pairs) → AreThere (sorts_in sorts es scope) → HasSorts sorts.declared scope now.env → IsOwn es now e env → Sure e env
+  own-sure : (scope : SortScope) (es : List Expr) (now : Moment) (e : Expr) (env : Pairs) → AreThere (sorts_in sorts es scope) → HasSorts sorts.declared scope now.env → IsOwn es now e env → Sure e env
   unfolding AreThere
   own-sure scope es now e env all h own =
       sure scope e now.env env h own.1
@@ -137,7 +137,7 @@ module _ (sorts : Sorts) (decls : List Decl) (are : AreSorted sorts decls) (subj
   single o h zero other there = let same : o ≡ other = cc in subst IsThere same h
   single o h (suc n) other there = cc
 
-  constraint-sure : (scope : Scope) (inner : Term) (binder : ℕ) (condition : Expr) (now : Moment) (e : Expr) (env : Pairs)
+  constraint-sure : (scope : SortScope) (inner : Term) (binder : ℕ) (condition : Expr) (now : Moment) (e : Expr) (env : Pairs)
       → has is_truth (sort_in sorts.declared condition ((binder, sort_of sorts.declared inner) ∷ scope)) ≡ true
       → HasSorts sorts.declared scope now.env → IsConstraint subject decls inner binder condition now e env → Sure e env
   constraint-sure scope inner binder condition now e env fit h asked =
@@ -148,7 +148,7 @@ module _ (sorts : Sorts) (decls : List Decl) (are : AreSorted sorts decls) (subj
       (meaning-has sorts.declared decls are.declared subject now.depth inner now.env now.place))
       asked.2 (there.0, there.1))
 
-  size-sure : (scope : Scope) (size : Option Expr) (now : Moment) (e : Expr) (env : Pairs) → size_fits sorts size scope ≡ true → HasSorts sorts.declared scope now.env
+  size-sure : (scope : SortScope) (size : Option Expr) (now : Moment) (e : Expr) (env : Pairs) → size_fits sorts size scope ≡ true → HasSorts sorts.declared scope now.env
       → IsSize size now e env → Sure e env
   size-sure scope None now e env fit h asked = absurd asked
   size-sure scope (Some size) now e env fit h asked =
@@ -163,7 +163,7 @@ module _ (sorts : Sorts) (decls : List Decl) (are : AreSorted sorts decls) (subj
       (subst (λ value. has_sort sorts.declared value (sort_of sorts.declared elem) ≡ true) (sym all.0.1) (meaning-has sorts.declared decls are.declared subject now.depth elem now.env all.0.0))
       (elements-have elem now values all.1)
 
-  last-sure : (scope : Scope) (elem : Term) (elts : ℕ) (last : Option Expr) (now : Moment) (e : Expr) (env : Pairs) → last_fits sorts last ((elts, Array elem) ∷ scope) ≡ true
+  last-sure : (scope : SortScope) (elem : Term) (elts : ℕ) (last : Option Expr) (now : Moment) (e : Expr) (env : Pairs) → last_fits sorts last ((elts, Array elem) ∷ scope) ≡ true
       → HasSorts sorts.declared scope now.env → IsLast subject decls elem elts last now e env → Sure e env
   last-sure scope elem elts None now e env fit h asked = absurd asked
   last-sure scope elem elts (Some last) now e env fit h asked =
@@ -174,7 +174,7 @@ module _ (sorts : Sorts) (decls : List Decl) (are : AreSorted sorts decls) (subj
       asked.3 (there.0, there.1))
 
   -- what a term evaluates itself
-  asks-sure : (scope : Scope) (layer : Term-F Term Arm Case Part Seq) (now : Moment) (e : Expr) (env : Pairs) → fits sorts scope layer ≡ true → HasSorts sorts.declared scope now.env
+  asks-sure : (scope : SortScope) (layer : Term-F Term Arm Case Part Seq) (now : Moment) (e : Expr) (env : Pairs) → fits sorts scope layer ≡ true → HasSorts sorts.declared scope now.env
       → Asks subject decls layer now e env → Sure e env
   asks-sure scope Term-F.Unit now e env fit h asked = absurd asked
   asks-sure scope (Term-F.Base base args) now e env fit h asked = own-sure scope args now e env (takes-there base (sorts_in sorts args scope) fit) h asked
@@ -197,9 +197,9 @@ module _ (sorts : Sorts) (decls : List Decl) (are : AreSorted sorts decls) (subj
 
   -- a moment at which a sorted term is read where names have sorts that their values have
   abbrev IsGood : Moment → Type 0
-  IsGood now = (scope : Scope) × IsSorted sorts scope now.term × HasSorts sorts.declared scope now.env
+  IsGood now = (scope : SortScope) × IsSorted sorts scope now.term × HasSorts sorts.declared scope now.env
 
-  bind-has : (scope : Scope) (env : Pairs) (name : Option ℕ) (sort : Sort) (value : Val) → HasSorts sorts.declared scope env → has_sort sorts.declared value sort ≡ true
+  bind-has : (scope : SortScope) (env : Pairs) (name : Option ℕ) (sort : Sort) (value : Val) → HasSorts sorts.declared scope env → has_sort sorts.declared value sort ≡ true
       → HasSorts sorts.declared (bind_sort name sort scope) (bind name value env)
   bind-has scope env None sort value h is = h
   bind-has scope env (Some name) sort value h is = bound-has sorts.declared scope env name sort value h is
@@ -207,7 +207,7 @@ module _ (sorts : Sorts) (decls : List Decl) (are : AreSorted sorts decls) (subj
   abbrev AllSorted : List Standing → Type 0
   AllSorted all = (n : ℕ) (inner : Standing) → slice_get all n ≡ Some inner → IsSorted sorts inner.scope inner.term
 
-  part-good : (depth : ℕ) (parts : List Part) (scope : Scope) (env : Pairs) (i : ℕ) (next : Moment) → AllSorted (parts_standing sorts.declared scope parts) → HasSorts sorts.declared scope env
+  part-good : (depth : ℕ) (parts : List Part) (scope : SortScope) (env : Pairs) (i : ℕ) (next : Moment) → AllSorted (parts_standing sorts.declared scope parts) → HasSorts sorts.declared scope env
       → ReadsPart subject decls depth parts env i next → IsGood next
   part-good depth [] scope env i next all h read = absurd read
   part-good depth (part ∷ parts) scope env i next all h (inl is) =
@@ -219,13 +219,13 @@ module _ (sorts : Sorts) (decls : List Decl) (are : AreSorted sorts decls) (subj
       (bind-has scope env part.name (sort_of sorts.declared part.term) r.value h (meaning-has sorts.declared decls are.declared subject depth part.term env i))
       later
 
-  term-good : (scope : Scope) (terms : List Term) (now next : Moment) → AllSorted (map (stands scope) terms) → HasSorts sorts.declared scope now.env
+  term-good : (scope : SortScope) (terms : List Term) (now next : Moment) → AllSorted (map (stands scope) terms) → HasSorts sorts.declared scope now.env
       → (t : Term) (j : ℕ) → IsOneOf terms t → next ≡ moment now.depth t now.env j → IsGood next
   term-good scope terms now next all h t j there is =
       subst IsGood (sym is) (scope, all there.0 (stands scope t) (slice_get-map (stands scope) terms there.0 ∙ ap (option_map (stands scope)) there.1), h)
 
   -- the arguments of a call have their parameters' sorts
-  told-number : (a : Answer) (first : Arg) → Has sorts.declared a Number → arg_told (told a) ≡ Some first → has_sort sorts.declared (value_of_arg first) Number ≡ true
+  told-number : (a : Answer) (first : Arg) → Has sorts.declared a Number → arg_told (worth_or_none a) ≡ Some first → has_sort sorts.declared (value_of_arg first) Number ≡ true
   told-number (Is w) first h is =
       let n = number-is sorts.declared w h in
       number-arg n.0 (rw n.1 at is)
@@ -235,7 +235,7 @@ module _ (sorts : Sorts) (decls : List Decl) (are : AreSorted sorts decls) (subj
   told-number Absent first h is = cc
   told-number Ill first h is = cc
 
-  told-text : (a : Answer) (first : Arg) → Has sorts.declared a Text → arg_told (told a) ≡ Some first → has_sort sorts.declared (value_of_arg first) Text ≡ true
+  told-text : (a : Answer) (first : Arg) → Has sorts.declared a Text → arg_told (worth_or_none a) ≡ Some first → has_sort sorts.declared (value_of_arg first) Text ≡ true
   told-text (Is w) first h is =
       let text = text-is sorts.declared w h in
       text-arg text.0 (rw text.1 at is)
@@ -253,7 +253,7 @@ module _ (sorts : Sorts) (decls : List Decl) (are : AreSorted sorts decls) (subj
   text_sort Text h = refl
   text_sort _ h = cc
 
-  argument-has : (scope : Scope) (env : Pairs) (e : Expr) (param : Sort) (first : Arg) → HasSorts sorts.declared scope env → is_argument param (sort_in sorts.declared e scope) ≡ true
+  argument-has : (scope : SortScope) (env : Pairs) (e : Expr) (param : Sort) (first : Arg) → HasSorts sorts.declared scope env → is_argument param (sort_in sorts.declared e scope) ≡ true
       → argument e env ≡ Some first → has_sort sorts.declared (value_of_arg first) param ≡ true
   argument-has scope env e Number first h fit is =
       let there = has-there is_number (sort_in sorts.declared e scope) fit in
@@ -269,9 +269,9 @@ module _ (sorts : Sorts) (decls : List Decl) (are : AreSorted sorts decls) (subj
   both-told (Some first) None found is = cc
   both-told (Some first) (Some rest) found is = (first, rest, refl, refl, cc)
 
-  params-have : (scope : Scope) (env : Pairs) → HasSorts sorts.declared scope env → (names : List ℕ) (params : List Sort) (args : List Expr) (found : List Arg)
+  params-have : (scope : SortScope) (env : Pairs) → HasSorts sorts.declared scope env → (names : List ℕ) (params : List Sort) (args : List Expr) (found : List Arg)
       → are_arguments params (sorts_in sorts args scope) ≡ true → are_parameters names params ≡ true → arguments args env ≡ Some found
-      → (outer : Scope) (inner : Pairs) → HasSorts sorts.declared outer inner → HasSorts sorts.declared (params_scope names params outer) (bound_to names found inner)
+      → (outer : SortScope) (inner : Pairs) → HasSorts sorts.declared outer inner → HasSorts sorts.declared (params_scope names params outer) (bound_to names found inner)
   params-have scope env h [] params args found fit as_many is outer inner so_far = so_far
   params-have scope env h (name ∷ names) [] args found fit as_many is outer inner so_far = cc
   params-have scope env h (name ∷ names) (param ∷ params) [] found fit as_many is outer inner so_far = cc
@@ -286,7 +286,7 @@ module _ (sorts : Sorts) (decls : List Decl) (are : AreSorted sorts decls) (subj
   nothing-bound : HasSorts sorts.declared [] []
   nothing-bound name sort value is there = cc
 
-  body-good : (scope : Scope) (number : ℕ) (args : List Expr) (now next : Moment) → calls (slice_get sorts.params number) (sorts_in sorts args scope) ≡ true → HasSorts sorts.declared scope now.env
+  body-good : (scope : SortScope) (number : ℕ) (args : List Expr) (now next : Moment) → calls (slice_get sorts.params number) (sorts_in sorts args scope) ≡ true → HasSorts sorts.declared scope now.env
       → ReadsBody decls number args now next → IsGood next
   body-good scope number args now next fit h (depth, decl, found, less, there, given, is) =
       let body = are.bodies number decl there in
@@ -294,7 +294,7 @@ module _ (sorts : Sorts) (decls : List Decl) (are : AreSorted sorts decls) (subj
       subst IsGood (sym is)
       (params_scope decl.params body.0 [], body.3, params-have scope now.env h decl.params body.0 args found arguments_fit body.2 given [] [] nothing-bound)
 
-  next-good : (scope : Scope) (layer : Term-F Term Arm Case Part Seq) (now next : Moment) → fits sorts scope layer ≡ true → AllSorted (standing_in sorts.declared scope layer)
+  next-good : (scope : SortScope) (layer : Term-F Term Arm Case Part Seq) (now next : Moment) → fits sorts scope layer ≡ true → AllSorted (standing_in sorts.declared scope layer)
       → HasSorts sorts.declared scope now.env → ReadsNext subject decls layer now next → IsGood next
   next-good scope Term-F.Unit now next fit all h read = absurd read
   next-good scope (Term-F.Base base args) now next fit all h read = absurd read
@@ -320,7 +320,7 @@ module _ (sorts : Sorts) (decls : List Decl) (are : AreSorted sorts decls) (subj
   evaluated-sure now e env good (asks asked) = here-sure now e env good asked
   evaluated-sure now e env good (reads {next = next} read later) = evaluated-sure next e env (step-good now next good read) later
 
-  pub evaluated-never_ill : (scope : Scope) (now : Moment) (e : Expr) (env : Pairs) → IsSorted sorts scope now.term → HasSorts sorts.declared scope now.env
+  pub evaluated-never_ill : (scope : SortScope) (now : Moment) (e : Expr) (env : Pairs) → IsSorted sorts scope now.term → HasSorts sorts.declared scope now.env
       → Evaluates subject decls now e env → value e env ≢ Ill
   evaluated-never_ill scope now e env good h evaluated =
       let found = evaluated-sure now e env (scope, good, h) evaluated in

@@ -7,7 +7,7 @@ use Rattle.pads_expr.specs.Parts.{worth_or}
 use Rattle.pads_expr.specs.Value.{Pairs, value, step, found, at_number}
 use Rattle.pads_expr.specs.Worth.{Worth, Answer, Is, Absent, Ill}
 use Rattle.pads_expr.proofs.Steps.{value-out}
-use Rattle.law_calculus.specs.Expressions.{Scope, sort_in, expr_step, forall_sort}
+use Rattle.law_calculus.specs.Expressions.{SortScope, sort_in, expr_step, forall_sort}
 use Rattle.law_calculus.specs.Sorts.{Sort, Number, Text, Truth}
 use Rattle.law_calculus.specs.Values.{has_sort, answer_has, worth_has, HasSorts}
 use Rattle.law_calculus.proofs.Operators.{Has, on-has, operator-has, minus-has, negation-has, forall-has}
@@ -20,12 +20,12 @@ and_then-is f None y is = cc
 and_then-is f (Some x) y is = (x, refl, is)
 
 module _ (declared : List Sort) where
-  pub sort-out : (e : Expr) (scope : Scope) → sort_in declared e scope ≡ expr_step declared (map-Expr Expr (Scope → Option Sort) (sort_in declared) (out-Expr e)) scope
+  pub sort-out : (e : Expr) (scope : SortScope) → sort_in declared e scope ≡ expr_step declared (map-Expr Expr (SortScope → Option Sort) (sort_in declared) (out-Expr e)) scope
   unfolding sort_in
-  sort-out e scope = ap (λ (f : Scope → Option Sort). f scope) (fold_out-Expr (Scope → Option Sort) (expr_step declared) e)
+  sort-out e scope = ap (λ (f : SortScope → Option Sort). f scope) (fold_out-Expr (SortScope → Option Sort) (expr_step declared) e)
 
   -- one more binding
-  pub bound-has : (scope : Scope) (env : Pairs) (name : ℕ) (sort : Sort) (value : Val) → HasSorts declared scope env → has_sort declared value sort ≡ true
+  pub bound-has : (scope : SortScope) (env : Pairs) (name : ℕ) (sort : Sort) (value : Val) → HasSorts declared scope env → has_sort declared value sort ≡ true
       → HasSorts declared ((name, sort) ∷ scope) ((name, value) ∷ env)
   bound-has scope env name sort value h has other s v = by_name (name == other)
     where
@@ -35,7 +35,7 @@ module _ (declared : List Sort) where
       by_name false is there = h other s v is there
 
   abbrev IsLawful : Expr → Type 0
-  IsLawful e = (scope : Scope) (env : Pairs) (sort : Sort) → HasSorts declared scope env → sort_in declared e scope ≡ Some sort → Has declared (value e env) sort
+  IsLawful e = (scope : SortScope) (env : Pairs) (sort : Sort) → HasSorts declared scope env → sort_in declared e scope ≡ Some sort → Has declared (value e env) sort
 
   abbrev Smaller : ℕ → Type 0
   Smaller n = (e : Expr) → size-Expr e < n → IsLawful e
@@ -46,8 +46,8 @@ module _ (declared : List Sort) where
 
   -- one layer
   abbrev Lawful : Expr-F Expr → Type 0
-  Lawful layer = (scope : Scope) (env : Pairs) (sort : Sort) → HasSorts declared scope env
-      → expr_step declared (map-Expr Expr (Scope → Option Sort) (sort_in declared) layer) scope ≡ Some sort
+  Lawful layer = (scope : SortScope) (env : Pairs) (sort : Sort) → HasSorts declared scope env
+      → expr_step declared (map-Expr Expr (SortScope → Option Sort) (sort_in declared) layer) scope ≡ Some sort
       → Has declared (step (map-Expr Expr (Pairs → Answer) value layer) env) sort
 
   lawful-Var : (name : ℕ) → Lawful (Expr-F.Var name)
@@ -141,9 +141,9 @@ module _ (declared : List Sort) where
   not-ill Absent sort h is = cc
   not-ill Ill sort h is = cc
 
-  pub never-ill : (e : Expr) (scope : Scope) (env : Pairs) (sort : Sort) → HasSorts declared scope env → sort_in declared e scope ≡ Some sort → value e env ≢ Ill
+  pub never-ill : (e : Expr) (scope : SortScope) (env : Pairs) (sort : Sort) → HasSorts declared scope env → sort_in declared e scope ≡ Some sort → value e env ≢ Ill
   never-ill e scope env sort h is = not-ill (value e env) sort (expression-has e scope env sort h is)
 
-  pub worth-sorted : (e : Expr) (scope : Scope) (env : Pairs) (sort : Sort) (worth : Worth) → HasSorts declared scope env → sort_in declared e scope ≡ Some sort
+  pub worth-sorted : (e : Expr) (scope : SortScope) (env : Pairs) (sort : Sort) (worth : Worth) → HasSorts declared scope env → sort_in declared e scope ≡ Some sort
       → value e env ≡ Is worth → worth_has declared worth sort ≡ true
   worth-sorted e scope env sort worth h is there = sym (ap (λ a. answer_has declared a sort) there) ∙ expression-has e scope env sort h is

@@ -5,7 +5,7 @@ use Rattle.pads_dispatch.specs.declared.base.Base.{Base}
 use Rattle.pads_calc.specs.declared.term.Arm.{Arm}
 use Rattle.pads_calc.specs.declared.term.Case.{Case}
 use Rattle.pads_calc.specs.declared.term.Part.{Part}
-use Rattle.pads_calc.specs.declared.term.Result2.{Result2}
+use Rattle.pads_calc.specs.declared.term.ComputedForm.{ComputedForm}
 use Rattle.pads_calc.specs.declared.term.Seq.{Seq}
 use Rattle.pads_calc.specs.declared.term.Term.{Term, Term-F, out-Term, out-roll-Term}
 use Rattle.pads_calc.specs.declared.term.Term.TheVariants as term
@@ -40,7 +40,7 @@ out-Seq s = ap out-Term (sym (term.rolls-Seq s)) ∙ out-roll-Term (Term-F.Seq s
 pub out-Call : (number : ℕ) (args : List Expr) → out-Term (term.Call number args) ≡ Term-F.Call number args
 out-Call number args = ap out-Term (sym (term.rolls-Call number args)) ∙ out-roll-Term (Term-F.Call number args)
 
-pub out-Compute : (e : Expr) (form : Result2) → out-Term (term.Compute e form) ≡ Term-F.Compute e form
+pub out-Compute : (e : Expr) (form : ComputedForm) → out-Term (term.Compute e form) ≡ Term-F.Compute e form
 out-Compute e form = ap out-Term (sym (term.rolls-Compute e form)) ∙ out-roll-Term (Term-F.Compute e form)
 
 pub out-Absorb : (inner : Term) → out-Term (term.Absorb inner) ≡ Term-F.Absorb inner

@@ -6,7 +6,7 @@ use Rattle.pads_calc.specs.declared.term.Case.{Case}
 use Rattle.pads_calc.specs.declared.term.Part.{Part}
 use Rattle.pads_calc.specs.declared.term.Seq.{Seq}
 use Rattle.pads_calc.specs.declared.term.Term.{Term, Term-F, out-Term, roll-Term, out-roll-Term}
-use Rattle.law_calculus.specs.Expressions.{Scope}
+use Rattle.law_calculus.specs.Expressions.{SortScope}
 use Rattle.law_calculus.specs.Plain.{IsPlain, IsPlainHere, plain}
 use Rattle.law_calculus.specs.Sorted.{Sorts, fits, Standing, standing_in, IsSorted, sorted}
 use Rattle.law_calculus.specs.Terms.{terms_in}
@@ -21,7 +21,7 @@ each-there P [] all n x there = cc
 each-there P (first ∷ xs) all zero x there = let same : first ≡ x = cc in subst P same all.0
 each-there P (first ∷ xs) all (suc n) x there = each-there P xs all.1 n x there
 
-module _ (sorts : Sorts) (scope : Scope) where
+module _ (sorts : Sorts) (scope : SortScope) where
   abbrev pub Stands : Standing → Type 0
   Stands inner = IsSorted sorts inner.scope inner.term
 

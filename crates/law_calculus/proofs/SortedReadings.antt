@@ -20,8 +20,8 @@ use Rattle.pads_calc.specs.declared.reading.Reading.{Reading}
 use Rattle.pads_calc.specs.declared.term.Arm.{Arm}
 use Rattle.pads_calc.specs.declared.term.Case.{Case}
 use Rattle.pads_calc.specs.declared.term.Part.{Part}
-use Rattle.pads_calc.specs.declared.term.Result2.{Result2}
-use Rattle.pads_calc.specs.declared.term.Result2.TheVariants as form
+use Rattle.pads_calc.specs.declared.term.ComputedForm.{ComputedForm}
+use Rattle.pads_calc.specs.declared.term.ComputedForm.TheVariants as form
 use Rattle.pads_calc.specs.declared.term.Term.{Term}
 use Rattle.pads_calc.specs.Arguments.{is_true}
 use Rattle.pads_calc.specs.Choices.{branch_of, alt_from, case_at, switch_of}
@@ -70,7 +70,7 @@ module _ (declared : List Sort) (subject : Subject) where
   SomeHas sort None = ⊤
   SomeHas sort (Some value) = has_sort declared value sort ≡ true
 
-  computed-has : (f : Result2) (found : Option Worth) → SomeHas (result_sort f) (computed_told f found)
+  computed-has : (f : ComputedForm) (found : Option Worth) → SomeHas (result_sort f) (computed_told f found)
   computed-has f None = tt
   computed-has (form.Range least greatest) (Some (worth.Num number)) =
       pick (SomeHas Number) (int_le least number && int_le number greatest) (Some (val.Num number)) None (λ _. has-Num declared number) (λ _. tt)
@@ -86,7 +86,7 @@ module _ (declared : List Sort) (subject : Subject) where
   compute_node-has sort i None h = has-Missing declared sort
   compute_node-has sort i (Some value) h = h
 
-  pub compute-has : (f : Result2) (found : Option Worth) (i : ℕ) → Of (result_sort f) (compute_of subject.origin f found i)
+  pub compute-has : (f : ComputedForm) (found : Option Worth) (i : ℕ) → Of (result_sort f) (compute_of subject.origin f found i)
   compute-has f found i = compute_node-has (result_sort f) i (computed_told f found) (computed-has f found)
 
   -- constraints, terms whose value isn't kept, searches

@@ -12,11 +12,11 @@ use Rattle.pads_dispatch.specs.declared.base.Base.TheVariants as base
 use Rattle.pads_calc.specs.declared.decl.Decl.{Decl}
 use Rattle.pads_calc.specs.declared.term.Case.{Case}
 use Rattle.pads_calc.specs.declared.term.Key.TheVariants as key
-use Rattle.pads_calc.specs.declared.term.Result2.TheVariants as form
+use Rattle.pads_calc.specs.declared.term.ComputedForm.TheVariants as form
 use Rattle.pads_calc.specs.declared.term.Seq.{Seq}
 use Rattle.pads_calc.specs.declared.term.Term.{Term-F, roll-Term, out-roll-Term}
 use Rattle.law_calculus.specs.Evaluated.{Asks, Evaluates, asks, moment}
-use Rattle.law_calculus.specs.Expressions.{Scope, sort_in}
+use Rattle.law_calculus.specs.Expressions.{SortScope, sort_in}
 use Rattle.law_calculus.specs.Plain.{IsPlain, IsMark, IsAbsorb}
 use Rattle.law_calculus.specs.Sorted.{IsSorted, has, chooses, calls, computes}
 use Rattle.law_calculus.specs.Sorts.{Number, Text, Labels, is_number, is_truth}
@@ -63,29 +63,29 @@ truth b = roll-Expr (Expr-F.Truth b)
 abbrev compared : Expr
 compared = roll-Expr (Expr-F.Bin Lt (truth true) (truth false))
 
-pub one-number : (scope : Scope) → sort_in declared one scope ≡ Some Number
+pub one-number : (scope : SortScope) → sort_in declared one scope ≡ Some Number
 one-number scope = sort_in-roll declared (Expr-F.Num (pos 1)) scope
 
-pub letter-text : (scope : Scope) → sort_in declared letter scope ≡ Some Text
+pub letter-text : (scope : SortScope) → sort_in declared letter scope ≡ Some Text
 letter-text scope = sort_in-roll declared (Expr-F.Text (97 ∷ [])) scope
 
-pub truths_in_order : (scope : Scope) → sort_in declared compared scope ≡ None
+pub truths_in_order : (scope : SortScope) → sort_in declared compared scope ≡ None
 truths_in_order scope = simp (sort_in-roll) refl
 
-pub number_and_text : (scope : Scope) → sort_in declared (roll-Expr (Expr-F.Bin Eq one letter)) scope ≡ None
+pub number_and_text : (scope : SortScope) → sort_in declared (roll-Expr (Expr-F.Bin Eq one letter)) scope ≡ None
 number_and_text scope = simp (sort_in-roll) refl
 
-pub sum_of_texts : (scope : Scope) → sort_in declared (roll-Expr (Expr-F.Bin Add letter letter)) scope ≡ None
+pub sum_of_texts : (scope : SortScope) → sort_in declared (roll-Expr (Expr-F.Bin Add letter letter)) scope ≡ None
 sum_of_texts scope = simp (sort_in-roll) refl
 
-pub part_of_number : (n : ℕ) (scope : Scope) → sort_in declared (roll-Expr (Expr-F.Part one n)) scope ≡ None
+pub part_of_number : (n : ℕ) (scope : SortScope) → sort_in declared (roll-Expr (Expr-F.Part one n)) scope ≡ None
 part_of_number n scope = simp (sort_in-roll) refl
 
 pub nothing_bound : (name : ℕ) → sort_in declared (roll-Expr (Expr-F.Var name)) [] ≡ None
 nothing_bound name = sort_in-roll declared (Expr-F.Var name) []
 
 -- and terms: a constraint that is a number
-pub number_as_constraint : (scope : Scope) → IsSorted sorts scope (roll-Term (Term-F.Guard number above one)) → ⊥
+pub number_as_constraint : (scope : SortScope) → IsSorted sorts scope (roll-Term (Term-F.Guard number above one)) → ⊥
 number_as_constraint scope h =
     let fit = sorted-fits sorts scope _ (Term-F.Guard number above one) (out-roll-Term _) h in
     let given = one-number ((above, _) ∷ scope) in
@@ -93,28 +93,28 @@ number_as_constraint scope h =
     cc
 
 -- a size that is a text
-pub text_as_size : (scope : Scope) → IsSorted sorts scope (roll-Term (Term-F.Seq (listed (Some letter)))) → ⊥
+pub text_as_size : (scope : SortScope) → IsSorted sorts scope (roll-Term (Term-F.Seq (listed (Some letter)))) → ⊥
 text_as_size scope h =
     let fit = sorted-fits sorts scope _ (Term-F.Seq (listed (Some letter))) (out-roll-Term _) h in
     let bad : (has is_number (Some Text) && true) ≡ true = ap (λ sort. has is_number sort && true) (sym (letter-text scope)) ∙ fit in
     cc
 
 -- a text where the parameter is a number, and no argument where there is a parameter
-pub text_as_argument : (scope : Scope) → IsSorted sorts scope (roll-Term (Term-F.Call 0 (letter ∷ []))) → ⊥
+pub text_as_argument : (scope : SortScope) → IsSorted sorts scope (roll-Term (Term-F.Call 0 (letter ∷ []))) → ⊥
 text_as_argument scope h =
     let fit = sorted-fits sorts scope _ (Term-F.Call 0 (letter ∷ [])) (out-roll-Term _) h in
     let bad : calls (Some (Number ∷ [])) (Some Text ∷ []) ≡ true = ap (λ sort. calls (Some (Number ∷ [])) (sort ∷ [])) (sym (letter-text scope)) ∙ fit in
     cc
 
-pub no_argument : (scope : Scope) → IsSorted sorts scope (roll-Term (Term-F.Call 0 [])) → ⊥
+pub no_argument : (scope : SortScope) → IsSorted sorts scope (roll-Term (Term-F.Call 0 [])) → ⊥
 no_argument scope h = let bad : calls (Some (Number ∷ [])) [] ≡ true = sorted-fits sorts scope _ (Term-F.Call 0 []) (out-roll-Term _) h in cc
 
 -- an argument of a base type that takes none
-pub argument_that_none_takes : (scope : Scope) → IsSorted sorts scope (roll-Term (Term-F.Base (base.UntilEor coding.Ascii) (one ∷ []))) → ⊥
+pub argument_that_none_takes : (scope : SortScope) → IsSorted sorts scope (roll-Term (Term-F.Base (base.UntilEor coding.Ascii) (one ∷ []))) → ⊥
 argument_that_none_takes scope h = let bad : false ≡ true = sorted-fits sorts scope _ (Term-F.Base (base.UntilEor coding.Ascii) (one ∷ [])) (out-roll-Term _) h in cc
 
 -- a number that is computed as a text
-pub number_as_text : (scope : Scope) → IsSorted sorts scope (roll-Term (Term-F.Compute one form.Text)) → ⊥
+pub number_as_text : (scope : SortScope) → IsSorted sorts scope (roll-Term (Term-F.Compute one form.Text)) → ⊥
 number_as_text scope h =
     let bad : computes form.Text (Some Number) ≡ true = ap (computes form.Text) (sym (one-number scope)) ∙ sorted-fits sorts scope _ (Term-F.Compute one form.Text) (out-roll-Term _) h in
     cc
@@ -123,7 +123,7 @@ number_as_text scope h =
 abbrev keyed : List Case
 keyed = record { key = Some (key.Text (97 ∷ [])); arm = record { name = above; term = number } } ∷ []
 
-pub text_as_key : (scope : Scope) → IsSorted sorts scope (roll-Term (Term-F.Switch one keyed)) → ⊥
+pub text_as_key : (scope : SortScope) → IsSorted sorts scope (roll-Term (Term-F.Switch one keyed)) → ⊥
 text_as_key scope h =
     let fit = sorted-fits sorts scope _ (Term-F.Switch one keyed) (out-roll-Term _) h in
     let bad : chooses (Some Number) (Some (key.Text (97 ∷ [])) ∷ []) ≡ true = ap (λ sort. chooses sort (Some (key.Text (97 ∷ [])) ∷ [])) (sym (one-number scope)) ∙ fit in

@@ -16,7 +16,7 @@ use Rattle.pads_calc.specs.Readings.{Subject}
 use Rattle.pads_calc.specs.Rows.{deepest, type_of, body_reading, row_by, row_of, subject_of_cut}
 use Rattle.pads_calc.proofs.Bindings.{bound-none}
 use Rattle.law_calculus.specs.Evaluated.{Moment, moment, IsOwn, ReadsBody, ReadsNext, Asks, Evaluates, asks, reads}
-use Rattle.law_calculus.specs.Expressions.{Scope}
+use Rattle.law_calculus.specs.Expressions.{SortScope}
 use Rattle.law_calculus.specs.Sorted.{Sorts, AreSorted, IsSorted, params_scope}
 use Rattle.law_calculus.specs.Sorts.{Sort, sort_at, AreSorts}
 use Rattle.law_calculus.specs.Values.{has_sort, HasSorts}
@@ -39,7 +39,7 @@ module _ (declared : List Sort) (decls : List Decl) (are : AreSorts declared dec
 
 module _ (sorts : Sorts) (decls : List Decl) (are : AreSorted sorts decls) (subject : Subject) where
   -- where nothing is bound
-  nothing-bound : (scope : Scope) → HasSorts sorts.declared scope []
+  nothing-bound : (scope : SortScope) → HasSorts sorts.declared scope []
   nothing-bound scope name sort value is there = cc
 
   body-never_ill : (depth number i : ℕ) (next : Moment) (e : Expr) (env : Pairs) → ReadsBody decls number [] (moment depth (term.Call number []) [] i) next

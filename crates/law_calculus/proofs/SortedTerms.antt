@@ -3,7 +3,7 @@ use Rattle.std.proofs.Common.{◌≡◌, ◌∙◌, sym, ap, ℕ, ◌+◌, true,
 use Rattle.pads_value.specs.declared.value.Val.{Val}
 use Rattle.pads_expr.specs.declared.expr.Expr.{Expr}
 use Rattle.pads_expr.specs.Value.{Pairs, value}
-use Rattle.pads_expr.specs.Worth.{told}
+use Rattle.pads_expr.specs.Worth.{worth_or_none}
 use Rattle.pads_calc.specs.declared.decl.Decl.{Decl}
 use Rattle.pads_calc.specs.declared.reading.Reading.{Reading}
 use Rattle.pads_calc.specs.declared.term.Arm.{Arm}
@@ -68,7 +68,7 @@ module _ (declared : List Sort) (decls : List Decl) (are : AreSorts declared dec
       of_seq = λ depth s h env i.
           of_layer (term.Seq s) (Term-F.Seq s) (term.rolls-Seq s) _ (seq-has declared subject s.elem (seq_reader subject (caller subject decls depth) s) h.elem env i);
       of_compute = λ depth e form env i.
-          of_layer (term.Compute e form) (Term-F.Compute e form) (term.rolls-Compute e form) _ (compute-has declared subject form (told (value e env)) i);
+          of_layer (term.Compute e form) (Term-F.Compute e form) (term.rolls-Compute e form) _ (compute-has declared subject form (worth_or_none (value e env)) i);
       of_absorb = λ depth inner h env i. of_layer (term.Absorb inner) (Term-F.Absorb inner) (term.rolls-Absorb inner) _ (absorb-has declared subject (meaning subject decls depth inner env i));
       of_scan = λ depth inner h env i.
           of_layer (term.Scan inner) (Term-F.Scan inner) (term.rolls-Scan inner) _ (scan-has declared subject (sort_of declared inner) (meaning subject decls depth inner) h env i);

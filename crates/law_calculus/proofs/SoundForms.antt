@@ -22,7 +22,7 @@ use Rattle.pads_calc.specs.declared.reading.Reading.{Reading}
 use Rattle.pads_calc.specs.declared.term.Arm.{Arm}
 use Rattle.pads_calc.specs.declared.term.Case.{Case}
 use Rattle.pads_calc.specs.declared.term.Part.{Part}
-use Rattle.pads_calc.specs.declared.term.Result2.{Result2}
+use Rattle.pads_calc.specs.declared.term.ComputedForm.{ComputedForm}
 use Rattle.pads_calc.specs.declared.term.Term.{Term}
 use Rattle.pads_calc.specs.Arguments.{is_true}
 use Rattle.pads_calc.specs.Calculus.{Caller, read, part_reader, arm_reader, case_reader}
@@ -80,7 +80,7 @@ module _ (subject : Subject) where
   sound-compute_node i None = sound-fails subject cause.Compute i
   sound-compute_node i (Some value) = sound-empty value i
 
-  pub sound-compute : (form : Result2) (found : Option Worth) (i : ℕ) → Here i (compute_of subject.origin form found i)
+  pub sound-compute : (form : ComputedForm) (found : Option Worth) (i : ℕ) → Here i (compute_of subject.origin form found i)
   sound-compute form found i = sound-compute_node i (computed_told form found)
 
   -- structs and unions, where the calls read so

@@ -3,7 +3,7 @@ use Rattle.std.proofs.Common.{refl, ℕ, List, Option, None, Some}
 use Rattle.pads_value.specs.declared.cause.Cause.TheVariants as cause
 use Rattle.pads_expr.specs.declared.expr.Expr.{Expr}
 use Rattle.pads_expr.specs.Value.{Pairs, value}
-use Rattle.pads_expr.specs.Worth.{told}
+use Rattle.pads_expr.specs.Worth.{worth_or_none}
 use Rattle.pads_calc.specs.declared.decl.Decl.{Decl}
 use Rattle.pads_calc.specs.declared.reading.Reading.{Reading}
 use Rattle.pads_calc.specs.declared.term.Term.{Term}
@@ -35,7 +35,7 @@ module _ (subject : Subject) where
       of_switch = λ depth e cases h env i. sound-switch subject (caller subject decls depth) _ cases h env i;
       of_guard = λ depth inner binder condition h env i. sound-guard subject binder condition env i _ (h env i);
       of_seq = λ depth s h env i. (let call = caller subject decls depth in sound-seq subject (seq_reader subject call s) h.elem (sound-option call s.sep h.sep) env i);
-      of_compute = λ depth e form env i. sound-compute subject form (told (value e env)) i;
+      of_compute = λ depth e form env i. sound-compute subject form (worth_or_none (value e env)) i;
       of_absorb = λ depth inner h env i. sound-absorb subject i _ (h env i);
       of_scan = λ depth inner h env i. sound-scan subject _ h env i;
       too_deep = λ number args env i. sound-fails subject cause.Depth i;

@@ -7,10 +7,10 @@ use Rattle.pads_expr.specs.declared.expr.Expr.{Expr, Expr-F, fold-Expr}
 use Rattle.law_calculus.specs.Sorts.{Sort, Number, Text, Truth, Labels, Struct, Choice, Array, sort_of}
 
 -- names with the sorts of what they stand for, the latest binding first
-abbrev pub Scope : Type 0
-Scope = List (ℕ × Sort)
+abbrev pub SortScope : Type 0
+SortScope = List (ℕ × Sort)
 
-abbrev pub sort_named : Scope → ℕ → Option Sort
+abbrev pub sort_named : SortScope → ℕ → Option Sort
 sort_named scope name = option_map (λ pair. pair.1) (find (λ pair. pair.0 == name) scope)
 
 -- `+ - * / %` take numbers, and comparisons too
@@ -107,7 +107,7 @@ module _ (declared : List Sort) where
   element_sort _ _ = None
 
   -- one equation for each form
-  abbrev pub expr_step : Expr-F (Scope → Option Sort) → Scope → Option Sort
+  abbrev pub expr_step : Expr-F (SortScope → Option Sort) → SortScope → Option Sort
   expr_step (Expr-F.Num number) scope = Some Number
   expr_step (Expr-F.Text text) scope = Some Text
   expr_step (Expr-F.Truth truth) scope = Some Truth
@@ -127,5 +127,5 @@ module _ (declared : List Sort) where
       (λ a. option_and_then (λ b. option_and_then (forall_sort a b) (body ((name, Number) ∷ scope))) (last scope))
       (first scope)
 
-unfoldable pub sort_in : List Sort → Expr → Scope → Option Sort
-sort_in declared = fold-Expr (Scope → Option Sort) (expr_step declared)
+unfoldable pub sort_in : List Sort → Expr → SortScope → Option Sort
+sort_in declared = fold-Expr (SortScope → Option Sort) (expr_step declared)

@@ -13,11 +13,11 @@ use Rattle.pads_calc.specs.declared.term.Case.{Case}
 use Rattle.pads_calc.specs.declared.term.Key.{Key}
 use Rattle.pads_calc.specs.declared.term.Key.TheVariants as key
 use Rattle.pads_calc.specs.declared.term.Part.{Part}
-use Rattle.pads_calc.specs.declared.term.Result2.{Result2}
-use Rattle.pads_calc.specs.declared.term.Result2.TheVariants as form
+use Rattle.pads_calc.specs.declared.term.ComputedForm.{ComputedForm}
+use Rattle.pads_calc.specs.declared.term.ComputedForm.TheVariants as form
 use Rattle.pads_calc.specs.declared.term.Seq.{Seq}
 use Rattle.pads_calc.specs.declared.term.Term.{Term, Term-F, out-Term}
-use Rattle.law_calculus.specs.Expressions.{Scope, sort_in}
+use Rattle.law_calculus.specs.Expressions.{SortScope, sort_in}
 use Rattle.law_calculus.specs.Sorts.{Sort, Number, Text, Array, is_number, is_text, is_truth, sort_of, AreSorts}
 use Rattle.law_calculus.specs.Terms.{terms_in}
 
@@ -81,7 +81,7 @@ abbrev pub calls : Option (List Sort) → List (Option Sort) → Bool
 calls None sorts = false
 calls (Some params) sorts = are_arguments params sorts
 
-abbrev pub computes : Result2 → Option Sort → Bool
+abbrev pub computes : ComputedForm → Option Sort → Bool
 computes (form.Range least greatest) sort = has is_number sort
 computes form.Text sort = has is_text sort
 
@@ -91,19 +91,19 @@ pub record Sorts : Type 0 where
   pub params : List (List Sort)
 
 module _ (sorts : Sorts) where
-  abbrev pub size_fits : Option Expr → Scope → Bool
+  abbrev pub size_fits : Option Expr → SortScope → Bool
   size_fits None scope = true
   size_fits (Some size) scope = has is_number (sort_in sorts.declared size scope)
 
-  abbrev pub last_fits : Option Expr → Scope → Bool
+  abbrev pub last_fits : Option Expr → SortScope → Bool
   last_fits None scope = true
   last_fits (Some last) scope = has is_truth (sort_in sorts.declared last scope)
 
-  abbrev pub sorts_in : List Expr → Scope → List (Option Sort)
+  abbrev pub sorts_in : List Expr → SortScope → List (Option Sort)
   sorts_in es scope = map (λ e. sort_in sorts.declared e scope) es
 
   -- the expressions of a term itself have the sorts that their uses ask for
-  abbrev pub fits : Scope → Term-F Term Arm Case Part Seq → Bool
+  abbrev pub fits : SortScope → Term-F Term Arm Case Part Seq → Bool
   fits scope Term-F.Unit = true
   fits scope (Term-F.Base base args) = takes base (sorts_in args scope)
   fits scope (Term-F.Lit literal) = true
@@ -121,36 +121,36 @@ module _ (sorts : Sorts) where
 
 -- a term with the names that are bound where it stands
 pub record Standing : Type 0 where
-  pub scope : Scope
+  pub scope : SortScope
   pub term : Term
 
-abbrev pub stands : Scope → Term → Standing
+abbrev pub stands : SortScope → Term → Standing
 stands scope t = record { scope = scope; term = t }
 
-abbrev pub bind_sort : Option ℕ → Sort → Scope → Scope
+abbrev pub bind_sort : Option ℕ → Sort → SortScope → SortScope
 bind_sort None sort scope = scope
 bind_sort (Some name) sort scope = (name, sort) ∷ scope
 
 module _ (declared : List Sort) where
-  abbrev pub parts_standing : Scope → List Part → List Standing
+  abbrev pub parts_standing : SortScope → List Part → List Standing
   parts_standing scope [] = []
   parts_standing scope (part ∷ parts) =
       stands scope part.term ∷ parts_standing (bind_sort part.name (sort_of declared part.term) scope) parts
 
   -- the terms directly in a term, as they stand
-  abbrev pub standing_in : Scope → Term-F Term Arm Case Part Seq → List Standing
+  abbrev pub standing_in : SortScope → Term-F Term Arm Case Part Seq → List Standing
   standing_in scope (Term-F.Struct parts) = parts_standing scope parts
   standing_in scope layer = map (stands scope) (terms_in layer)
 
 -- a term whose own expressions have the sorts that their uses ask for, and so for each term in it
-pub data IsSorted (sorts : Sorts) : Scope → Term → Type 0 where
-  sorted : {scope : Scope} {t : Term}
+pub data IsSorted (sorts : Sorts) : SortScope → Term → Type 0 where
+  sorted : {scope : SortScope} {t : Term}
       → fits sorts scope (out-Term t) ≡ true
       → ((n : ℕ) (inner : Standing) → slice_get (standing_in sorts.declared scope (out-Term t)) n ≡ Some inner → IsSorted sorts inner.scope inner.term)
       → IsSorted sorts scope t
 
 -- parameters bound to sorts, the last first
-abbrev pub params_scope : List ℕ → List Sort → Scope → Scope
+abbrev pub params_scope : List ℕ → List Sort → SortScope → SortScope
 params_scope [] sorts scope = scope
 params_scope (name ∷ names) [] scope = scope
 params_scope (name ∷ names) (sort ∷ sorts) scope = params_scope names sorts ((name, sort) ∷ scope)

@@ -8,8 +8,8 @@ use Rattle.pads_calc.specs.declared.decl.Decl.{Decl}
 use Rattle.pads_calc.specs.declared.term.Arm.{Arm, Arm-F}
 use Rattle.pads_calc.specs.declared.term.Case.{Case, Case-F}
 use Rattle.pads_calc.specs.declared.term.Part.{Part, Part-F}
-use Rattle.pads_calc.specs.declared.term.Result2.{Result2}
-use Rattle.pads_calc.specs.declared.term.Result2.TheVariants as form
+use Rattle.pads_calc.specs.declared.term.ComputedForm.{ComputedForm}
+use Rattle.pads_calc.specs.declared.term.ComputedForm.TheVariants as form
 use Rattle.pads_calc.specs.declared.term.Seq.{Seq, Seq-F}
 use Rattle.pads_calc.specs.declared.term.Term.{Term, Term-F, para-Term}
 
@@ -52,7 +52,7 @@ base_sort (base.Char coding) = Text
 base_sort (base.Ip coding) = Number
 base_sort (base.Enum coding labels) = Labels (length labels)
 
-abbrev pub result_sort : Result2 → Sort
+abbrev pub result_sort : ComputedForm → Sort
 result_sort (form.Range least greatest) = Number
 result_sort form.Text = Text
 

@@ -6,7 +6,7 @@ use Rattle.pads_expr.specs.Worth.{Worth, Answer, Is, Absent, Ill}
 use Rattle.pads_expr.specs.Worth as worth
 use Rattle.pads_calc.specs.declared.term.Part.{Part}
 use Rattle.pads_calc.specs.declared.term.Term.{Term}
-use Rattle.law_calculus.specs.Expressions.{Scope, sort_named}
+use Rattle.law_calculus.specs.Expressions.{SortScope, sort_named}
 use Rattle.law_calculus.specs.Sorts.{Sort, Nothing, Labels, Struct, Choice, Array, is_number, is_text, is_truth, sort_of}
 
 abbrev pub is_nothing : Sort → Bool
@@ -89,6 +89,6 @@ answer_has declared Absent sort = true
 answer_has declared Ill sort = false
 
 -- In the environment each name that is bound stands for a value of its sort, or for Missing.
-abbrev pub HasSorts : List Sort → Scope → Pairs → Type 0
+abbrev pub HasSorts : List Sort → SortScope → Pairs → Type 0
 HasSorts declared scope env =
     (name : ℕ) (sort : Sort) (value : Val) → sort_named scope name ≡ Some sort → found env name ≡ Some value → has_sort declared value sort ≡ true

@@ -12,7 +12,7 @@ ghost use Rattle.pads_calc.specs.Calculus.{meaning};
 ghost use Rattle.pads_calc.specs.Readings.{Subject};
 ghost use Rattle.pads_calc.specs.Rows.{deepest, subject_of_cut, type_of, body_reading, row_of};
 ghost use Rattle.law_calculus.specs.Evaluated.{Moment, moment, Evaluates};
-ghost use Rattle.law_calculus.specs.Expressions.{Scope, sort_in};
+ghost use Rattle.law_calculus.specs.Expressions.{SortScope, sort_in};
 ghost use Rattle.law_calculus.specs.Plain.{Plain};
 ghost use Rattle.law_calculus.specs.Sorted.{Sorts, AreSorted, IsSorted, Sorted};
 ghost use Rattle.law_calculus.specs.Sorts.{Sort, sort_at, sort_of, AreSorts};
@@ -22,9 +22,9 @@ ghost use Rattle.law_calculus.specs.Values.{has_sort, worth_has, HasSorts};
 /// Missing: an expression that has a sort is never ill-sorted, and what it is worth, if anything, has
 /// that sort.
 pub fn sorted_expressions_keep_their_sorts()
-    ensures never_ill { (declared : List Sort) (e : Expr) (scope : Scope) (env : Pairs) (sort : Sort)
+    ensures never_ill { (declared : List Sort) (e : Expr) (scope : SortScope) (env : Pairs) (sort : Sort)
         → HasSorts declared scope env → sort_in declared e scope ≡ Some sort → value e env ≢ Ill }
-    ensures worth { (declared : List Sort) (e : Expr) (scope : Scope) (env : Pairs) (sort : Sort) (worth : Worth)
+    ensures worth { (declared : List Sort) (e : Expr) (scope : SortScope) (env : Pairs) (sort : Sort) (worth : Worth)
         → HasSorts declared scope env → sort_in declared e scope ≡ Some sort → value e env ≡ Is worth
         → worth_has declared worth sort ≡ true }
 {}
@@ -46,7 +46,7 @@ pub fn readings_have_their_sorts()
 /// where a record of a type of the module is read. That is a call of the type without arguments at the
 /// record's first byte.
 pub fn sorted_modules_evaluate_nothing_ill_sorted()
-    ensures term { (subject : Subject) (decls : List Decl) (sorts : Sorts) (scope : Scope) (now : Moment) (e : Expr) (env : Pairs)
+    ensures term { (subject : Subject) (decls : List Decl) (sorts : Sorts) (scope : SortScope) (now : Moment) (e : Expr) (env : Pairs)
         → AreSorted sorts decls → IsSorted sorts scope now.term → HasSorts sorts.declared scope now.env
         → Evaluates subject decls now e env → value e env ≢ Ill }
     ensures record_type { (subject : Subject) (decls : List Decl) (number : ℕ) (e : Expr) (env : Pairs)

@@ -22,7 +22,7 @@ use Rattle.pads_resolution.specs.Bodies.{body_at as made_body}
 use Rattle.pads_resolution.specs.Expressions.{sort_known}
 use Rattle.pads_resolution.specs.Numbers.{short, declared_number}
 use Rattle.pads_resolution.specs.Resolution.{role_of, params_scope as made_params, decl_at}
-use Rattle.pads_resolution.specs.Scopes.{Scope as Names}
+use Rattle.pads_resolution.specs.Scopes.{NameScope as Names}
 use Rattle.pads_resolution.specs.Types.{is_end, base_type_of, declared_type, type_name_of, named_type, type_at}
 use Rattle.pads_rules.specs.DeclRules.{part_count, scope_count, token_count, decl_name}
 use Rattle.pads_rules.specs.Faults.{breaks, when}

@@ -14,7 +14,7 @@ use Rattle.pads_ast.specs.declared.types.Branch.{Branch as WrittenBranch}
 use Rattle.pads_ast.specs.declared.types.Type.{«Type»}
 use Rattle.pads_rules.specs.declared.sort.Sort.{Sort}
 use Rattle.pads_resolution.specs.Bodies.{option_at, branch_at, part_at, parts_at}
-use Rattle.pads_resolution.specs.Scopes.{Scope as Names, variable, names_after}
+use Rattle.pads_resolution.specs.Scopes.{NameScope as Names, variable, names_after}
 use Rattle.pads_resolution.specs.Types.{computed_of, type_at}
 use Rattle.pads_resolution.specs.JudgedNames.{judging_scope}
 use Rattle.pads_rules.specs.Judging.{Scope as Judging, judged}
@@ -28,7 +28,7 @@ use Rattle.pads_rules.specs.Violations.{violations}
 use Rattle.pads_rules.specs.declared.declared.Declared.{Declared}
 use Rattle.pads_rules.specs.declared.declared.Named.{Named as RuleNamed}
 use Rattle.pads_rules.specs.declared.expr_sort.ExprSort.TheVariants as expr_sort
-use Rattle.law_descriptions.specs.Expressions.{Scope}
+use Rattle.law_descriptions.specs.Expressions.{SortScope}
 use Rattle.law_descriptions.specs.Sorts as sorts_of
 use Rattle.law_descriptions.specs.WellSorted.{Each, IfThere, IsTruth, IsBranch, AreParts}
 use Rattle.law_descriptions.proofs.Lists.{each-left, each-right}
@@ -50,17 +50,17 @@ module _ (tree : Ast) (none : violations tree ≡ []) (n : ℕ) (d : WrittenDecl
   abbrev types : List Declared
   types = take n (env tree none)
 
-  abbrev SeesHere : Names → Scope → Type 0
+  abbrev SeesHere : Names → SortScope → Type 0
   SeesHere = Sees (env tree none) (made tree none) (sorts tree none)
 
-  abbrev StateHere : Names → List RuleNamed → Scope → List Name → Type 0
+  abbrev StateHere : Names → List RuleNamed → SortScope → List Name → Type 0
   StateHere = State tree none
 
   abbrev rule_scope : List RuleNamed → List (List ℕ) → Judging
   rule_scope seen later = record { visible = seen; later = later }
 
   -- constraints and other conditions
-  pub condition-typed : (names : Names) (later : List (List ℕ)) (w : Scope) (o : Option Tree) → SeesHere names w → AreSpelled (names_in_option o) → Each Free_here (conditions (judging_scope names later) o)
+  pub condition-typed : (names : Names) (later : List (List ℕ)) (w : SortScope) (o : Option Tree) → SeesHere names w → AreSpelled (names_in_option o) → Each Free_here (conditions (judging_scope names later) o)
       → IfThere (IsTruth (made tree none) (sorts tree none) w) (option_at site names o)
   condition-typed names later w None sees spelled pieces = tt
   condition-typed names later w (Some e) sees spelled pieces =
@@ -76,7 +76,7 @@ module _ (tree : Ast) (none : violations tree ≡ []) (n : ℕ) (d : WrittenDecl
       (is, subst (λ (s : Sort). IsProper (env tree none) (made tree none) s.form) same h.2)
 
   -- a field or a branch
-  module _ (names : Names) (seen : List RuleNamed) (w : Scope) (before : List Name) (state : StateHere names seen w before) where
+  module _ (names : Names) (seen : List RuleNamed) (w : SortScope) (before : List Name) (state : StateHere names seen w before) where
     pub used-here : (later : List (List ℕ)) (t : «Type») → Free_here (Used (rule_scope seen later) t) → Free_here (Used (judging_scope names later) t)
     used-here later t piece = subst (λ seen. Free_here (Used (rule_scope seen later) t)) (sym state.shown) piece
 
@@ -99,7 +99,7 @@ module _ (tree : Ast) (none : violations tree ≡ []) (n : ℕ) (d : WrittenDecl
         )
 
   -- parts of a struct
-  pub parts-typed : (parts : List WrittenPart) (names : Names) (seen : List RuleNamed) (w : Scope) (before : List Name) → StateHere names seen w before → Again tree none before (flat_map part_names parts)
+  pub parts-typed : (parts : List WrittenPart) (names : Names) (seen : List RuleNamed) (w : SortScope) (before : List Name) → StateHere names seen w before → Again tree none before (flat_map part_names parts)
       → AreSpelled (flat_map names_in_part parts) → Each Free_here (parts_pieces types seen parts) → AreParts (made tree none) (sorts tree none) n w (parts_at site names parts)
   unfolding part_at branch_at
   parts-typed [] names seen w before state free spelled pieces = tt
@@ -136,7 +136,7 @@ module _ (tree : Ast) (none : violations tree ≡ []) (n : ℕ) (d : WrittenDecl
       )
 
   -- branches of a union, each behind the parameters alone
-  pub branches-typed : (names : Names) (seen : List RuleNamed) (w : Scope) (before : List Name) → StateHere names seen w before → (branches : List WrittenBranch) (more : List Name)
+  pub branches-typed : (names : Names) (seen : List RuleNamed) (w : SortScope) (before : List Name) → StateHere names seen w before → (branches : List WrittenBranch) (more : List Name)
       → Again tree none (before ++ more) (map (λ (f : WrittenBranch). f.name) branches) → AreSpelled (flat_map names_in_branch branches)
       → Each Free_here (flat_map (branch_pieces types seen) branches) → Each (IsBranch (made tree none) (sorts tree none) n w) (map (branch_at site names) branches)
   branches-typed names seen w before state [] more free spelled pieces = tt

@@ -44,7 +44,7 @@ use Rattle.pads_trans.specs.Terms.{base_of, text_of, literal_of, form_of, label_
 use Rattle.pads_trans_expr.specs.Expressions.{expr_of}
 use Rattle.pads_trans_expr.specs.Met.{names_of}
 use Rattle.pads_trans_expr.specs.Names.{Name, at_sign, number_of}
-use Rattle.law_descriptions.specs.Expressions.{Scope, if_read, if_default, union_branches}
+use Rattle.law_descriptions.specs.Expressions.{SortScope, if_read, if_default, union_branches}
 use Rattle.law_descriptions.specs.WellSorted.{IfThere, IsBody, IsDecl, WellSorted, params_scope}
 use Rattle.law_descriptions.proofs.Lists.{either-one, mapped-there, all-at}
 
@@ -165,7 +165,7 @@ module _ (names : List Name) (ambient : Coding) where
   typedef-fits inner None h = h
   typedef-fits inner (Some c) h = constrained-fits inner c.variable (Some c.condition) h
 
-  module _ (decls : List DeclTree) (sorts : List Sort) (number : ℕ) (scope : Scope) where
+  module _ (decls : List DeclTree) (sorts : List Sort) (number : ℕ) (scope : SortScope) where
     body-fits : (inner : DeclBody) → IsBody decls sorts number scope inner → Fits (body_of names ambient inner)
     unfolding body_of
     body-fits (body.Struct s) h = struct-fits s h.0

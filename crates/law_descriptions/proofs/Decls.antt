@@ -25,7 +25,7 @@ use Rattle.pads_rules.specs.declared.sort.Form.TheVariants as form
 use Rattle.pads_rules.specs.declared.sort.Sort.{Sort}
 use Rattle.pads_resolution.specs.declared.visible.Stands.TheVariants as stands
 use Rattle.pads_resolution.specs.Bodies.{expr_at, option_at, branch_at, case_at, switch_at, union_at, array_option_at, array_at, constraint_at, typedef_at}
-use Rattle.pads_resolution.specs.Scopes.{Scope as Names, hiding, array_scope}
+use Rattle.pads_resolution.specs.Scopes.{NameScope as Names, hiding, array_scope}
 use Rattle.pads_resolution.specs.Types.{const_of, type_at}
 use Rattle.pads_resolution.specs.JudgedNames.{as_named, judging_scope}
 use Rattle.pads_rules.specs.DeclRules.{part_count}
@@ -44,7 +44,7 @@ use Rattle.pads_rules.specs.declared.declared.Named.{Named as RuleNamed}
 use Rattle.pads_rules.specs.declared.expr_sort.ExprSort.{ExprSort}
 use Rattle.pads_rules.specs.declared.expr_sort.ExprSort.TheVariants as expr_sort
 use Rattle.pads_trans_expr.specs.Names.{at_sign}
-use Rattle.law_descriptions.specs.Expressions.{Scope, sort_in, union_branches}
+use Rattle.law_descriptions.specs.Expressions.{SortScope, sort_in, union_branches}
 use Rattle.law_descriptions.specs.Sorts as sorts_of
 use Rattle.law_descriptions.specs.WellSorted.{Each, IfThere, IsTruth, IsNumber, IsNumberKey, IsTextKey, IsBranch, Chooses, IsChosen, IsUnion, IsOption, IsArray, IsTypedef}
 use Rattle.law_descriptions.proofs.Lists.{each-left, each-right}
@@ -65,7 +65,7 @@ use Rattle.law_descriptions.proofs.Uses.{expr-typed, number-typed, truth-typed, 
 use Rattle.law_descriptions.proofs.Count.{few-enough}
 
 module _ (tree : Ast) (none : violations tree ≡ []) (n : ℕ) (d : WrittenDecl) (there : slice_get tree.decls n ≡ Some d) (reads : IsReadAt tree.decls n d)
-    (names : Names) (seen : List RuleNamed) (w : Scope) (before : List Name) (state : State tree none names seen w before) where
+    (names : Names) (seen : List RuleNamed) (w : SortScope) (before : List Name) (state : State tree none names seen w before) where
   abbrev site : Site
   site = site_of tree.decls n d
 
@@ -111,7 +111,7 @@ module _ (tree : Ast) (none : violations tree ≡ []) (n : ℕ) (d : WrittenDecl
   size-typed None pieces spelled = tt
   size-typed (Some e) pieces spelled = number-typed tree none n d e names [] w state.sees (each-left IsSpelled (names_in_expr e) [] spelled) (pieces.0).expressions (pieces.0).sizes
 
-  abbrev in_array : Scope
+  abbrev in_array : SortScope
   in_array = (at_sign, sorts_of.plain (form.Array n)) ∷ w
 
   options-typed : (proper : IsProper (env tree none) (made tree none) (form.Array n)) (options : List WrittenOption) → Each Free_here (flat_map (option_pieces (judging_scope (array_scope n names) [])) options)

@@ -25,7 +25,7 @@ use Rattle.pads_typed_tree.specs.declared.types.Branch.{Branch}
 use Rattle.pads_resolution.specs.Bodies.{label_of, branch_at, part_at, parts_at, struct_at, case_at, switch_at, union_at, array_at, body_at as made_body}
 use Rattle.pads_resolution.specs.Numbers.{number_of, has_name, part_number, field_in, field_number, branch_number, label_number}
 use Rattle.pads_resolution.specs.Resolution.{params_scope as made_params, resolved}
-use Rattle.pads_resolution.specs.Scopes.{Scope as Names, names_after}
+use Rattle.pads_resolution.specs.Scopes.{NameScope as Names, names_after}
 use Rattle.pads_resolution.specs.Types.{computed_of}
 use Rattle.pads_rules.specs.DeclRules.{part_count}
 use Rattle.pads_rules.specs.Members.{content_of}

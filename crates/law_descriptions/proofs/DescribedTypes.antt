@@ -20,7 +20,7 @@ use Rattle.pads_typed_tree.specs.declared.decl.Role.TheVariants as role
 use Rattle.pads_resolution.specs.Bodies.{body_at as made_body}
 use Rattle.pads_resolution.specs.Numbers.{short, number_of}
 use Rattle.pads_resolution.specs.Resolution.{role_of, params_scope as made_params, decl_at}
-use Rattle.pads_resolution.specs.Scopes.{Scope as Names}
+use Rattle.pads_resolution.specs.Scopes.{NameScope as Names}
 use Rattle.pads_resolution.specs.Types.{computed_as, computed_of, type_at}
 use Rattle.pads_rules.specs.DeclRules.{part_count, scope_count, token_count, decl_name}
 use Rattle.pads_rules.specs.Faults.{breaks}

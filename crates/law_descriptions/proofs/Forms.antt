@@ -8,11 +8,11 @@ use Rattle.pads_typed_tree.specs.declared.decl.Decl.{Decl}
 use Rattle.pads_expr.specs.declared.expr.BinOp.{BinOp}
 use Rattle.pads_typed_tree.specs.declared.expr.Expr.{Expr, Expr-F}
 use Rattle.pads_typed_tree.specs.declared.expr.Expr.TheVariants as expr
-use Rattle.pads_typed_tree.specs.declared.expr.Meaning.{Meaning}
+use Rattle.pads_typed_tree.specs.declared.expr.NameUse.{NameUse}
 use Rattle.pads_rules.specs.Judging.{takes, result_of}
 use Rattle.pads_rules.specs.Sorts.{is_num_form, is_text_form, is_truth_form, same_form}
 use Rattle.pads_rules.specs.declared.expr_sort.ExprSort.TheVariants as expr_sort
-use Rattle.law_descriptions.specs.Expressions.{Scope, if_told, as_told, plainly, of_numbers, of_texts, of_truths, of_forms, binary_sort, number_alone, truth_alone, length_sort, forall_sort, part_sort, branch_sort, choice_sort, element_sort, meaning_sort, sort_in}
+use Rattle.law_descriptions.specs.Expressions.{SortScope, if_told, as_told, plainly, of_numbers, of_texts, of_truths, of_forms, binary_sort, number_alone, truth_alone, length_sort, forall_sort, part_sort, branch_sort, choice_sort, element_sort, meaning_sort, sort_in}
 use Rattle.law_descriptions.specs.Sorts.{num, text, truth}
 use Rattle.law_descriptions.proofs.TypedTrees.{sort-roll}
 
@@ -31,7 +31,7 @@ told-self s =
     ap (λ b. if b && same_form s.form s.form then Some s else None) (eq-eqb s.optional s.optional refl)
     ∙ ap (λ b. if b then Some s else None) (same-self s.form)
 
-module _ (decls : List Decl) (sorts : List Sort) (scope : Scope) where
+module _ (decls : List Decl) (sorts : List Sort) (scope : SortScope) where
   pub sort-Number : (number : ℤ) → sort_in decls sorts (expr.Number number) scope ≡ Some num
   sort-Number number = ap (λ e. sort_in decls sorts e scope) (sym (expr.rolls-Number number)) ∙ sort-roll decls sorts (Expr-F.Number number) scope
 
@@ -41,7 +41,7 @@ module _ (decls : List Decl) (sorts : List Sort) (scope : Scope) where
   pub sort-Truth : (value : Bool) → sort_in decls sorts (expr.Truth value) scope ≡ Some truth
   sort-Truth value = ap (λ e. sort_in decls sorts e scope) (sym (expr.rolls-Truth value)) ∙ sort-roll decls sorts (Expr-F.Truth value) scope
 
-  pub sort-Name : (means : Meaning) (sort : Sort) → sort_in decls sorts (expr.Name means sort) scope ≡ as_told sort (meaning_sort decls sorts means scope)
+  pub sort-Name : (means : NameUse) (sort : Sort) → sort_in decls sorts (expr.Name means sort) scope ≡ as_told sort (meaning_sort decls sorts means scope)
   sort-Name means sort = ap (λ e. sort_in decls sorts e scope) (sym (expr.rolls-Name means sort)) ∙ sort-roll decls sorts (Expr-F.Name means sort) scope
 
   pub sort-Part : (whole : Expr) (number : ℕ) (sort : Sort) → sort_in decls sorts (expr.Part whole number sort) scope

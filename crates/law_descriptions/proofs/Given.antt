@@ -42,7 +42,7 @@ use Rattle.pads_resolution.specs.Expressions as made
 use Rattle.pads_resolution.specs.Expressions.{sort_known, sort_or_unknown, meaning_of, name_found, is_struct, member_expr, expression, expr_of, resolve_form}
 use Rattle.pads_resolution.specs.Numbers.{choice_number, member_number}
 use Rattle.pads_resolution.specs.Resolution.{role_of, params_scope, decl_at}
-use Rattle.pads_resolution.specs.Scopes.{Scope as Names, known_in, hiding, names_after, fields_after, array_scope}
+use Rattle.pads_resolution.specs.Scopes.{NameScope as Names, known_in, hiding, names_after, fields_after, array_scope}
 use Rattle.pads_resolution.specs.Types.{arg_exprs, args, type_at, param_of}
 use Rattle.pads_rules.specs.Members.{member, element}
 use Rattle.pads_rules.specs.NameTokens.{names_in_step, names_in_form, names_in_expr, names_in_option, names_in_arg, names_in_type, names_in_param, names_in_branch, names_in_part, names_in_array_option, names_in_union, names_in_constraint, names_in_body, names_in_decl}

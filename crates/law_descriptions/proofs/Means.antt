@@ -38,7 +38,7 @@ use Rattle.law_calculus.proofs.Layers.{out-Base, out-Struct, out-Alt, out-Switch
 use Rattle.pads_trans.specs.Terms.{base_of, label_of, enum_of, named_type, constrained, constrained_type, some_arm, none_arm, optional, bare_type, type_of, field_of, part_of, struct_of, arm_of, case_of, default_of, switch_of, union_of, seq_of, array_of, body_of, read_body, decl_of}
 use Rattle.pads_trans_expr.specs.Expressions.{expr_of}
 use Rattle.pads_trans_expr.specs.Names.{Name, at_sign, number_of}
-use Rattle.law_descriptions.specs.Expressions.{Scope, if_read, if_default, union_branches}
+use Rattle.law_descriptions.specs.Expressions.{SortScope, if_read, if_default, union_branches}
 use Rattle.law_descriptions.specs.Sorts as sorts_of
 use Rattle.law_descriptions.specs.Sorts.{num, text, named_sort, type_sort, behind_popt, body_sort}
 use Rattle.law_descriptions.specs.WellSorted.{AreSorts as AreSortsOf, IsNamed, IsType, IsBody, IsDecl, IfThere, params_scope}
@@ -146,7 +146,7 @@ module _ (declared : List TermSort) where
       base-means (base_type.Char prefix) = refl
       base-means (base_type.Ip prefix) = refl
 
-      named-means : (number : ℕ) → ((n : ℕ) → n < number → ReadMeans n) → (scope : Scope) (given : List ExprTree) (args : List Expr) (name : TypeName) → IsNamed decls sorts number scope given name
+      named-means : (number : ℕ) → ((n : ℕ) → n < number → ReadMeans n) → (scope : SortScope) (given : List ExprTree) (args : List Expr) (name : TypeName) → IsNamed decls sorts number scope given name
           → Means (named_sort sorts name) (sort_of declared (named_type ambient name args))
       named-means number before scope given args (type_name.Base b) h =
           subst (Means (sorts_of.base_sort b)) (sym (sort-by (term.Base (base_of ambient b) args) (Term-F.Base (base_of ambient b) args) (out-Base (base_of ambient b) args))) (base-means b)
@@ -161,14 +161,14 @@ module _ (declared : List TermSort) where
       popt-means true sort inner h = optional-means sort inner h
       popt-means false sort inner h = h
 
-      pub type-means : (number : ℕ) → ((n : ℕ) → n < number → ReadMeans n) → (scope : Scope) (t : Typed) → IsType decls sorts number scope t
+      pub type-means : (number : ℕ) → ((n : ℕ) → n < number → ReadMeans n) → (scope : SortScope) (t : Typed) → IsType decls sorts number scope t
           → Means (type_sort sorts t) (sort_of declared (type_of names ambient t))
       unfolding type_of bare_type
       type-means number before scope t h =
           popt-means t.optional (named_sort sorts t.name) (bare_type names ambient t) (named-means number before scope t.args (map (expr_of names) t.args) t.name h)
 
       -- bodies
-      body-means : (number : ℕ) → ((n : ℕ) → n < number → ReadMeans n) → (scope : Scope) (inner : DeclBody) → sort_at declared number ≡ sort_of declared (body_of names ambient inner)
+      body-means : (number : ℕ) → ((n : ℕ) → n < number → ReadMeans n) → (scope : SortScope) (inner : DeclBody) → sort_at declared number ≡ sort_of declared (body_of names ambient inner)
           → IsBody decls sorts number scope inner → Means (body_sort sorts number inner) (sort_of declared (body_of names ambient inner))
       unfolding body_of
       body-means number before scope (body.Struct s) is h = sym is
@@ -214,5 +214,5 @@ module _ (declared : List TermSort) where
         pub decl-means : (n : ℕ) → ReadMeans n
         decl-means n = below (n + 1) n (omega arith)
 
-        pub any-type-means : (number : ℕ) (scope : Scope) (t : Typed) → IsType decls sorts number scope t → Means (type_sort sorts t) (sort_of declared (type_of names ambient t))
+        pub any-type-means : (number : ℕ) (scope : SortScope) (t : Typed) → IsType decls sorts number scope t → Means (type_sort sorts t) (sort_of declared (type_of names ambient t))
         any-type-means number scope t h = type-means number (λ n less. decl-means n) scope t h

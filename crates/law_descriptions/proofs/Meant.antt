@@ -8,8 +8,8 @@ use Rattle.pads_rules.specs.declared.sort.Sort.{Sort}
 use Rattle.pads_typed_tree.specs.declared.decl.Decl.{Decl}
 use Rattle.pads_expr.specs.declared.expr.BinOp.{BinOp}
 use Rattle.pads_typed_tree.specs.declared.expr.Expr.{Expr, Expr-F, roll-Expr, map-Expr}
-use Rattle.pads_typed_tree.specs.declared.expr.Meaning.{Meaning}
-use Rattle.pads_typed_tree.specs.declared.expr.Meaning.TheVariants as meaning
+use Rattle.pads_typed_tree.specs.declared.expr.NameUse.{NameUse}
+use Rattle.pads_typed_tree.specs.declared.expr.NameUse.TheVariants as meaning
 use Rattle.law_calculus.specs.Expressions as made
 use Rattle.law_calculus.specs.Sorts.{Sort as TermSort, Number, Text, Truth, AreSorts}
 use Rattle.law_calculus.proofs.Accepted.{sort_in-roll}
@@ -19,7 +19,7 @@ use Rattle.pads_trans_expr.specs.Expressions.{expr_of, expr_step as made_step, m
 use Rattle.pads_trans_expr.specs.Met.{Met, in_expr, expr_met}
 use Rattle.pads_trans_expr.specs.Names.{Name, at_sign, number_of}
 use Rattle.pads_trans_expr.proofs.MetRolls.{met-roll}
-use Rattle.law_descriptions.specs.Expressions.{Scope, sort_in_scope, plainly, part_sort, length_sort, sort_in, expr_step, meaning_sort}
+use Rattle.law_descriptions.specs.Expressions.{SortScope, sort_in_scope, plainly, part_sort, length_sort, sort_in, expr_step, meaning_sort}
 use Rattle.law_descriptions.specs.Sorts.{num, text, truth}
 use Rattle.law_descriptions.specs.WellSorted.{AreSorts as AreSortsOf, Each, IsDecl}
 use Rattle.law_descriptions.proofs.Lists.{each-left, each-right}
@@ -31,7 +31,7 @@ use Rattle.law_descriptions.proofs.Scoped.{told-is}
 use Rattle.law_descriptions.proofs.TypedTrees.{Inside, all-layers, sort-roll, made-roll}
 
 -- the sorts of the forms of the module's expressions
-module _ (declared : List TermSort) (bound : made.Scope) where
+module _ (declared : List TermSort) (bound : made.SortScope) where
   sort-Num : (number : ℤ) → made.sort_in declared (form_of.Num number) bound ≡ Some Number
   sort-Num number = ap (λ e. made.sort_in declared e bound) (sym (form_of.rolls-Num number)) ∙ sort_in-roll declared (Made-F.Num number) bound
 
@@ -86,10 +86,10 @@ module _ (declared : List TermSort) (bound : made.Scope) where
 
 module _ (declared : List TermSort) (names : List Name) where
   -- each name in scope has its sort in the module
-  abbrev pub ScopeMeans : Scope → made.Scope → Type 0
+  abbrev pub ScopeMeans : SortScope → made.SortScope → Type 0
   ScopeMeans scope bound = (name : Name) (sort : Sort) → sort_in_scope scope name ≡ Some sort → Gives declared (made.sort_named bound (number_of names name)) sort
 
-  more-by : (scope : Scope) (bound : made.Scope) (name other : Name) (sort found : Sort) (t : TermSort) (b : Bool)
+  more-by : (scope : SortScope) (bound : made.SortScope) (name other : Name) (sort found : Sort) (t : TermSort) (b : Bool)
       → Means declared sort t
       → ((found : Sort) → sort_in_scope scope other ≡ Some found → Gives declared (made.sort_named bound (number_of names other)) found)
       → option_map (λ (pair : Name × Sort). pair.1) (cond b (Some (name, sort)) (find (λ (pair : Name × Sort). pointwise nat_eq other pair.0) scope)) ≡ Some found
@@ -98,7 +98,7 @@ module _ (declared : List TermSort) (names : List Name) where
       let same : sort ≡ found = cc in subst (Gives declared (Some t)) same (t, refl, means)
   more-by scope bound name other sort found t false means before is = before found is
 
-  pub scope-more : (scope : Scope) (bound : made.Scope) (name : Name) (sort : Sort) (t : TermSort) → Known names name → Means declared sort t → ScopeMeans scope bound
+  pub scope-more : (scope : SortScope) (bound : made.SortScope) (name : Name) (sort : Sort) (t : TermSort) → Known names name → Means declared sort t → ScopeMeans scope bound
       → ScopeMeans ((name, sort) ∷ scope) ((number_of names name, t) ∷ bound)
   scope-more scope bound name sort t known means before other found is =
       subst (λ b. Gives declared (option_map (λ (pair : ℕ × TermSort). pair.1)
@@ -110,21 +110,21 @@ module _ (declared : List TermSort) (names : List Name) (ambient : Coding) (decl
     (are : AreSorts declared (map (decl_of names ambient) decls)) (are_of : AreSortsOf sorts decls)
     (each : (number : ℕ) (d : Decl) → slice_get decls number ≡ Some d → IsDecl decls sorts number d) where
   abbrev pub IsMeant : Expr → Type 0
-  IsMeant e = (scope : Scope) (bound : made.Scope) (sort : Sort) → ScopeMeans declared names scope bound → Each (Known names) (in_expr e) → sort_in decls sorts e scope ≡ Some sort
+  IsMeant e = (scope : SortScope) (bound : made.SortScope) (sort : Sort) → ScopeMeans declared names scope bound → Each (Known names) (in_expr e) → sort_in decls sorts e scope ≡ Some sort
       → Gives declared (made.sort_in declared (expr_of names e) bound) sort
 
   abbrev Meant : Expr-F Expr → Type 0
-  Meant layer = (scope : Scope) (bound : made.Scope) (sort : Sort) → ScopeMeans declared names scope bound → Each (Known names) (expr_met (map-Expr Expr Met in_expr layer))
-      → expr_step decls sorts (map-Expr Expr (Scope → Option Sort) (sort_in decls sorts) layer) scope ≡ Some sort
+  Meant layer = (scope : SortScope) (bound : made.SortScope) (sort : Sort) → ScopeMeans declared names scope bound → Each (Known names) (expr_met (map-Expr Expr Met in_expr layer))
+      → expr_step decls sorts (map-Expr Expr (SortScope → Option Sort) (sort_in decls sorts) layer) scope ≡ Some sort
       → Gives declared (made.sort_in declared (made_step names (map-Expr Expr Made (expr_of names) layer)) bound) sort
 
-  variable-meant : (scope : Scope) (bound : made.Scope) (name : Name) (sort : Sort) → ScopeMeans declared names scope bound → sort_in_scope scope name ≡ Some sort
+  variable-meant : (scope : SortScope) (bound : made.SortScope) (name : Name) (sort : Sort) → ScopeMeans declared names scope bound → sort_in_scope scope name ≡ Some sort
       → Gives declared (made.sort_in declared (form_of.Var (number_of names name)) bound) sort
   variable-meant scope bound name sort means is =
       gives-by declared bound (made.sort_in declared (form_of.Var (number_of names name)) bound) (made.sort_named bound (number_of names name)) sort (sort-Var declared bound (number_of names name)) (means name sort is)
 
   -- a part of a struct, and a length
-  part-meant : (bound : made.Scope) (e : Made) (number : ℕ) (whole sort : Sort) → Gives declared (made.sort_in declared e bound) whole → plainly (part_sort decls sorts number) whole ≡ Some sort
+  part-meant : (bound : made.SortScope) (e : Made) (number : ℕ) (whole sort : Sort) → Gives declared (made.sort_in declared e bound) whole → plainly (part_sort decls sorts number) whole ≡ Some sort
       → Gives declared (made.sort_in declared (form_of.Part e number) bound) sort
   part-meant bound e number whole sort given is =
       let x = plain-is declared (part_sort decls sorts number) whole.optional whole.form given.0 sort given.2 is in
@@ -132,13 +132,13 @@ module _ (declared : List TermSort) (names : List Name) (ambient : Coding) (decl
       (gives-then declared bound (made.part_sort declared number) (made.sort_in declared e bound) given.0 sort given.1
       (part-gives declared names ambient decls sorts are are_of each number whole.form given.0 sort x.0 x.1))
 
-  length-meant : (bound : made.Scope) (e : Made) (whole sort : Sort) → Gives declared (made.sort_in declared e bound) whole → plainly length_sort whole ≡ Some sort
+  length-meant : (bound : made.SortScope) (e : Made) (whole sort : Sort) → Gives declared (made.sort_in declared e bound) whole → plainly length_sort whole ≡ Some sort
       → Gives declared (made.sort_in declared (form_of.Len e) bound) sort
   length-meant bound e whole sort given is =
       gives-by declared bound (made.sort_in declared (form_of.Len e) bound) (option_and_then made.length_sort (made.sort_in declared e bound)) sort (sort-Len declared bound e)
       (gives-then declared bound made.length_sort (made.sort_in declared e bound) given.0 sort given.1 (length-gives declared whole given.0 sort given.2 is))
 
-  meaning-meant : (scope : Scope) (bound : made.Scope) (means : Meaning) (sort : Sort) → ScopeMeans declared names scope bound → meaning_sort decls sorts means scope ≡ Some sort
+  meaning-meant : (scope : SortScope) (bound : made.SortScope) (means : NameUse) (sort : Sort) → ScopeMeans declared names scope bound → meaning_sort decls sorts means scope ≡ Some sort
       → Gives declared (made.sort_in declared (meaning_of names means) bound) sort
   unfolding meaning_of
   meaning-meant scope bound (meaning.Variable name) sort scoped is = variable-meant scope bound name sort scoped is

@@ -27,7 +27,7 @@ use Rattle.pads_trans.specs.Terms.{form_of, label_of, type_of, field_of, part_of
 use Rattle.pads_trans_expr.specs.Expressions.{expr_of}
 use Rattle.pads_trans_expr.specs.Names.{Name}
 use Rattle.law_descriptions.specs.Expressions as sorting
-use Rattle.law_descriptions.specs.Expressions.{Scope, plainly, number_alone, if_read, body_at, union_branches, value_of, part_sort, branch_of, union_branch, branch_by, branch_sort, optional_branch, plain_choice, choice_by, choice_sort, element_of, of_elements, element_sort}
+use Rattle.law_descriptions.specs.Expressions.{SortScope, plainly, number_alone, if_read, body_at, union_branches, value_of, part_sort, branch_of, union_branch, branch_by, branch_sort, optional_branch, plain_choice, choice_by, choice_sort, element_of, of_elements, element_sort}
 use Rattle.law_descriptions.specs.Sorts.{truth, computed_sort, type_sort}
 use Rattle.law_descriptions.specs.WellSorted.{AreSorts as AreSortsOf, IsBranch, IsPart, behind, AreParts, IsBody, IsDecl, params_scope}
 use Rattle.law_descriptions.proofs.Lists.{some-map, there-mapped, each-there, below-there}
@@ -50,7 +50,7 @@ module _ (declared : List TermSort) (names : List Name) (ambient : Coding) (decl
   Given = Gives declared
 
   body-there : (n : ℕ) (inner : DeclBody) → body_at decls n ≡ Some inner
-      → (sort_at declared n ≡ sort_of declared (body_of names ambient inner)) × (scope : Scope) × IsBody decls sorts n scope inner
+      → (sort_at declared n ≡ sort_of declared (body_of names ambient inner)) × (scope : SortScope) × IsBody decls sorts n scope inner
   body-there n inner is =
       let x = and_then-is (λ (d : Decl). if_read d.role d.body) (slice_get decls n) inner is in
       let d = x.0 in
@@ -62,8 +62,8 @@ module _ (declared : List TermSort) (names : List Name) (ambient : Coding) (decl
       )
 
   -- parts of a struct
-  part-there : (number : ℕ) (parts : List PartTree) (scope : Scope) (n : ℕ) (p : PartTree) → AreParts decls sorts number scope parts → slice_get parts n ≡ Some p
-      → (inner : Scope) × IsPart decls sorts number inner p
+  part-there : (number : ℕ) (parts : List PartTree) (scope : SortScope) (n : ℕ) (p : PartTree) → AreParts decls sorts number scope parts → slice_get parts n ≡ Some p
+      → (inner : SortScope) × IsPart decls sorts number inner p
   part-there number [] scope n p h there = cc
   part-there number (first ∷ parts) scope zero p h there = let same : first ≡ p = cc in (scope, subst (IsPart decls sorts number scope) same h.0)
   part-there number (first ∷ parts) scope (suc n) p h there = part-there number parts (behind decls sorts number first scope) n p h.1 there
@@ -72,11 +72,11 @@ module _ (declared : List TermSort) (names : List Name) (ambient : Coding) (decl
   computed-means (computed.Int kind) e = refl
   computed-means computed.Text e = refl
 
-  pub field-means : (number : ℕ) (scope : Scope) (f : Branch) → IsBranch decls sorts number scope f → Means declared (type_sort sorts f.of) (sort_of declared (field_of names ambient f))
+  pub field-means : (number : ℕ) (scope : SortScope) (f : Branch) → IsBranch decls sorts number scope f → Means declared (type_sort sorts f.of) (sort_of declared (field_of names ambient f))
   field-means number scope f h =
       subst (Means declared (type_sort sorts f.of)) (sym (field-sort declared names ambient f)) (any-type-means declared names ambient decls sorts are are_of each number scope f.of h.0)
 
-  pub value-means : (number : ℕ) (scope : Scope) (p : PartTree) (sort : Sort) → IsPart decls sorts number scope p → value_of decls sorts p ≡ Some sort
+  pub value-means : (number : ℕ) (scope : SortScope) (p : PartTree) (sort : Sort) → IsPart decls sorts number scope p → value_of decls sorts p ≡ Some sort
       → Means declared sort (sort_of declared (part_of names ambient p).term)
   unfolding part_of
   value-means number scope (part.Literal l) sort h is = cc

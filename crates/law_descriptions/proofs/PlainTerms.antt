@@ -39,7 +39,7 @@ use Rattle.pads_trans.specs.Terms.{base_of, text_of, literal_of, form_of, label_
 use Rattle.pads_trans_expr.specs.Expressions.{expr_of}
 use Rattle.pads_trans_expr.specs.Met.{names_of}
 use Rattle.pads_trans_expr.specs.Names.{Name, at_sign, number_of}
-use Rattle.law_descriptions.specs.Expressions.{Scope, if_read, if_default}
+use Rattle.law_descriptions.specs.Expressions.{SortScope, if_read, if_default}
 use Rattle.law_descriptions.specs.WellSorted.{Each, IfThere, IsNamed, IsType, IsBranch, IsPart, behind, AreParts, IsStruct, IsUnion, IsArray, IsEnum, IsBody, IsDecl, WellSorted, params_scope}
 use Rattle.law_descriptions.proofs.Lists.{all-append, either-one, mapped-there}
 
@@ -62,7 +62,7 @@ module _ (names : List Name) (ambient : Coding) (decls : List DeclTree) (sorts :
   base-labels (base_type.Char prefix) = tt
   base-labels (base_type.Ip prefix) = tt
 
-  named-plain : (scope : Scope) (given : List ExprTree) (args : List Expr) (name : TypeName) → IsNamed decls sorts number scope given name → IsPlainTerm (named_type ambient name args)
+  named-plain : (scope : SortScope) (given : List ExprTree) (args : List Expr) (name : TypeName) → IsNamed decls sorts number scope given name → IsPlainTerm (named_type ambient name args)
   named-plain scope given args (type_name.Base b) h = plain-as number (term.Base (base_of ambient b) args) (Term-F.Base (base_of ambient b) args) (out-Base (base_of ambient b) args) (base-labels b) tt
   named-plain scope given args (type_name.Declared n) h = plain-as number (term.Call n args) (Term-F.Call n args) (out-Call n args) h.0 tt
 
@@ -72,7 +72,7 @@ module _ (names : List Name) (ambient : Coding) (decls : List DeclTree) (sorts :
       plain-as number (term.Alt (some_arm names inner ∷ none_arm names ∷ [])) (Term-F.Alt (some_arm names inner ∷ none_arm names ∷ [])) (out-Alt (some_arm names inner ∷ none_arm names ∷ []))
       tt (h, (unit-plain, tt))
 
-  type-plain : (scope : Scope) (t : Typed) → IsType decls sorts number scope t → IsPlainTerm (type_of names ambient t)
+  type-plain : (scope : SortScope) (t : Typed) → IsType decls sorts number scope t → IsPlainTerm (type_of names ambient t)
   unfolding type_of bare_type
   type-plain scope t h =
       let bare = named-plain scope t.args (map (expr_of names) t.args) t.name h in
@@ -85,7 +85,7 @@ module _ (names : List Name) (ambient : Coding) (decls : List DeclTree) (sorts :
       (out-Guard inner (number_of names name) (expr_of names e)) tt (h, tt)
 
   -- parts and branches
-  field-plain : (scope : Scope) (f : Branch) → IsBranch decls sorts number scope f → IsPlainTerm (field_of names ambient f)
+  field-plain : (scope : SortScope) (f : Branch) → IsBranch decls sorts number scope f → IsPlainTerm (field_of names ambient f)
   unfolding field_of
   field-plain scope f h = constrained-plain (type_of names ambient f.of) f.name f.constraint (type-plain scope f.of h.0)
 
@@ -106,36 +106,36 @@ module _ (names : List Name) (ambient : Coding) (decls : List DeclTree) (sorts :
   computed-plain : (e : Expr) (form : _) → IsPlainTerm (term.Compute e form)
   computed-plain e form = plain-as number (term.Compute e form) (Term-F.Compute e form) (out-Compute e form) tt tt
 
-  part-plain : (scope : Scope) (p : PartTree) → IsPart decls sorts number scope p → IsPlainTerm (part_of names ambient p).term
+  part-plain : (scope : SortScope) (p : PartTree) → IsPart decls sorts number scope p → IsPlainTerm (part_of names ambient p).term
   unfolding part_of
   part-plain scope (part.Literal l) h = searched-plain (term.Absorb (literal_of ambient l)) (absorbed-plain l)
   part-plain scope (part.Pcompute of name value) h = computed-plain (expr_of names value) (form_of of)
   part-plain scope (part.Field f) h = field-plain scope f h
 
-  parts-plain : (scope : Scope) (parts : List PartTree) → AreParts decls sorts number scope parts → AllOf IsPlainTerm (map (λ part. part.term) (map (part_of names ambient) parts))
+  parts-plain : (scope : SortScope) (parts : List PartTree) → AreParts decls sorts number scope parts → AllOf IsPlainTerm (map (λ part. part.term) (map (part_of names ambient) parts))
   parts-plain scope [] h = tt
   parts-plain scope (p ∷ parts) h = (part-plain scope p h.0, parts-plain (behind decls sorts number p scope) parts h.1)
 
-  struct-plain : (scope : Scope) (s : Struct) → IsStruct decls sorts number scope s → IsPlainTerm (struct_of names ambient s)
+  struct-plain : (scope : SortScope) (s : Struct) → IsStruct decls sorts number scope s → IsPlainTerm (struct_of names ambient s)
   unfolding struct_of
   struct-plain scope s h =
       let parts = map (part_of names ambient) s.parts in
       constrained-plain (term.Struct parts) at_sign s.condition
       (plain-as number (term.Struct parts) (Term-F.Struct parts) (out-Struct parts) tt (parts-plain scope s.parts h.1))
 
-  arms-plain : (scope : Scope) (branches : List Branch) → Each (IsBranch decls sorts number scope) branches → AllOf IsPlainTerm (map (λ arm. arm.term) (map (arm_of names ambient) branches))
+  arms-plain : (scope : SortScope) (branches : List Branch) → Each (IsBranch decls sorts number scope) branches → AllOf IsPlainTerm (map (λ arm. arm.term) (map (arm_of names ambient) branches))
   unfolding arm_of
   arms-plain scope [] h = tt
   arms-plain scope (f ∷ branches) h = (field-plain scope f h.0, arms-plain scope branches h.1)
 
-  cases-plain : (scope : Scope) (cases : List CaseTree) (default : Option Branch) → Each (IsBranch decls sorts number scope) (map (λ case. case.branch) cases ++ if_default default)
+  cases-plain : (scope : SortScope) (cases : List CaseTree) (default : Option Branch) → Each (IsBranch decls sorts number scope) (map (λ case. case.branch) cases ++ if_default default)
       → AllOf IsPlainTerm (map (λ case. case.arm.term) (map (case_of names ambient) cases ++ default_of names ambient default))
   unfolding case_of arm_of
   cases-plain scope [] None h = tt
   cases-plain scope [] (Some f) h = (field-plain scope f h.0, tt)
   cases-plain scope (c ∷ cases) default h = (field-plain scope c.branch h.0, cases-plain scope cases default h.1)
 
-  union-plain : (scope : Scope) (u : Union) → IsUnion decls sorts number scope u → IsPlainTerm (union_of names ambient u)
+  union-plain : (scope : SortScope) (u : Union) → IsUnion decls sorts number scope u → IsPlainTerm (union_of names ambient u)
   unfolding union_of switch_of
   union-plain scope (union.Branches branches) h =
       let arms = map (arm_of names ambient) branches in
@@ -158,7 +158,7 @@ module _ (names : List Name) (ambient : Coding) (decls : List DeclTree) (sorts :
   terminators-plain None = tt
   terminators-plain (Some l) = ((literal-plain l).0, tt)
 
-  array-plain : (scope : Scope) (a : Array) → IsArray decls sorts number scope a → IsPlainTerm (array_of names ambient a)
+  array-plain : (scope : SortScope) (a : Array) → IsArray decls sorts number scope a → IsPlainTerm (array_of names ambient a)
   unfolding array_of seq_of
   array-plain scope a h =
       let s = seq_of names ambient a in
@@ -176,7 +176,7 @@ module _ (names : List Name) (ambient : Coding) (decls : List DeclTree) (sorts :
   typedef-plain inner None h = h
   typedef-plain inner (Some c) h = constrained-plain inner c.variable (Some c.condition) h
 
-  body-plain : (scope : Scope) (inner : DeclBody) → IsBody decls sorts number scope inner → IsPlainTerm (body_of names ambient inner)
+  body-plain : (scope : SortScope) (inner : DeclBody) → IsBody decls sorts number scope inner → IsPlainTerm (body_of names ambient inner)
   unfolding body_of
   body-plain scope (body.Struct s) h = struct-plain scope s h
   body-plain scope (body.Union u) h = union-plain scope u h
@@ -185,7 +185,7 @@ module _ (names : List Name) (ambient : Coding) (decls : List DeclTree) (sorts :
   body-plain scope (body.Typedef t) h = typedef-plain (type_of names ambient t.of) t.constraint (type-plain scope t.of h.0)
   body-plain scope (body.Opt inner) h = optional-plain (type_of names ambient inner) (type-plain scope inner h)
 
-  read-plain : (scope : Scope) (role : Role) (inner : DeclBody) → IfThere (IsBody decls sorts number scope) (if_read role inner) → IsPlainTerm (read_body names ambient role inner)
+  read-plain : (scope : SortScope) (role : Role) (inner : DeclBody) → IfThere (IsBody decls sorts number scope) (if_read role inner) → IsPlainTerm (read_body names ambient role inner)
   unfolding read_body
   read-plain scope role.Part inner h = body-plain scope inner h
   read-plain scope role.Precord inner h = body-plain scope inner h

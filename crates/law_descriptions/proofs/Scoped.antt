@@ -10,14 +10,14 @@ use Rattle.pads_rules.specs.declared.sort.Sort.{Sort}
 use Rattle.pads_typed_tree.specs.declared.decl.Decl.{Decl}
 use Rattle.pads_expr.specs.declared.expr.BinOp.{BinOp}
 use Rattle.pads_typed_tree.specs.declared.expr.Expr.{Expr, Expr-F, roll-Expr, map-Expr}
-use Rattle.pads_typed_tree.specs.declared.expr.Meaning.{Meaning}
-use Rattle.pads_typed_tree.specs.declared.expr.Meaning.TheVariants as meaning
+use Rattle.pads_typed_tree.specs.declared.expr.NameUse.{NameUse}
+use Rattle.pads_typed_tree.specs.declared.expr.NameUse.TheVariants as meaning
 use Rattle.pads_trans_expr.specs.Expressions.{expr_of, expr_step as made_step, meaning_of}
 use Rattle.pads_trans_expr.specs.Met.{Met, in_expr, expr_met}
 use Rattle.pads_trans_expr.specs.Names.{Name, at_sign, number_of}
 use Rattle.pads_trans_expr.proofs.MetRolls.{met-roll}
 use Rattle.pads_rules.specs.Sorts.{same_form}
-use Rattle.law_descriptions.specs.Expressions.{Scope, sort_in_scope, as_told, sort_in, expr_step, meaning_sort}
+use Rattle.law_descriptions.specs.Expressions.{SortScope, sort_in_scope, as_told, sort_in, expr_step, meaning_sort}
 use Rattle.law_descriptions.specs.Sorts.{num}
 use Rattle.law_descriptions.specs.WellSorted.{Each}
 use Rattle.law_descriptions.proofs.Lists.{each-left, each-right}
@@ -36,10 +36,10 @@ told-is told (Some found) sort is = told-by ((told.optional == found.optional) &
 
 module _ (names : List Name) where
   -- the names in scope are bound
-  abbrev pub Covers : Scope → List ℕ → Type 0
+  abbrev pub Covers : SortScope → List ℕ → Type 0
   Covers scope bound = (name : Name) (sort : Sort) → sort_in_scope scope name ≡ Some sort → is_bound (number_of names name) bound ≡ true
 
-  covers-by : (scope : Scope) (bound : List ℕ) (name other : Name) (sort found : Sort) (b : Bool) → pointwise nat_eq other name ≡ b
+  covers-by : (scope : SortScope) (bound : List ℕ) (name other : Name) (sort found : Sort) (b : Bool) → pointwise nat_eq other name ≡ b
       → is_bound (number_of names name) bound ≡ true
       → ((found : Sort) → sort_in_scope scope other ≡ Some found → is_bound (number_of names other) bound ≡ true)
       → option_map (λ (pair : Name × Sort). pair.1) (cond b (Some (name, sort)) (find (λ (pair : Name × Sort). pointwise nat_eq other pair.0) scope)) ≡ Some found
@@ -49,16 +49,16 @@ module _ (names : List Name) where
   covers-by scope bound name other sort found false same here covers is = covers found is
 
   -- one more name that is bound
-  pub covers-also : (scope : Scope) (bound : List ℕ) (name : Name) (sort : Sort) → Covers scope bound → is_bound (number_of names name) bound ≡ true
+  pub covers-also : (scope : SortScope) (bound : List ℕ) (name : Name) (sort : Sort) → Covers scope bound → is_bound (number_of names name) bound ≡ true
       → Covers ((name, sort) ∷ scope) bound
   covers-also scope bound name sort covers here other found is =
       covers-by scope bound name other sort found (pointwise nat_eq other name) refl here (covers other) is
 
-  pub covers-wider : (scope : Scope) (bound : List ℕ) (number : ℕ) → Covers scope bound → Covers scope (number ∷ bound)
+  pub covers-wider : (scope : SortScope) (bound : List ℕ) (number : ℕ) → Covers scope bound → Covers scope (number ∷ bound)
   covers-wider scope bound number covers name sort is =
       or_right (nat_eq (number_of names name) number) (is_bound (number_of names name) bound) (covers name sort is)
 
-  pub covers-more : (scope : Scope) (bound : List ℕ) (name : Name) (sort : Sort) → Covers scope bound → Covers ((name, sort) ∷ scope) (number_of names name ∷ bound)
+  pub covers-more : (scope : SortScope) (bound : List ℕ) (name : Name) (sort : Sort) → Covers scope bound → Covers ((name, sort) ∷ scope) (number_of names name ∷ bound)
   covers-more scope bound name sort covers =
       covers-also scope (number_of names name ∷ bound) name sort (covers-wider scope bound (number_of names name) covers)
       (ap (λ b. b || is_bound (number_of names name) bound) (eq-eqb (number_of names name) (number_of names name) refl))
@@ -68,19 +68,19 @@ module _ (names : List Name) where
     InScope e bound = expr_in_scope (length names) e bound ≡ true
 
     abbrev IsScoped : Expr → Type 0
-    IsScoped e = (scope : Scope) (bound : List ℕ) (sort : Sort) → Covers scope bound → Each (Known names) (in_expr e) → sort_in decls sorts e scope ≡ Some sort
+    IsScoped e = (scope : SortScope) (bound : List ℕ) (sort : Sort) → Covers scope bound → Each (Known names) (in_expr e) → sort_in decls sorts e scope ≡ Some sort
         → InScope (expr_of names e) bound
 
     -- one layer
     abbrev Scoped : Expr-F Expr → Type 0
-    Scoped layer = (scope : Scope) (bound : List ℕ) (sort : Sort) → Covers scope bound → Each (Known names) (expr_met (map-Expr Expr Met in_expr layer))
-        → expr_step decls sorts (map-Expr Expr (Scope → Option Sort) (sort_in decls sorts) layer) scope ≡ Some sort
+    Scoped layer = (scope : SortScope) (bound : List ℕ) (sort : Sort) → Covers scope bound → Each (Known names) (expr_met (map-Expr Expr Met in_expr layer))
+        → expr_step decls sorts (map-Expr Expr (SortScope → Option Sort) (sort_in decls sorts) layer) scope ≡ Some sort
         → InScope (made_step names (map-Expr Expr Made (expr_of names) layer)) bound
 
-    variable-scoped : (scope : Scope) (bound : List ℕ) (name : Name) (sort : Sort) → Covers scope bound → sort_in_scope scope name ≡ Some sort → InScope (made.Var (number_of names name)) bound
+    variable-scoped : (scope : SortScope) (bound : List ℕ) (name : Name) (sort : Sort) → Covers scope bound → sort_in_scope scope name ≡ Some sort → InScope (made.Var (number_of names name)) bound
     variable-scoped scope bound name sort covers is = scope-Var (length names) (number_of names name) bound ∙ covers name sort is
 
-    meaning-scoped : (scope : Scope) (bound : List ℕ) (means : Meaning) (sort : Sort) → Covers scope bound → meaning_sort decls sorts means scope ≡ Some sort → InScope (meaning_of names means) bound
+    meaning-scoped : (scope : SortScope) (bound : List ℕ) (means : NameUse) (sort : Sort) → Covers scope bound → meaning_sort decls sorts means scope ≡ Some sort → InScope (meaning_of names means) bound
     unfolding meaning_of
     meaning-scoped scope bound (meaning.Variable name) sort covers is = variable-scoped scope bound name sort covers is
     meaning-scoped scope bound meaning.Elts sort covers is = variable-scoped scope bound at_sign sort covers is

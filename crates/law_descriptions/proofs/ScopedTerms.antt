@@ -45,7 +45,7 @@ use Rattle.pads_trans.specs.Terms.{base_of, text_of, literal_of, form_of, label_
 use Rattle.pads_trans_expr.specs.Expressions.{expr_of, option_of}
 use Rattle.pads_trans_expr.specs.Met.{Met, in_expr, in_option, in_type, in_branch, in_part, in_where, in_struct, in_case, in_default, in_switch, in_union, in_array_option, in_array, in_constraint, in_typedef, in_body, in_read_body, in_decl}
 use Rattle.pads_trans_expr.specs.Names.{Name, at_sign, some_name, none_name, number_of}
-use Rattle.law_descriptions.specs.Expressions.{Scope, if_read, if_default}
+use Rattle.law_descriptions.specs.Expressions.{SortScope, if_read, if_default}
 use Rattle.law_descriptions.specs.Sorts.{plain, num, computed_sort, type_sort}
 use Rattle.law_descriptions.specs.WellSorted.{Each, IfThere, Takes, HaveSorts, IsTruth, IsNumber, IsConstraint, IsNamed, IsType, IsBranch, IsPart, behind, AreParts, IsStruct, Chooses, IsUnion, IsOption, IsArray, IsBody, IsDecl, params_scope, param_sorts}
 use Rattle.law_descriptions.proofs.Lists.{each-left, each-right, each-weaker, there-mapped}
@@ -79,7 +79,7 @@ module _ (names : List Name) (ambient : Coding) (decls : List DeclTree) (sorts :
   AllKnown met = Each (Known names) met
 
   -- arguments
-  args-scoped : (scope : Scope) (bound : List ℕ) (args : List ExprTree) (wanted : List Sort) → Covers names scope bound → AllKnown (flat_map in_expr args)
+  args-scoped : (scope : SortScope) (bound : List ℕ) (args : List ExprTree) (wanted : List Sort) → Covers names scope bound → AllKnown (flat_map in_expr args)
       → HaveSorts decls sorts scope args wanted → exprs_in_scope count (map (expr_of names) args) bound ≡ true
   args-scoped scope bound [] wanted covers met h = refl
   args-scoped scope bound (e ∷ args) [] covers met h = absurd h
@@ -88,7 +88,7 @@ module _ (names : List Name) (ambient : Coding) (decls : List DeclTree) (sorts :
       (scoped names decls sorts e scope bound sort covers (each-left (Known names) (in_expr e) (flat_map in_expr args) met) h.0)
       (args-scoped scope bound args wanted covers (each-right (Known names) (in_expr e) (flat_map in_expr args) met) h.1)
 
-  args-count : (scope : Scope) (args : List ExprTree) (wanted : List Sort) → HaveSorts decls sorts scope args wanted → length args ≡ length wanted
+  args-count : (scope : SortScope) (args : List ExprTree) (wanted : List Sort) → HaveSorts decls sorts scope args wanted → length args ≡ length wanted
   args-count scope [] [] h = refl
   args-count scope [] (sort ∷ wanted) h = absurd h
   args-count scope (e ∷ args) [] h = absurd h
@@ -100,7 +100,7 @@ module _ (names : List Name) (ambient : Coding) (decls : List DeclTree) (sorts :
       there-mapped (λ (d : Decl). length d.params) (map (decl_of names ambient) decls) n (decl_of names ambient d) (there-mapped (decl_of names ambient) decls n d there)
       ∙ ap (λ n. Some n) (length-map d.params (λ (param : Param). number_of names param.name))
 
-  has-arity : (scope : Scope) (args : List ExprTree) (n : ℕ) (d : DeclTree) → slice_get decls n ≡ Some d → HaveSorts decls sorts scope args (param_sorts d.params)
+  has-arity : (scope : SortScope) (args : List ExprTree) (n : ℕ) (d : DeclTree) → slice_get decls n ≡ Some d → HaveSorts decls sorts scope args (param_sorts d.params)
       → has_arity (slice_get arities n) (length (map (expr_of names) args)) ≡ true
   has-arity scope args n d there h =
       ap (λ o. has_arity o (length (map (expr_of names) args))) (arity-at n d there)
@@ -108,7 +108,7 @@ module _ (names : List Name) (ambient : Coding) (decls : List DeclTree) (sorts :
       (sym (length-map args (expr_of names) ∙ args-count scope args (param_sorts d.params) h ∙ length-map d.params (λ (param : Param). param.sort)))
 
   -- types
-  named-scoped : (number : ℕ) (scope : Scope) (bound : List ℕ) (args : List ExprTree) (name : TypeName) → Covers names scope bound → AllKnown (flat_map in_expr args)
+  named-scoped : (number : ℕ) (scope : SortScope) (bound : List ℕ) (args : List ExprTree) (name : TypeName) → Covers names scope bound → AllKnown (flat_map in_expr args)
       → IsNamed decls sorts number scope args name → Fits (named_type ambient name (map (expr_of names) args)) bound
   named-scoped number scope bound args (type_name.Base b) covers met h =
       let given = takes-some b (HaveSorts decls sorts scope args) h in
@@ -132,7 +132,7 @@ module _ (names : List Name) (ambient : Coding) (decls : List DeclTree) (sorts :
   type-by true bare given bound met h = optional-scoped bare bound met.0 met.1.0 h
   type-by false bare given bound met h = h
 
-  type-scoped : (number : ℕ) (scope : Scope) (bound : List ℕ) (t : Typed) → Covers names scope bound → AllKnown (in_type t) → IsType decls sorts number scope t
+  type-scoped : (number : ℕ) (scope : SortScope) (bound : List ℕ) (t : Typed) → Covers names scope bound → AllKnown (in_type t) → IsType decls sorts number scope t
       → Fits (type_of names ambient t) bound
   unfolding type_of bare_type in_type
   type-scoped number scope bound t covers met h =
@@ -141,7 +141,7 @@ module _ (names : List Name) (ambient : Coding) (decls : List DeclTree) (sorts :
       (each-right (Known names) (if t.optional then some_name ∷ none_name ∷ [] else []) (flat_map in_expr t.args) met) h)
 
   -- constraints
-  guard-scoped : (inner : Term) (name : Name) (e : ExprTree) (scope : Scope) (bound : List ℕ) (sort : Sort) → Covers names scope bound → Known names name → AllKnown (in_expr e)
+  guard-scoped : (inner : Term) (name : Name) (e : ExprTree) (scope : SortScope) (bound : List ℕ) (sort : Sort) → Covers names scope bound → Known names name → AllKnown (in_expr e)
       → IsTruth decls sorts ((name, sort) ∷ scope) e → Fits inner bound → Fits (constrained names inner name (Some e)) bound
   guard-scoped inner name e scope bound sort covers known met h fits =
       in-Guard count arities inner (number_of names name) (expr_of names e) bound
@@ -149,20 +149,20 @@ module _ (names : List Name) (ambient : Coding) (decls : List DeclTree) (sorts :
       (and_from (in_scope count arities inner bound) (nat_lt (number_of names name) count) fits (number-below names name known))
       (scoped names decls sorts e ((name, sort) ∷ scope) (number_of names name ∷ bound) _ (covers-more names scope bound name sort covers) met h)
 
-  constrained-scoped : (inner : Term) (name : Name) (condition : Option ExprTree) (scope : Scope) (bound : List ℕ) (sort : Sort) → Covers names scope bound → Known names name
+  constrained-scoped : (inner : Term) (name : Name) (condition : Option ExprTree) (scope : SortScope) (bound : List ℕ) (sort : Sort) → Covers names scope bound → Known names name
       → AllKnown (in_option condition) → IsConstraint decls sorts scope name sort condition → Fits inner bound → Fits (constrained names inner name condition) bound
   unfolding in_option
   constrained-scoped inner name None scope bound sort covers known met h fits = fits
   constrained-scoped inner name (Some e) scope bound sort covers known met h fits = guard-scoped inner name e scope bound sort covers known met h fits
 
-  where-scoped : (inner : Term) (condition : Option ExprTree) (scope : Scope) (bound : List ℕ) (sort : Sort) → Covers names scope bound
+  where-scoped : (inner : Term) (condition : Option ExprTree) (scope : SortScope) (bound : List ℕ) (sort : Sort) → Covers names scope bound
       → AllKnown (in_where condition) → IsConstraint decls sorts scope at_sign sort condition → Fits inner bound → Fits (constrained names inner at_sign condition) bound
   unfolding in_where
   where-scoped inner None scope bound sort covers met h fits = fits
   where-scoped inner (Some e) scope bound sort covers met h fits = guard-scoped inner at_sign e scope bound sort covers met.0 met.1 h fits
 
   -- parts and branches
-  field-scoped : (number : ℕ) (scope : Scope) (bound : List ℕ) (f : Branch) → Covers names scope bound → AllKnown (in_branch f) → IsBranch decls sorts number scope f
+  field-scoped : (number : ℕ) (scope : SortScope) (bound : List ℕ) (f : Branch) → Covers names scope bound → AllKnown (in_branch f) → IsBranch decls sorts number scope f
       → (nat_lt (number_of names f.name) count ≡ true) × Fits (field_of names ambient f) bound
   unfolding field_of in_branch
   field-scoped number scope bound f covers met h =
@@ -176,7 +176,7 @@ module _ (names : List Name) (ambient : Coding) (decls : List DeclTree) (sorts :
   literal-scoped (literal.Word points) bound = in-Lit count arities _ bound
   literal-scoped literal.Peor bound = in-Eor count arities bound
 
-  part-scoped : (number : ℕ) (scope : Scope) (bound : List ℕ) (p : PartTree) → Covers names scope bound → AllKnown (in_part p) → IsPart decls sorts number scope p
+  part-scoped : (number : ℕ) (scope : SortScope) (bound : List ℕ) (p : PartTree) → Covers names scope bound → AllKnown (in_part p) → IsPart decls sorts number scope p
       → (name_there count (part_of names ambient p).name ≡ true) × Fits (part_of names ambient p).term bound
       × Covers names (behind decls sorts number p scope) (bind_name (part_of names ambient p).name bound)
   unfolding part_of in_part in_branch
@@ -191,7 +191,7 @@ module _ (names : List Name) (ambient : Coding) (decls : List DeclTree) (sorts :
       let field = field-scoped number scope bound f covers met h in
       (field.0, field.1, covers-more names scope bound f.name (type_sort sorts f.of) covers)
 
-  parts-scoped : (number : ℕ) (scope : Scope) (bound : List ℕ) (parts : List PartTree) → Covers names scope bound → AllKnown (flat_map in_part parts) → AreParts decls sorts number scope parts
+  parts-scoped : (number : ℕ) (scope : SortScope) (bound : List ℕ) (parts : List PartTree) → Covers names scope bound → AllKnown (flat_map in_part parts) → AreParts decls sorts number scope parts
       → (list_all (λ (part : Part). name_there count part.name) (map (part_of names ambient) parts) ≡ true)
       × (parts_in (map (binding_of count arities) (map (part_of names ambient) parts)) bound ≡ true)
   parts-scoped number scope bound [] covers met h = (refl, refl)
@@ -203,7 +203,7 @@ module _ (names : List Name) (ambient : Coding) (decls : List DeclTree) (sorts :
         and_from (in_scope count arities (part_of names ambient p).term bound) _ here.1 later.1,
       )
 
-  struct-scoped : (number : ℕ) (scope : Scope) (bound : List ℕ) (s : Struct) → Covers names scope bound → AllKnown (in_struct s) → IsStruct decls sorts number scope s
+  struct-scoped : (number : ℕ) (scope : SortScope) (bound : List ℕ) (s : Struct) → Covers names scope bound → AllKnown (in_struct s) → IsStruct decls sorts number scope s
       → Fits (struct_of names ambient s) bound
   unfolding struct_of in_struct
   struct-scoped number scope bound s covers met h =
@@ -213,7 +213,7 @@ module _ (names : List Name) (ambient : Coding) (decls : List DeclTree) (sorts :
       (in-Struct count arities parts bound
       ∙ and_from (list_all (λ (part : Part). name_there count part.name) parts) (parts_in (map (binding_of count arities) parts) bound) inside.0 inside.1)
 
-  arms-scoped : (number : ℕ) (scope : Scope) (bound : List ℕ) (branches : List Branch) → Covers names scope bound → AllKnown (flat_map in_branch branches)
+  arms-scoped : (number : ℕ) (scope : SortScope) (bound : List ℕ) (branches : List Branch) → Covers names scope bound → AllKnown (flat_map in_branch branches)
       → Each (IsBranch decls sorts number scope) branches → list_all (λ (arm : Arm). arm_in count arities arm bound) (map (arm_of names ambient) branches) ≡ true
   unfolding arm_of
   arms-scoped number scope bound [] covers met h = refl
@@ -223,13 +223,13 @@ module _ (names : List Name) (ambient : Coding) (decls : List DeclTree) (sorts :
       (and_from (nat_lt (number_of names f.name) count) (in_scope count arities (field_of names ambient f) bound) field.0 field.1)
       (arms-scoped number scope bound branches covers (each-right (Known names) (in_branch f) (flat_map in_branch branches) met) h.1)
 
-  case-scoped : (number : ℕ) (scope : Scope) (bound : List ℕ) (f : Branch) → Covers names scope bound → AllKnown (in_branch f) → IsBranch decls sorts number scope f
+  case-scoped : (number : ℕ) (scope : SortScope) (bound : List ℕ) (f : Branch) → Covers names scope bound → AllKnown (in_branch f) → IsBranch decls sorts number scope f
       → (nat_lt (number_of names f.name) count && in_scope count arities (field_of names ambient f) bound) ≡ true
   case-scoped number scope bound f covers met h =
       let field = field-scoped number scope bound f covers met h in
       and_from (nat_lt (number_of names f.name) count) (in_scope count arities (field_of names ambient f) bound) field.0 field.1
 
-  cases-scoped : (number : ℕ) (scope : Scope) (bound : List ℕ) (cases : List CaseTree) (default : Option Branch) → Covers names scope bound
+  cases-scoped : (number : ℕ) (scope : SortScope) (bound : List ℕ) (cases : List CaseTree) (default : Option Branch) → Covers names scope bound
       → AllKnown (flat_map in_case cases ++ in_default default)
       → Each (IsBranch decls sorts number scope) (map (λ (c : CaseTree). c.branch) cases ++ if_default default)
       → list_all (λ (case : Case). case_in count arities case bound) (map (case_of names ambient) cases ++ default_of names ambient default) ≡ true
@@ -244,12 +244,12 @@ module _ (names : List Name) (ambient : Coding) (decls : List DeclTree) (sorts :
       (case-scoped number scope bound c.branch covers (each-left (Known names) (in_branch c.branch) (flat_map in_case cases ++ in_default default) split) h.0)
       (cases-scoped number scope bound cases default covers (each-right (Known names) (in_branch c.branch) (flat_map in_case cases ++ in_default default) split) h.1)
 
-  chosen-scoped : (number : ℕ) (scope : Scope) (bound : List ℕ) (s : Switch) → Covers names scope bound → AllKnown (in_expr s.value) → Chooses decls sorts number scope s.value s.cases
+  chosen-scoped : (number : ℕ) (scope : SortScope) (bound : List ℕ) (s : Switch) → Covers names scope bound → AllKnown (in_expr s.value) → Chooses decls sorts number scope s.value s.cases
       → expr_in_scope count (expr_of names s.value) bound ≡ true
   chosen-scoped number scope bound s covers met h =
       ⊎_elim (λ h. scoped names decls sorts s.value scope bound _ covers met h.0) (λ h. scoped names decls sorts s.value scope bound _ covers met h.0) h
 
-  union-scoped : (number : ℕ) (scope : Scope) (bound : List ℕ) (u : Union) → Covers names scope bound → AllKnown (in_union u) → IsUnion decls sorts number scope u
+  union-scoped : (number : ℕ) (scope : SortScope) (bound : List ℕ) (u : Union) → Covers names scope bound → AllKnown (in_union u) → IsUnion decls sorts number scope u
       → Fits (union_of names ambient u) bound
   unfolding union_of switch_of in_union in_switch
   union-scoped number scope bound (union.Branches branches) covers met h =
@@ -272,7 +272,7 @@ module _ (names : List Name) (ambient : Coding) (decls : List DeclTree) (sorts :
   terminators-scoped None bound = refl
   terminators-scoped (Some l) bound = literal-scoped l bound
 
-  size-scoped : (scope : Scope) (bound : List ℕ) (size : Option ExprTree) → Covers names scope bound → AllKnown (in_option size) → IfThere (IsNumber decls sorts scope) size
+  size-scoped : (scope : SortScope) (bound : List ℕ) (size : Option ExprTree) → Covers names scope bound → AllKnown (in_option size) → IfThere (IsNumber decls sorts scope) size
       → option_in_scope count (option_of names size) bound ≡ true
   unfolding in_option
   size-scoped scope bound None covers met h = refl
@@ -281,7 +281,7 @@ module _ (names : List Name) (ambient : Coding) (decls : List DeclTree) (sorts :
   abbrev Lasts : List ℕ → ExprTree → Type 0
   Lasts bound e = expr_in_scope count (expr_of names e) bound ≡ true
 
-  options-scoped : (number : ℕ) (scope : Scope) (bound : List ℕ) (options : List ArrayOption) → Covers names scope bound → AllKnown (flat_map in_array_option options)
+  options-scoped : (number : ℕ) (scope : SortScope) (bound : List ℕ) (options : List ArrayOption) → Covers names scope bound → AllKnown (flat_map in_array_option options)
       → Each (IsOption decls sorts number scope) options → Each (λ o. IfThere (Lasts (number_of names at_sign ∷ bound)) (last o)) options
   unfolding in_array_option
   options-scoped number scope bound [] covers met h = tt
@@ -297,7 +297,7 @@ module _ (names : List Name) (ambient : Coding) (decls : List DeclTree) (sorts :
   last-scoped None bound h = refl
   last-scoped (Some e) bound h = h
 
-  array-scoped : (number : ℕ) (scope : Scope) (bound : List ℕ) (a : Array) → Covers names scope bound → AllKnown (in_array a) → IsArray decls sorts number scope a
+  array-scoped : (number : ℕ) (scope : SortScope) (bound : List ℕ) (a : Array) → Covers names scope bound → AllKnown (in_array a) → IsArray decls sorts number scope a
       → Fits (array_of names ambient a) bound
   unfolding array_of seq_of in_array
   array-scoped number scope bound a covers met h =
@@ -328,13 +328,13 @@ module _ (names : List Name) (ambient : Coding) (decls : List DeclTree) (sorts :
       (last-scoped (first last a.options) (number_of names at_sign ∷ bound) (first-holds (Lasts (number_of names at_sign ∷ bound)) last a.options lasts)))
 
   -- bodies
-  typedef-scoped : (scope : Scope) (bound : List ℕ) (inner : Term) (sort : Sort) (constraint : Option Constraint) → Covers names scope bound → AllKnown (in_constraint constraint)
+  typedef-scoped : (scope : SortScope) (bound : List ℕ) (inner : Term) (sort : Sort) (constraint : Option Constraint) → Covers names scope bound → AllKnown (in_constraint constraint)
       → IfThere (λ c. IsTruth decls sorts ((c.variable, sort) ∷ scope) c.condition) constraint → Fits inner bound → Fits (constrained_type names inner constraint) bound
   unfolding in_constraint
   typedef-scoped scope bound inner sort None covers met h fits = fits
   typedef-scoped scope bound inner sort (Some c) covers met h fits = guard-scoped inner c.variable c.condition scope bound sort covers met.0 met.1 h fits
 
-  body-scoped : (number : ℕ) (scope : Scope) (bound : List ℕ) (inner : DeclBody) → Covers names scope bound → AllKnown (in_body inner) → IsBody decls sorts number scope inner
+  body-scoped : (number : ℕ) (scope : SortScope) (bound : List ℕ) (inner : DeclBody) → Covers names scope bound → AllKnown (in_body inner) → IsBody decls sorts number scope inner
       → Fits (body_of names ambient inner) bound
   unfolding body_of in_body in_typedef
   body-scoped number scope bound (body.Struct s) covers met h = struct-scoped number scope bound s covers met h
@@ -347,7 +347,7 @@ module _ (names : List Name) (ambient : Coding) (decls : List DeclTree) (sorts :
   body-scoped number scope bound (body.Opt inner) covers met h =
       optional-scoped (type_of names ambient inner) bound met.0 met.1.0 (type-scoped number scope bound inner covers met.1.1 h)
 
-  read-scoped : (number : ℕ) (scope : Scope) (bound : List ℕ) (role : Role) (inner : DeclBody) → Covers names scope bound → AllKnown (in_read_body role inner)
+  read-scoped : (number : ℕ) (scope : SortScope) (bound : List ℕ) (role : Role) (inner : DeclBody) → Covers names scope bound → AllKnown (in_read_body role inner)
       → IfThere (IsBody decls sorts number scope) (if_read role inner) → Fits (read_body names ambient role inner) bound
   unfolding read_body in_read_body
   read-scoped number scope bound role.Part inner covers met h = body-scoped number scope bound inner covers met h
@@ -369,7 +369,7 @@ module _ (names : List Name) (ambient : Coding) (decls : List DeclTree) (sorts :
         (λ other h. or_right (nat_eq (name_number other) (name_number param)) (is_bound (name_number other) (map name_number params)) h) params (params-bound params),
   )
 
-  params-cover : (params : List Param) (scope : Scope) (bound : List ℕ) → Covers names scope bound → Each (Bound bound) params → Covers names (params_scope params scope) bound
+  params-cover : (params : List Param) (scope : SortScope) (bound : List ℕ) → Covers names scope bound → Each (Bound bound) params → Covers names (params_scope params scope) bound
   params-cover [] scope bound covers all = covers
   params-cover (param ∷ params) scope bound covers all =
       params-cover params ((param.name, param.sort) ∷ scope) bound (covers-also names scope bound param.name param.sort covers all.0) all.1

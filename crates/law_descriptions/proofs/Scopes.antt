@@ -15,7 +15,7 @@ use Rattle.pads_resolution.specs.declared.visible.Stands.{Stands}
 use Rattle.pads_resolution.specs.declared.visible.Stands.TheVariants as stands
 use Rattle.pads_resolution.specs.declared.visible.Visible.{Visible}
 use Rattle.pads_resolution.specs.Expressions.{meaning_of, sort_known}
-use Rattle.pads_resolution.specs.Scopes.{Scope as Names, known_in, name_as, variable, array_scope}
+use Rattle.pads_resolution.specs.Scopes.{NameScope as Names, known_in, name_as, variable, array_scope}
 use Rattle.pads_resolution.specs.Types.{param_of}
 use Rattle.pads_resolution.specs.JudgedNames.{as_named}
 use Rattle.pads_rules.specs.DeclRules.{same_name}
@@ -31,7 +31,7 @@ use Rattle.pads_rules.specs.declared.expr_sort.ExprSort.{ExprSort}
 use Rattle.pads_rules.specs.declared.expr_sort.ExprSort.TheVariants as expr_sort
 use Rattle.pads_rules.proofs.SameTexts.{same-is}
 use Rattle.pads_trans_expr.specs.Names.{at_sign}
-use Rattle.law_descriptions.specs.Expressions.{Scope, meaning_sort}
+use Rattle.law_descriptions.specs.Expressions.{SortScope, meaning_sort}
 use Rattle.law_descriptions.specs.Sorts as sorts_of
 use Rattle.law_descriptions.specs.WellSorted.{Each, params_scope}
 use Rattle.law_descriptions.specs.Described.{IsSpelled, AreSpelled, IsProper, IsKnown, Sees}
@@ -95,14 +95,14 @@ pointwise-false a b h = by (pointwise nat_eq b a) refl
     by false is = refl
 
 module _ (tree : Ast) (none : violations tree ≡ []) where
-  abbrev SeesHere : Names → Scope → Type 0
+  abbrev SeesHere : Names → SortScope → Type 0
   SeesHere = Sees (env tree none) (made tree none) (sorts tree none)
 
   abbrev pub IsProperHere : Sort → Type 0
   IsProperHere s = IsProper (env tree none) (made tree none) s.form
 
   -- names that stand for variables, as the rules and the resolved tree see them
-  pub record State (names : Names) (seen : List RuleNamed) (w : Scope) (before : List Name) : Type 0 where
+  pub record State (names : Names) (seen : List RuleNamed) (w : SortScope) (before : List Name) : Type 0 where
     pub shown : map as_named names ≡ seen
     pub sees : SeesHere names w
     pub covered : (text : List ℕ) → list_any (λ (t : Name). same_text text t.text) before ≡ false → known_in names text ≡ None
@@ -113,7 +113,7 @@ module _ (tree : Ast) (none : violations tree ≡ []) where
   shown-behind (u ∷ names) v = ap (λ rest. as_named u ∷ rest) (shown-behind names v)
 
   -- one more name
-  pub step : (names : Names) (seen : List RuleNamed) (w : Scope) (before : List Name) (x : Name) (what : ExprSort) (s : Sort) → State names seen w before
+  pub step : (names : Names) (seen : List RuleNamed) (w : SortScope) (before : List Name) (x : Name) (what : ExprSort) (s : Sort) → State names seen w before
       → list_any (same_name x) before ≡ false → IsSpelled x.text → what ≡ expr_sort.Known s → IsProperHere s
       → State (names ++ name_as x.text stands.Variable what ∷ []) (seen ++ record { text = x.text; sort = what } ∷ []) ((x.text, s) ∷ w) (before ++ x ∷ [])
   step names seen w before x what s state fresh spelled is proper =
@@ -151,11 +151,11 @@ module _ (tree : Ast) (none : violations tree ≡ []) where
           subst (λ (text : List ℕ). Goal text known) at (subst (λ (known : Known). Goal x.text known) same
           (s, is, proper, ap (λ b. option_map (λ (bound : List ℕ × Sort). bound.1) (cond b (Some (x.text, s)) (find (λ (bound : List ℕ × Sort). pointwise nat_eq x.text bound.0) w))) (own-text x.text)))
 
-  state-is : (names names' : Names) (seen seen' : List RuleNamed) (w : Scope) (before before' : List Name) → names ≡ names' → seen ≡ seen' → before ≡ before' → State names seen w before → State names' seen' w before'
+  state-is : (names names' : Names) (seen seen' : List RuleNamed) (w : SortScope) (before before' : List Name) → names ≡ names' → seen ≡ seen' → before ≡ before' → State names seen w before → State names' seen' w before'
   state-is names names' seen seen' w before before' a b c state =
       subst (λ names. State names seen' w before') a (subst (λ seen. State names seen w before') b (subst (State names seen w) c state))
 
-  pub no-more : (names : Names) (seen : List RuleNamed) (w : Scope) (before : List Name) → State names seen w before → State (names ++ []) (seen ++ []) w before
+  pub no-more : (names : Names) (seen : List RuleNamed) (w : SortScope) (before : List Name) → State names seen w before → State (names ++ []) (seen ++ []) w before
   no-more names seen w before state = state-is names (names ++ []) seen (seen ++ []) w before before (sym (append-nil names)) (sym (append-nil seen)) refl state
 
   pub start : State [] [] [] []
@@ -182,7 +182,7 @@ module _ (tree : Ast) (none : violations tree ≡ []) where
     abbrev name_in : WrittenParam → Name
     name_in param = param.name
 
-    pub params-state : (ps : List WrittenParam) (names : Names) (seen : List RuleNamed) (w : Scope) (before rest : List Name) → State names seen w before → Again before (map name_in ps ++ rest)
+    pub params-state : (ps : List WrittenParam) (names : Names) (seen : List RuleNamed) (w : SortScope) (before rest : List Name) → State names seen w before → Again before (map name_in ps ++ rest)
         → AreSpelled (map (λ (param : WrittenParam). param.name.text) ps) → Each (FreePiece (site_of tree.decls n d)) (map (λ (param : WrittenParam). OfParam param.of) ps)
         → State (names ++ map as_variable ps) (seen ++ map (param_named types) ps) (params_scope (map (param_of types) ps) w) (before ++ map name_in ps) × Again (before ++ map name_in ps) rest
     unfolding param_of
@@ -208,21 +208,21 @@ module _ (tree : Ast) (none : violations tree ≡ []) where
         sorts_type p = type_sort types p.of
 
   -- `@` stands for a value of a sort, beside the variables
-  at-other : (names : Names) (text : List ℕ) (known : Known) (w : Scope) (s : Sort) → known.stands ≡ stands.Variable → IsSpelled text
+  at-other : (names : Names) (text : List ℕ) (known : Known) (w : SortScope) (s : Sort) → known.stands ≡ stands.Variable → IsSpelled text
       → meaning_sort (made tree none) (sorts tree none) (meaning_of text known.stands) ((at_sign, s) ∷ w) ≡ meaning_sort (made tree none) (sorts tree none) (meaning_of text known.stands) w
   at-other names text known w s is spelled =
       ap (λ (what : Stands). meaning_sort (made tree none) (sorts tree none) (meaning_of text what) ((at_sign, s) ∷ w)) is
       ∙ ap (λ b. option_map (λ (bound : List ℕ × Sort). bound.1) (cond b (Some (at_sign, s)) (find (λ (bound : List ℕ × Sort). pointwise nat_eq text bound.0) w))) (pointwise-false at_sign text spelled)
       ∙ sym (ap (λ (what : Stands). meaning_sort (made tree none) (sorts tree none) (meaning_of text what) w) is)
 
-  pub sees-at : (names : Names) (seen : List RuleNamed) (w : Scope) (before : List Name) (s : Sort) → State names seen w before → SeesHere names ((at_sign, s) ∷ w)
+  pub sees-at : (names : Names) (seen : List RuleNamed) (w : SortScope) (before : List Name) (s : Sort) → State names seen w before → SeesHere names ((at_sign, s) ∷ w)
   sees-at names seen w before s state text known there =
       let h = state.sees text known there in
       let v = state.variables text known there in
       (h.0, h.1, h.2, at-other names text known w s v.0 v.1 ∙ h.3)
 
   -- the conditions of an array
-  array-by : (n : ℕ) (names : Names) (w : Scope) (text : List ℕ) (known : Known) (a b : Bool) → SeesHere names ((at_sign, sorts_of.plain (form.Array n)) ∷ w) → IsProperHere (sorts_of.plain (form.Array n))
+  array-by : (n : ℕ) (names : Names) (w : SortScope) (text : List ℕ) (known : Known) (a b : Bool) → SeesHere names ((at_sign, sorts_of.plain (form.Array n)) ∷ w) → IsProperHere (sorts_of.plain (form.Array n))
       → option_map (λ (x : Visible). x.known) (cond a (Some (name_as (codes "elts") stands.Elts (rules.plain (form.Array n)))) (cond b (Some (name_as (codes "length") stands.Length rules.num)) (find (λ (x : Visible). same_text x.text text) names))) ≡ Some known
       → IsKnown (env tree none) (made tree none) (λ r. meaning_sort (made tree none) (sorts tree none) (meaning_of text known.stands) ((at_sign, sorts_of.plain (form.Array n)) ∷ w) ≡ Some r) known.sort
   array-by n names w text known true b sees proper there =
@@ -235,7 +235,7 @@ module _ (tree : Ast) (none : violations tree ≡ []) where
       (sorts_of.num, refl, tt, refl)
   array-by n names w text known false false sees proper there = sees text known there
 
-  pub sees-array : (n : ℕ) (names : Names) (seen : List RuleNamed) (w : Scope) (before : List Name) → State names seen w before → IsProperHere (sorts_of.plain (form.Array n))
+  pub sees-array : (n : ℕ) (names : Names) (seen : List RuleNamed) (w : SortScope) (before : List Name) → State names seen w before → IsProperHere (sorts_of.plain (form.Array n))
       → SeesHere (array_scope n names) ((at_sign, sorts_of.plain (form.Array n)) ∷ w)
   sees-array n names seen w before state proper text known there =
       array-by n names w text known (same_text (codes "elts") text) (same_text (codes "length") text) (sees-at names seen w before (sorts_of.plain (form.Array n)) state) proper there

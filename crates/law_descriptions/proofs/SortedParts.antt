@@ -42,7 +42,7 @@ use Rattle.pads_trans.specs.Terms.{base_of, text_of, literal_of, form_of, key_of
 use Rattle.pads_trans_expr.specs.Expressions.{expr_of}
 use Rattle.pads_trans_expr.specs.Met.{Met, in_expr, in_option, in_type, in_branch, in_part, in_where, in_struct, in_case, in_default, in_switch, in_union}
 use Rattle.pads_trans_expr.specs.Names.{Name, at_sign, some_name, none_name, number_of}
-use Rattle.law_descriptions.specs.Expressions.{Scope, if_default}
+use Rattle.law_descriptions.specs.Expressions.{SortScope, if_default}
 use Rattle.law_descriptions.specs.Sorts.{plain, num, text, truth, computed_sort, type_sort}
 use Rattle.law_descriptions.specs.WellSorted.{AreSorts as AreSortsOf, Each, IsNumberKey, IsTextKey, Takes, HasSort, HaveSorts, IsTruth, IsConstraint, IsNamed, IsType, IsBranch, IsPart, IsParam, behind, AreParts, IsStruct, Chooses, IsUnion, IsDecl, param_sorts}
 use Rattle.law_descriptions.proofs.Lists.{each-left, each-right, either-one, there-mapped}
@@ -85,7 +85,7 @@ module _ (declared : List TermSort) (names : List Name) (ambient : Coding) (decl
   abbrev pub made_sorts : Sorts
   made_sorts = record { declared = declared; params = params_of decls }
 
-  abbrev pub IsMade : made.Scope → Term → Type 0
+  abbrev pub IsMade : made.SortScope → Term → Type 0
   IsMade bound t = IsSorted made_sorts bound t
 
   abbrev StandsMade : Standing → Type 0
@@ -94,31 +94,31 @@ module _ (declared : List TermSort) (names : List Name) (ambient : Coding) (decl
   abbrev pub AllKnown : Met → Type 0
   AllKnown met = Each (Known names) met
 
-  abbrev pub ScopeIs : Scope → made.Scope → Type 0
+  abbrev pub ScopeIs : SortScope → made.SortScope → Type 0
   ScopeIs = ScopeMeans declared names
 
-  abbrev pub sort_made : ExprTree → made.Scope → Option TermSort
+  abbrev pub sort_made : ExprTree → made.SortScope → Option TermSort
   sort_made e bound = made.sort_in declared (expr_of names e) bound
 
-  pub expr-meant : (e : ExprTree) (scope : Scope) (bound : made.Scope) (sort : Sort) → ScopeIs scope bound → AllKnown (in_expr e) → HasSort decls sorts scope e sort → Gives declared (sort_made e bound) sort
+  pub expr-meant : (e : ExprTree) (scope : SortScope) (bound : made.SortScope) (sort : Sort) → ScopeIs scope bound → AllKnown (in_expr e) → HasSort decls sorts scope e sort → Gives declared (sort_made e bound) sort
   expr-meant e = meant declared names ambient decls sorts are are_of each e
 
-  pub each-stands : (bound : made.Scope) (ts : List Term) → AllOf (IsMade bound) ts → AllOf StandsMade (map (stands bound) ts)
+  pub each-stands : (bound : made.SortScope) (ts : List Term) → AllOf (IsMade bound) ts → AllOf StandsMade (map (stands bound) ts)
   each-stands bound [] all = tt
   each-stands bound (t ∷ ts) all = (all.0, each-stands bound ts all.1)
 
-  pub unit-sorted : (bound : made.Scope) → IsMade bound term.Unit
+  pub unit-sorted : (bound : made.SortScope) → IsMade bound term.Unit
   unit-sorted bound = sorted-as made_sorts bound term.Unit Term-F.Unit out-Unit refl tt
 
   -- arguments
-  abbrev given_sorts : List ExprTree → made.Scope → List (Option TermSort)
+  abbrev given_sorts : List ExprTree → made.SortScope → List (Option TermSort)
   given_sorts args bound = sorts_in made_sorts (map (expr_of names) args) bound
 
-  none-given : (scope : Scope) (bound : made.Scope) (args : List ExprTree) → HaveSorts decls sorts scope args [] → no_argument (given_sorts args bound) ≡ true
+  none-given : (scope : SortScope) (bound : made.SortScope) (args : List ExprTree) → HaveSorts decls sorts scope args [] → no_argument (given_sorts args bound) ≡ true
   none-given scope bound [] h = refl
   none-given scope bound (e ∷ args) h = absurd h
 
-  number-given : (scope : Scope) (bound : made.Scope) (args : List ExprTree) → ScopeIs scope bound → AllKnown (flat_map in_expr args) → HaveSorts decls sorts scope args (num ∷ [])
+  number-given : (scope : SortScope) (bound : made.SortScope) (args : List ExprTree) → ScopeIs scope bound → AllKnown (flat_map in_expr args) → HaveSorts decls sorts scope args (num ∷ [])
       → one_number (given_sorts args bound) ≡ true
   number-given scope bound [] means met h = absurd h
   number-given scope bound (e ∷ args) means met h =
@@ -126,7 +126,7 @@ module _ (declared : List TermSort) (names : List Name) (ambient : Coding) (decl
       (number-has declared (sort_made e bound) (expr-meant e scope bound num means (each-left (Known names) (in_expr e) (flat_map in_expr args) met) h.0))
       (none-given scope bound args h.1)
 
-  text-given : (scope : Scope) (bound : made.Scope) (args : List ExprTree) → ScopeIs scope bound → AllKnown (flat_map in_expr args) → HaveSorts decls sorts scope args (text ∷ [])
+  text-given : (scope : SortScope) (bound : made.SortScope) (args : List ExprTree) → ScopeIs scope bound → AllKnown (flat_map in_expr args) → HaveSorts decls sorts scope args (text ∷ [])
       → one_text (given_sorts args bound) ≡ true
   text-given scope bound [] means met h = absurd h
   text-given scope bound (e ∷ args) means met h =
@@ -134,7 +134,7 @@ module _ (declared : List TermSort) (names : List Name) (ambient : Coding) (decl
       (text-has declared (sort_made e bound) (expr-meant e scope bound text means (each-left (Known names) (in_expr e) (flat_map in_expr args) met) h.0))
       (none-given scope bound args h.1)
 
-  base-takes : (scope : Scope) (bound : made.Scope) (args : List ExprTree) (b : BaseType) → ScopeIs scope bound → AllKnown (flat_map in_expr args) → Takes b (HaveSorts decls sorts scope args)
+  base-takes : (scope : SortScope) (bound : made.SortScope) (args : List ExprTree) (b : BaseType) → ScopeIs scope bound → AllKnown (flat_map in_expr args) → Takes b (HaveSorts decls sorts scope args)
       → takes (base_of ambient b) (given_sorts args bound) ≡ true
   base-takes scope bound args (base_type.Int prefix kind) means met h = none-given scope bound args h
   base-takes scope bound args (base_type.IntFw prefix kind) means met h = number-given scope bound args means met h
@@ -148,7 +148,7 @@ module _ (declared : List TermSort) (names : List Name) (ambient : Coding) (decl
   base-takes scope bound args (base_type.Char prefix) means met h = none-given scope bound args h
   base-takes scope bound args (base_type.Ip prefix) means met h = none-given scope bound args h
 
-  argument-is : (scope : Scope) (bound : made.Scope) (e : ExprTree) (param : Param) → IsParam param → ScopeIs scope bound → AllKnown (in_expr e) → HasSort decls sorts scope e param.sort
+  argument-is : (scope : SortScope) (bound : made.SortScope) (e : ExprTree) (param : Param) → IsParam param → ScopeIs scope bound → AllKnown (in_expr e) → HasSort decls sorts scope e param.sort
       → is_argument (param_sort param) (sort_made e bound) ≡ true
   argument-is scope bound e param is means met h =
       let given = expr-meant e scope bound param.sort means met h in
@@ -156,7 +156,7 @@ module _ (declared : List TermSort) (names : List Name) (ambient : Coding) (decl
       (λ number. ap (λ (sort : Sort). is_argument (param_form sort.form) (sort_made e bound)) number ∙ number-has declared (sort_made e bound) (subst (Gives declared (sort_made e bound)) number given))
       (λ words. ap (λ (sort : Sort). is_argument (param_form sort.form) (sort_made e bound)) words ∙ text-has declared (sort_made e bound) (subst (Gives declared (sort_made e bound)) words given)) is
 
-  arguments-are : (scope : Scope) (bound : made.Scope) (args : List ExprTree) (params : List Param) → Each IsParam params → ScopeIs scope bound → AllKnown (flat_map in_expr args)
+  arguments-are : (scope : SortScope) (bound : made.SortScope) (args : List ExprTree) (params : List Param) → Each IsParam params → ScopeIs scope bound → AllKnown (flat_map in_expr args)
       → HaveSorts decls sorts scope args (param_sorts params) → are_arguments (map param_sort params) (given_sorts args bound) ≡ true
   arguments-are scope bound [] [] all means met h = refl
   arguments-are scope bound [] (param ∷ params) all means met h = absurd h
@@ -167,7 +167,7 @@ module _ (declared : List TermSort) (names : List Name) (ambient : Coding) (decl
       (arguments-are scope bound args params all.1 means (each-right (Known names) (in_expr e) (flat_map in_expr args) met) h.1)
 
   -- types
-  named-sorted : (number : ℕ) (scope : Scope) (bound : made.Scope) (args : List ExprTree) (name : TypeName) → ScopeIs scope bound → AllKnown (flat_map in_expr args)
+  named-sorted : (number : ℕ) (scope : SortScope) (bound : made.SortScope) (args : List ExprTree) (name : TypeName) → ScopeIs scope bound → AllKnown (flat_map in_expr args)
       → IsNamed decls sorts number scope args name → IsMade bound (named_type ambient name (map (expr_of names) args))
   named-sorted number scope bound args (type_name.Base b) means met h =
       sorted-as made_sorts bound (term.Base (base_of ambient b) (map (expr_of names) args)) (Term-F.Base (base_of ambient b) (map (expr_of names) args)) (out-Base (base_of ambient b) (map (expr_of names) args))
@@ -177,20 +177,20 @@ module _ (declared : List TermSort) (names : List Name) (ambient : Coding) (decl
       (ap (λ o. calls o (given_sorts args bound)) (there-mapped (λ (d : DeclTree). map param_sort d.params) decls n h.1 h.2)
       ∙ arguments-are scope bound args (h.1).params (each n h.1 h.2).1 means met h.4) tt
 
-  pub optional-sorted : (bound : made.Scope) (inner : Term) → IsMade bound inner → IsMade bound (optional names inner)
+  pub optional-sorted : (bound : made.SortScope) (inner : Term) → IsMade bound inner → IsMade bound (optional names inner)
   unfolding optional
   optional-sorted bound inner h =
       sorted-as made_sorts bound (term.Alt (some_arm names inner ∷ none_arm names ∷ [])) (Term-F.Alt (some_arm names inner ∷ none_arm names ∷ [])) (out-Alt (some_arm names inner ∷ none_arm names ∷ []))
       refl (h, (unit-sorted bound, tt))
 
-  pub type-sorted : (number : ℕ) (scope : Scope) (bound : made.Scope) (t : Typed) → ScopeIs scope bound → AllKnown (in_type t) → IsType decls sorts number scope t → IsMade bound (type_of names ambient t)
+  pub type-sorted : (number : ℕ) (scope : SortScope) (bound : made.SortScope) (t : Typed) → ScopeIs scope bound → AllKnown (in_type t) → IsType decls sorts number scope t → IsMade bound (type_of names ambient t)
   unfolding type_of bare_type in_type
   type-sorted number scope bound t means met h =
       let bare = named-sorted number scope bound t.args t.name means (each-right (Known names) (if t.optional then some_name ∷ none_name ∷ [] else []) (flat_map in_expr t.args) met) h in
       either-one (IsMade bound) t.optional (optional names (bare_type names ambient t)) (bare_type names ambient t) (optional-sorted bound (bare_type names ambient t) bare) bare
 
   -- constraints
-  pub guard-sorted : (inner : Term) (name : Name) (e : ExprTree) (scope : Scope) (bound : made.Scope) (sort : Sort) → ScopeIs scope bound → Known names name → AllKnown (in_expr e)
+  pub guard-sorted : (inner : Term) (name : Name) (e : ExprTree) (scope : SortScope) (bound : made.SortScope) (sort : Sort) → ScopeIs scope bound → Known names name → AllKnown (in_expr e)
       → Means declared sort (sort_of declared inner) → IsTruth decls sorts ((name, sort) ∷ scope) e → IsMade bound inner → IsMade bound (constrained names inner name (Some e))
   guard-sorted inner name e scope bound sort means known met value h fits =
       let n = number_of names name in
@@ -200,13 +200,13 @@ module _ (declared : List TermSort) (names : List Name) (ambient : Coding) (decl
       (expr-meant e ((name, sort) ∷ scope) inside truth (scope-more declared names scope bound name sort (sort_of declared inner) known value means) met h))
       (fits, tt)
 
-  pub constrained-sorted : (inner : Term) (name : Name) (condition : Option ExprTree) (scope : Scope) (bound : made.Scope) (sort : Sort) → ScopeIs scope bound → Known names name
+  pub constrained-sorted : (inner : Term) (name : Name) (condition : Option ExprTree) (scope : SortScope) (bound : made.SortScope) (sort : Sort) → ScopeIs scope bound → Known names name
       → AllKnown (in_option condition) → Means declared sort (sort_of declared inner) → IsConstraint decls sorts scope name sort condition → IsMade bound inner → IsMade bound (constrained names inner name condition)
   unfolding in_option
   constrained-sorted inner name None scope bound sort means known met value h fits = fits
   constrained-sorted inner name (Some e) scope bound sort means known met value h fits = guard-sorted inner name e scope bound sort means known met value h fits
 
-  where-sorted : (inner : Term) (condition : Option ExprTree) (scope : Scope) (bound : made.Scope) (sort : Sort) → ScopeIs scope bound
+  where-sorted : (inner : Term) (condition : Option ExprTree) (scope : SortScope) (bound : made.SortScope) (sort : Sort) → ScopeIs scope bound
       → AllKnown (in_where condition) → Means declared sort (sort_of declared inner) → IsConstraint decls sorts scope at_sign sort condition → IsMade bound inner
       → IsMade bound (constrained names inner at_sign condition)
   unfolding in_where
@@ -214,7 +214,7 @@ module _ (declared : List TermSort) (names : List Name) (ambient : Coding) (decl
   where-sorted inner (Some e) scope bound sort means met value h fits = guard-sorted inner at_sign e scope bound sort means met.0 met.1 value h fits
 
   -- parts and branches
-  field-sorted : (number : ℕ) (scope : Scope) (bound : made.Scope) (f : Branch) → ScopeIs scope bound → AllKnown (in_branch f) → IsBranch decls sorts number scope f → IsMade bound (field_of names ambient f)
+  field-sorted : (number : ℕ) (scope : SortScope) (bound : made.SortScope) (f : Branch) → ScopeIs scope bound → AllKnown (in_branch f) → IsBranch decls sorts number scope f → IsMade bound (field_of names ambient f)
   unfolding field_of in_branch
   field-sorted number scope bound f means met h =
       let named = each-right (Known names) (in_type f.of) (f.name ∷ in_option f.constraint) met in
@@ -226,11 +226,11 @@ module _ (declared : List TermSort) (names : List Name) (ambient : Coding) (decl
   unfolding in_branch
   field-known f met = (each-right (Known names) (in_type f.of) (f.name ∷ in_option f.constraint) met).0
 
-  pub literal-sorted : (bound : made.Scope) (l : Literal) → IsMade bound (literal_of ambient l)
+  pub literal-sorted : (bound : made.SortScope) (l : Literal) → IsMade bound (literal_of ambient l)
   literal-sorted bound (literal.Word points) = sorted-as made_sorts bound (text_of ambient points) (Term-F.Lit _) (out-Lit _) refl tt
   literal-sorted bound literal.Peor = sorted-as made_sorts bound term.Eor Term-F.Eor out-Eor refl tt
 
-  pub absorbed-sorted : (bound : made.Scope) (l : Literal) → IsMade bound (term.Absorb (literal_of ambient l))
+  pub absorbed-sorted : (bound : made.SortScope) (l : Literal) → IsMade bound (term.Absorb (literal_of ambient l))
   absorbed-sorted bound l =
       sorted-as made_sorts bound (term.Absorb (literal_of ambient l)) (Term-F.Absorb (literal_of ambient l)) (out-Absorb (literal_of ambient l)) refl (literal-sorted bound l, tt)
 
@@ -238,7 +238,7 @@ module _ (declared : List TermSort) (names : List Name) (ambient : Coding) (decl
   computed-fits (computed.Int kind) o given = number-has declared o given
   computed-fits computed.Text o given = text-has declared o given
 
-  part-sorted : (number : ℕ) (scope : Scope) (bound : made.Scope) (p : PartTree) → ScopeIs scope bound → AllKnown (in_part p) → IsPart decls sorts number scope p
+  part-sorted : (number : ℕ) (scope : SortScope) (bound : made.SortScope) (p : PartTree) → ScopeIs scope bound → AllKnown (in_part p) → IsPart decls sorts number scope p
       → IsMade bound (part_of names ambient p).term
       × ScopeIs (behind decls sorts number p scope) (bind_sort (part_of names ambient p).name (sort_of declared (part_of names ambient p).term) bound)
   unfolding part_of in_part
@@ -260,7 +260,7 @@ module _ (declared : List TermSort) (names : List Name) (ambient : Coding) (decl
         (field-means declared names ambient decls sorts are are_of each number scope f h) means,
   )
 
-  parts-sorted : (number : ℕ) (scope : Scope) (bound : made.Scope) (parts : List PartTree) → ScopeIs scope bound → AllKnown (flat_map in_part parts) → AreParts decls sorts number scope parts
+  parts-sorted : (number : ℕ) (scope : SortScope) (bound : made.SortScope) (parts : List PartTree) → ScopeIs scope bound → AllKnown (flat_map in_part parts) → AreParts decls sorts number scope parts
       → AllOf StandsMade (parts_standing declared bound (map (part_of names ambient) parts))
   parts-sorted number scope bound [] means met h = tt
   parts-sorted number scope bound (p ∷ parts) means met h =
@@ -270,7 +270,7 @@ module _ (declared : List TermSort) (names : List Name) (ambient : Coding) (decl
             (each-right (Known names) (in_part p) (flat_map in_part parts) met) h.1,
       )
 
-  pub struct-sorted : (number : ℕ) (scope : Scope) (bound : made.Scope) (s : StructTree) → sort_at declared number ≡ sort_of declared (struct_of names ambient s) → ScopeIs scope bound → AllKnown (in_struct s)
+  pub struct-sorted : (number : ℕ) (scope : SortScope) (bound : made.SortScope) (s : StructTree) → sort_at declared number ≡ sort_of declared (struct_of names ambient s) → ScopeIs scope bound → AllKnown (in_struct s)
       → IsStruct decls sorts number scope s → IsMade bound (struct_of names ambient s)
   unfolding struct_of in_struct
   struct-sorted number scope bound s own means met h =
@@ -280,7 +280,7 @@ module _ (declared : List TermSort) (names : List Name) (ambient : Coding) (decl
       (sorted-as made_sorts bound (term.Struct parts) (Term-F.Struct parts) (out-Struct parts) refl
       (parts-sorted number scope bound s.parts means (each-left (Known names) (flat_map in_part s.parts) (in_where s.condition) met) h.1))
 
-  arms-sorted : (number : ℕ) (scope : Scope) (bound : made.Scope) (branches : List Branch) → ScopeIs scope bound → AllKnown (flat_map in_branch branches) → Each (IsBranch decls sorts number scope) branches
+  arms-sorted : (number : ℕ) (scope : SortScope) (bound : made.SortScope) (branches : List Branch) → ScopeIs scope bound → AllKnown (flat_map in_branch branches) → Each (IsBranch decls sorts number scope) branches
       → AllOf (IsMade bound) (map (λ (arm : Arm). arm.term) (map (arm_of names ambient) branches))
   unfolding arm_of
   arms-sorted number scope bound [] means met h = tt
@@ -289,7 +289,7 @@ module _ (declared : List TermSort) (names : List Name) (ambient : Coding) (decl
     arms-sorted number scope bound branches means (each-right (Known names) (in_branch f) (flat_map in_branch branches) met) h.1,
   )
 
-  cases-sorted : (number : ℕ) (scope : Scope) (bound : made.Scope) (cases : List CaseTree) (default : Option Branch) → ScopeIs scope bound → AllKnown (flat_map in_case cases ++ in_default default)
+  cases-sorted : (number : ℕ) (scope : SortScope) (bound : made.SortScope) (cases : List CaseTree) (default : Option Branch) → ScopeIs scope bound → AllKnown (flat_map in_case cases ++ in_default default)
       → Each (IsBranch decls sorts number scope) (map (λ (c : CaseTree). c.branch) cases ++ if_default default)
       → AllOf (IsMade bound) (map (λ (case : Case). case.arm.term) (map (case_of names ambient) cases ++ default_of names ambient default))
   unfolding case_of arm_of in_case in_default
@@ -326,7 +326,7 @@ module _ (declared : List TermSort) (names : List Name) (ambient : Coding) (decl
   text-keys [] (Some f) h = refl
   text-keys (c ∷ cases) default h = and_from (is_text_key (Some (key_of c.key))) _ (text-key c.key h.0) (text-keys cases default h.1)
 
-  chooses-one : (number : ℕ) (scope : Scope) (bound : made.Scope) (s : Switch) → ScopeIs scope bound → AllKnown (in_expr s.value) → Chooses decls sorts number scope s.value s.cases
+  chooses-one : (number : ℕ) (scope : SortScope) (bound : made.SortScope) (s : Switch) → ScopeIs scope bound → AllKnown (in_expr s.value) → Chooses decls sorts number scope s.value s.cases
       → chooses (sort_made s.value bound) (keys s.cases s.default) ≡ true
   chooses-one number scope bound s means met h =
       let o = sort_made s.value bound in
@@ -337,7 +337,7 @@ module _ (declared : List TermSort) (names : List Name) (ambient : Coding) (decl
       (λ words. or_right (has is_number o && list_all is_number_key ks) (has is_text o && list_all is_text_key ks)
       (and_from (has is_text o) (list_all is_text_key ks) (text-has declared o (expr-meant s.value scope bound text means met words.0)) (text-keys s.cases s.default words.1))) h
 
-  pub union-sorted : (number : ℕ) (scope : Scope) (bound : made.Scope) (u : Union) → ScopeIs scope bound → AllKnown (in_union u) → IsUnion decls sorts number scope u → IsMade bound (union_of names ambient u)
+  pub union-sorted : (number : ℕ) (scope : SortScope) (bound : made.SortScope) (u : Union) → ScopeIs scope bound → AllKnown (in_union u) → IsUnion decls sorts number scope u → IsMade bound (union_of names ambient u)
   unfolding union_of switch_of in_union in_switch
   union-sorted number scope bound (union.Branches branches) means met h =
       let arms = map (arm_of names ambient) branches in

@@ -36,7 +36,7 @@ use Rattle.pads_trans.specs.Terms.{text_of, literal_of, label_of, first, separat
 use Rattle.pads_trans_expr.specs.Expressions.{option_of}
 use Rattle.pads_trans_expr.specs.Met.{Met, names_of, in_expr, in_option, in_type, in_array_option, in_array, in_constraint, in_typedef, in_body, in_read_body, in_decl}
 use Rattle.pads_trans_expr.specs.Names.{Name, at_sign, number_of}
-use Rattle.law_descriptions.specs.Expressions.{Scope, if_read}
+use Rattle.law_descriptions.specs.Expressions.{SortScope, if_read}
 use Rattle.law_descriptions.specs.Sorts.{plain, num, truth, type_sort}
 use Rattle.law_descriptions.specs.WellSorted.{AreSorts as AreSortsOf, Each, IfThere, IsTruth, IsNumber, IsParam, IsOption, IsArray, IsBody, IsDecl, WellSorted, params_scope}
 use Rattle.law_descriptions.proofs.Lists.{all-append, each-left, each-right, there-mapped, mapped-there, each-flat}
@@ -54,37 +54,37 @@ module _ (declared : List TermSort) (names : List Name) (ambient : Coding) (decl
   abbrev made_sorts : Sorts
   made_sorts = lower.made_sorts declared names ambient decls sorts are are_of each
 
-  abbrev IsMade : made.Scope → Term → Type 0
+  abbrev IsMade : made.SortScope → Term → Type 0
   IsMade = lower.IsMade declared names ambient decls sorts are are_of each
 
   abbrev AllKnown : Met → Type 0
   AllKnown = lower.AllKnown declared names ambient decls sorts are are_of each
 
-  abbrev ScopeIs : Scope → made.Scope → Type 0
+  abbrev ScopeIs : SortScope → made.SortScope → Type 0
   ScopeIs = lower.ScopeIs declared names ambient decls sorts are are_of each
 
-  abbrev sort_made : ExprTree → made.Scope → Option TermSort
+  abbrev sort_made : ExprTree → made.SortScope → Option TermSort
   sort_made = lower.sort_made declared names ambient decls sorts are are_of each
 
   -- arrays
-  separators-sorted : (bound : made.Scope) (o : Option (List ℕ)) → AllOf (IsMade bound) (if_there (option_map (λ points. term.Absorb (text_of ambient points)) o))
+  separators-sorted : (bound : made.SortScope) (o : Option (List ℕ)) → AllOf (IsMade bound) (if_there (option_map (λ points. term.Absorb (text_of ambient points)) o))
   separators-sorted bound None = tt
   separators-sorted bound (Some points) = (lower.absorbed-sorted declared names ambient decls sorts are are_of each bound (literal.Word points), tt)
 
-  terminators-sorted : (bound : made.Scope) (o : Option Literal) → AllOf (IsMade bound) (if_there (option_map (literal_of ambient) o))
+  terminators-sorted : (bound : made.SortScope) (o : Option Literal) → AllOf (IsMade bound) (if_there (option_map (literal_of ambient) o))
   terminators-sorted bound None = tt
   terminators-sorted bound (Some l) = (lower.literal-sorted declared names ambient decls sorts are are_of each bound l, tt)
 
-  size-sorted : (scope : Scope) (bound : made.Scope) (size : Option ExprTree) → ScopeIs scope bound → AllKnown (in_option size) → IfThere (IsNumber decls sorts scope) size
+  size-sorted : (scope : SortScope) (bound : made.SortScope) (size : Option ExprTree) → ScopeIs scope bound → AllKnown (in_option size) → IfThere (IsNumber decls sorts scope) size
       → size_fits made_sorts (option_of names size) bound ≡ true
   unfolding in_option
   size-sorted scope bound None means met h = refl
   size-sorted scope bound (Some e) means met h = number-has declared (sort_made e bound) (lower.expr-meant declared names ambient decls sorts are are_of each e scope bound num means met h)
 
-  abbrev Lasts : made.Scope → ExprTree → Type 0
+  abbrev Lasts : made.SortScope → ExprTree → Type 0
   Lasts bound e = has is_truth (sort_made e bound) ≡ true
 
-  options-sorted : (number : ℕ) (scope : Scope) (bound : made.Scope) (options : List ArrayOption) → ScopeIs ((at_sign, plain (form.Array number)) ∷ scope) bound → AllKnown (flat_map in_array_option options)
+  options-sorted : (number : ℕ) (scope : SortScope) (bound : made.SortScope) (options : List ArrayOption) → ScopeIs ((at_sign, plain (form.Array number)) ∷ scope) bound → AllKnown (flat_map in_array_option options)
       → Each (IsOption decls sorts number scope) options → Each (λ o. IfThere (Lasts bound) (last o)) options
   unfolding in_array_option
   options-sorted number scope bound [] means met h = tt
@@ -95,11 +95,11 @@ module _ (declared : List TermSort) (names : List Name) (ambient : Coding) (decl
     options-sorted number scope bound options means (each-right (Known names) (in_expr e) (flat_map in_array_option options) met) h.1,
   )
 
-  last-sorted : (bound : made.Scope) (o : Option ExprTree) → IfThere (Lasts bound) o → last_fits made_sorts (option_of names o) bound ≡ true
+  last-sorted : (bound : made.SortScope) (o : Option ExprTree) → IfThere (Lasts bound) o → last_fits made_sorts (option_of names o) bound ≡ true
   last-sorted bound None h = refl
   last-sorted bound (Some e) h = h
 
-  array-sorted : (number : ℕ) (scope : Scope) (bound : made.Scope) (a : ArrayTree) → sort_at declared number ≡ sort_of declared (array_of names ambient a) → ScopeIs scope bound → AllKnown (in_array a)
+  array-sorted : (number : ℕ) (scope : SortScope) (bound : made.SortScope) (a : ArrayTree) → sort_at declared number ≡ sort_of declared (array_of names ambient a) → ScopeIs scope bound → AllKnown (in_array a)
       → IsArray decls sorts number scope a → IsMade bound (array_of names ambient a)
   unfolding array_of seq_of in_array
   array-sorted number scope bound a own means met h =
@@ -132,14 +132,14 @@ module _ (declared : List TermSort) (names : List Name) (ambient : Coding) (decl
       )))
 
   -- bodies
-  typedef-sorted : (scope : Scope) (bound : made.Scope) (inner : Term) (sort : Sort) (constraint : Option Constraint) → ScopeIs scope bound → AllKnown (in_constraint constraint)
+  typedef-sorted : (scope : SortScope) (bound : made.SortScope) (inner : Term) (sort : Sort) (constraint : Option Constraint) → ScopeIs scope bound → AllKnown (in_constraint constraint)
       → Means declared sort (sort_of declared inner) → IfThere (λ c. IsTruth decls sorts ((c.variable, sort) ∷ scope) c.condition) constraint → IsMade bound inner
       → IsMade bound (constrained_type names inner constraint)
   unfolding in_constraint
   typedef-sorted scope bound inner sort None means met value h fits = fits
   typedef-sorted scope bound inner sort (Some c) means met value h fits = lower.guard-sorted declared names ambient decls sorts are are_of each inner c.variable c.condition scope bound sort means met.0 met.1 value h fits
 
-  body-sorted : (number : ℕ) (scope : Scope) (bound : made.Scope) (inner : DeclBody) → sort_at declared number ≡ sort_of declared (body_of names ambient inner) → ScopeIs scope bound → AllKnown (in_body inner)
+  body-sorted : (number : ℕ) (scope : SortScope) (bound : made.SortScope) (inner : DeclBody) → sort_at declared number ≡ sort_of declared (body_of names ambient inner) → ScopeIs scope bound → AllKnown (in_body inner)
       → IsBody decls sorts number scope inner → IsMade bound (body_of names ambient inner)
   unfolding body_of in_body in_typedef
   body-sorted number scope bound (body.Struct s) own means met h = lower.struct-sorted declared names ambient decls sorts are are_of each number scope bound s own means met h
@@ -155,7 +155,7 @@ module _ (declared : List TermSort) (names : List Name) (ambient : Coding) (decl
   body-sorted number scope bound (body.Opt inner) own means met h =
       lower.optional-sorted declared names ambient decls sorts are are_of each bound (type_of names ambient inner) (lower.type-sorted declared names ambient decls sorts are are_of each number scope bound inner means met.1.1 h)
 
-  read-sorted : (number : ℕ) (scope : Scope) (bound : made.Scope) (role : Role) (inner : DeclBody)
+  read-sorted : (number : ℕ) (scope : SortScope) (bound : made.SortScope) (role : Role) (inner : DeclBody)
       → (if_read role inner ≡ Some inner → sort_at declared number ≡ sort_of declared (body_of names ambient inner)) → ScopeIs scope bound → AllKnown (in_read_body role inner)
       → IfThere (IsBody decls sorts number scope) (if_read role inner) → IsMade bound (read_body names ambient role inner)
   unfolding read_body in_read_body
@@ -167,7 +167,7 @@ module _ (declared : List TermSort) (names : List Name) (ambient : Coding) (decl
   abbrev name_number : Param → ℕ
   name_number param = number_of names param.name
 
-  params-mean : (params : List Param) (scope : Scope) (bound : made.Scope) → Each IsParam params → AllKnown (map (λ (param : Param). param.name) params) → ScopeIs scope bound
+  params-mean : (params : List Param) (scope : SortScope) (bound : made.SortScope) → Each IsParam params → AllKnown (map (λ (param : Param). param.name) params) → ScopeIs scope bound
       → ScopeIs (params_scope params scope) (sorting.params_scope (map name_number params) (map param_sort params) bound)
   params-mean [] scope bound all met means = means
   params-mean (param ∷ params) scope bound all met means =

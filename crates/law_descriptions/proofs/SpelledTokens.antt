@@ -8,7 +8,8 @@ use Rattle.pads_lex.specs.Cut.{IsCut}
 use Rattle.pads_lex.specs.Cut.IsCut.{ends, passes, stands}
 use Rattle.pads_lex.specs.Spelling.{Spells, word_kind, mark_of}
 use Rattle.pads_lex.specs.Spelling.Spells.{name, zero, decimal, hexadecimal, char, text, mark}
-use Rattle.pads_lex.specs.Words.{is_text, find_word, or_else, keyword_of, declaration_words, part_words, expression_words, double_marks, single_marks}
+use Rattle.pads_lex.specs.Words.{or_else, keyword_of, declaration_words, part_words, expression_words, double_marks, single_marks}
+use Rattle.pads_value.specs.Words.{is_word, find_word}
 use Rattle.pads_lex.specs.declared.token.Token.{Token}
 use Rattle.pads_lex.specs.declared.token.TokenKind.{TokenKind}
 use Rattle.pads_lex.specs.declared.token.TokenKind.TheVariants as kind
@@ -35,7 +36,7 @@ found-other : (table : List (List ℕ × TokenKind)) (word : List ℕ) (token : 
 found-other [] word token all found = cc
 found-other ((entry, kind) ∷ table) word token all found =
     let parts = and_parts (is_other kind) (list_all (λ e. is_other e.1) table) all in
-    go (is_text word entry) parts.0 (λ h. found-other table word token parts.1 h) found
+    go (is_word word entry) parts.0 (λ h. found-other table word token parts.1 h) found
   where
     go : (t : Bool) → is_other kind ≡ true → (find_word word table ≡ Some token → is_other token ≡ true) → cond t (Some kind) (find_word word table) ≡ Some token → is_other token ≡ true
     go true here more found = let same : kind ≡ token = cc in ap is_other (sym same) ∙ here

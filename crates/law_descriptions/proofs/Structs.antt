@@ -17,7 +17,7 @@ use Rattle.pads_resolution.specs.Bodies.{branch_at, part_at, parts_at, struct_at
 use Rattle.pads_resolution.specs.Expressions.{meaning_of}
 use Rattle.pads_resolution.specs.Numbers.{short}
 use Rattle.pads_resolution.specs.Resolution.{params_scope as made_params}
-use Rattle.pads_resolution.specs.Scopes.{Scope as Names, field, fields_after, names_after}
+use Rattle.pads_resolution.specs.Scopes.{NameScope as Names, field, fields_after, names_after}
 use Rattle.pads_resolution.specs.Types.{computed_of}
 use Rattle.pads_resolution.specs.JudgedNames.{as_named}
 use Rattle.pads_rules.specs.DeclRules.{part_count}
@@ -31,7 +31,7 @@ use Rattle.pads_rules.specs.declared.declared.Named.{Named as RuleNamed}
 use Rattle.pads_rules.specs.declared.expr_sort.ExprSort.{ExprSort}
 use Rattle.pads_trans_expr.specs.Names.{at_sign}
 use Rattle.law_descriptions.specs.Expressions as sorting
-use Rattle.law_descriptions.specs.Expressions.{Scope, body_at, value_of, part_sort, meaning_sort}
+use Rattle.law_descriptions.specs.Expressions.{SortScope, body_at, value_of, part_sort, meaning_sort}
 use Rattle.law_descriptions.specs.Sorts as sorts_of
 use Rattle.law_descriptions.specs.WellSorted.{Each, IsStruct}
 use Rattle.law_descriptions.proofs.Lists.{each-left, each-right}
@@ -90,9 +90,9 @@ module _ (tree : Ast) (none : violations tree ≡ []) (n : ℕ) (d : WrittenDecl
       part-at parts (names_after types names first) (rule_names_after types seen first)
       (each-right Free_here (part_pieces types seen (texts_of_parts (first ∷ parts)) first) (parts_pieces types (rule_names_after types seen first) parts) pieces) i p found
 
-  module _ (sd : WrittenStruct) (is : d.body ≡ written_body.Struct sd) (w : Scope)
+  module _ (sd : WrittenStruct) (is : d.body ≡ written_body.Struct sd) (w : SortScope)
       (pieces : Each Free_here (parts_pieces types (map as_named (made_params site)) sd.parts)) where
-    abbrev in_where : Scope
+    abbrev in_where : SortScope
     in_where = (at_sign, sorts_of.plain (form.Struct n)) ∷ w
 
     abbrev SeesAt : Names → Type 0
@@ -182,7 +182,7 @@ module _ (tree : Ast) (none : violations tree ≡ []) (n : ℕ) (d : WrittenDecl
   long-parts [] names = refl
   long-parts (p ∷ parts) names = ap (λ m. suc m) (long-parts parts (names_after types names p))
 
-  pub struct-typed : (sd : WrittenStruct) → d.body ≡ written_body.Struct sd → (seen : List RuleNamed) (w : Scope) (before : List Name) → State tree none (made_params site) seen w before
+  pub struct-typed : (sd : WrittenStruct) → d.body ≡ written_body.Struct sd → (seen : List RuleNamed) (w : SortScope) (before : List Name) → State tree none (made_params site) seen w before
       → Each Free_here (struct_pieces types seen sd) → Again tree none before (flat_map part_names sd.parts) → AreSpelled (flat_map names_in_part sd.parts ++ names_in_option sd.condition)
       → IsStruct (made tree none) (sorts tree none) n w (struct_at site (made_params site) sd)
   unfolding struct_at

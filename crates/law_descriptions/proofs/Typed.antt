@@ -18,7 +18,7 @@ use Rattle.pads_resolution.specs.declared.visible.Stands.TheVariants as stands
 use Rattle.pads_resolution.specs.declared.visible.Visible.{Visible}
 use Rattle.pads_resolution.specs.Expressions as made
 use Rattle.pads_resolution.specs.Expressions.{meaning_of, expression, resolve_form}
-use Rattle.pads_resolution.specs.Scopes.{Scope as Names, known_in, hiding}
+use Rattle.pads_resolution.specs.Scopes.{NameScope as Names, known_in, hiding}
 use Rattle.pads_resolution.specs.JudgedNames.{judging_scope}
 use Rattle.pads_rules.specs.Faults.{breaks}
 use Rattle.pads_rules.specs.Judging as judging
@@ -34,7 +34,7 @@ use Rattle.pads_rules.specs.declared.expr_sort.ExprSort.{ExprSort}
 use Rattle.pads_rules.specs.declared.expr_sort.ExprSort.TheVariants as expr_sort
 use Rattle.pads_rules.proofs.Judgements.{judged-roll}
 use Rattle.pads_trans_expr.specs.Names.{at_sign}
-use Rattle.law_descriptions.specs.Expressions.{Scope, sort_in_scope, plainly, number_alone, truth_alone, length_sort, forall_sort, part_sort, meaning_sort, sort_in}
+use Rattle.law_descriptions.specs.Expressions.{SortScope, sort_in_scope, plainly, number_alone, truth_alone, length_sort, forall_sort, part_sort, meaning_sort, sort_in}
 use Rattle.law_descriptions.specs.Sorts.{num, text, truth}
 use Rattle.law_descriptions.specs.WellSorted.{Each}
 use Rattle.law_descriptions.proofs.Lists.{each-left, each-right}
@@ -48,22 +48,22 @@ use Rattle.law_descriptions.proofs.TypedOperators.{same-swapped, and_then, at-pl
 use Rattle.law_descriptions.proofs.TypedMembers as members
 
 module _ (written : List WrittenDecl) (env : List Declared) (decls : List Decl) (sorts : List Sort) (describes : Describes written env decls sorts) where
-  abbrev Fits : ResolvedExpr → Judged → Scope → Type 0
+  abbrev Fits : ResolvedExpr → Judged → SortScope → Type 0
   Fits = operators.Fits written env decls sorts describes
 
   -- a variable that hides others
-  other-name : (name other : List ℕ) (sort : Sort) (scope : Scope) → pointwise nat_eq other name ≡ false → sort_in_scope ((name, sort) ∷ scope) other ≡ sort_in_scope scope other
+  other-name : (name other : List ℕ) (sort : Sort) (scope : SortScope) → pointwise nat_eq other name ≡ false → sort_in_scope ((name, sort) ∷ scope) other ≡ sort_in_scope scope other
   other-name name other sort scope is =
       ap (λ b. option_map (λ (bound : List ℕ × Sort). bound.1) (cond b (Some (name, sort)) (find (λ (bound : List ℕ × Sort). pointwise nat_eq other bound.0) scope))) is
 
-  pub other-meaning : (name other : List ℕ) (what : Stands) (sort : Sort) (scope : Scope) → IsSpelled name → pointwise nat_eq other name ≡ false
+  pub other-meaning : (name other : List ℕ) (what : Stands) (sort : Sort) (scope : SortScope) → IsSpelled name → pointwise nat_eq other name ≡ false
       → meaning_sort decls sorts (meaning_of other what) ((name, sort) ∷ scope) ≡ meaning_sort decls sorts (meaning_of other what) scope
   other-meaning name other stands.Variable sort scope spelled differ = other-name name other sort scope differ
   other-meaning name other stands.Elts sort scope spelled differ = other-name name at_sign sort scope spelled
   other-meaning name other stands.Length sort scope spelled differ = ap (option_and_then (plainly length_sort)) (other-name name at_sign sort scope spelled)
   other-meaning name other (stands.Field number) sort scope spelled differ = ap (option_and_then (plainly (part_sort decls sorts number))) (other-name name at_sign sort scope spelled)
 
-  pub sees-by : (names : Names) (scope : Scope) (name text : List ℕ) (what : ExprSort) (sort : Sort) (known : Known) (t : Bool) → IsSpelled name → what ≡ expr_sort.Known sort → IsProper env decls sort.form
+  pub sees-by : (names : Names) (scope : SortScope) (name text : List ℕ) (what : ExprSort) (sort : Sort) (known : Known) (t : Bool) → IsSpelled name → what ≡ expr_sort.Known sort → IsProper env decls sort.form
       → ((known : Known) → known_in names text ≡ Some known → IsKnown env decls (λ s. meaning_sort decls sorts (meaning_of text known.stands) scope ≡ Some s) known.sort) → same_text name text ≡ t
       → option_map (λ (v : Visible). v.known) (cond t (Some (record { text = name; known = record { stands = stands.Variable; sort = what } })) (find (λ (v : Visible). same_text v.text text) names)) ≡ Some known
       → IsKnown env decls (λ s. meaning_sort decls sorts (meaning_of text known.stands) ((name, sort) ∷ scope) ≡ Some s) known.sort
@@ -79,12 +79,12 @@ module _ (written : List WrittenDecl) (env : List Declared) (decls : List Decl) 
       let x = sees known there in
       (x.0, x.1, x.2, other-meaning name text known.stands sort scope spelled (same-swapped name text false same) ∙ x.3)
 
-  pub sees-hiding : (names : Names) (scope : Scope) (name : List ℕ) (what : ExprSort) (sort : Sort) → IsSpelled name → what ≡ expr_sort.Known sort → IsProper env decls sort.form → Sees env decls sorts names scope
+  pub sees-hiding : (names : Names) (scope : SortScope) (name : List ℕ) (what : ExprSort) (sort : Sort) → IsSpelled name → what ≡ expr_sort.Known sort → IsProper env decls sort.form → Sees env decls sorts names scope
       → Sees env decls sorts (hiding name stands.Variable what names) ((name, sort) ∷ scope)
   sees-hiding names scope name what sort spelled is proper sees text known there =
       sees-by names scope name text what sort known (same_text name text) spelled is proper (sees text) refl there
 
-  pforall-fits : (at : ℕ) (name : List ℕ) (l h b : ResolvedExpr) (low high body : Judged) (scope : Scope) → Fits l low scope → Fits h high scope → Fits b body ((name, num) ∷ scope)
+  pforall-fits : (at : ℕ) (name : List ℕ) (l h b : ResolvedExpr) (low high body : Judged) (scope : SortScope) → Fits l low scope → Fits h high scope → Fits b body ((name, num) ∷ scope)
       → (judging.pforall at low high body).faults ≡ [] → Fits (made.pforall name l h b) (judging.pforall at low high body) scope
   unfolding made.pforall
   pforall-fits at name l h b low high body scope one other each none =
@@ -112,10 +112,10 @@ module _ (written : List WrittenDecl) (env : List Declared) (decls : List Decl) 
 
   -- rows of operators, and of names and indexes
   abbrev IsLawful : Tree → Type 0
-  IsLawful e = (names : Names) (later : List (List ℕ)) (scope : Scope) → Sees env decls sorts names scope → AreSpelled (names_in_expr e) → (judged env e (judging_scope names later)).faults ≡ []
+  IsLawful e = (names : Names) (later : List (List ℕ)) (scope : SortScope) → Sees env decls sorts names scope → AreSpelled (names_in_expr e) → (judged env e (judging_scope names later)).faults ≡ []
       → Fits (expression written env e names) (judged env e (judging_scope names later)) scope
 
-  module _ (names : Names) (later : List (List ℕ)) (scope : Scope) (sees : Sees env decls sorts names scope) where
+  module _ (names : Names) (later : List (List ℕ)) (scope : SortScope) (sees : Sees env decls sorts names scope) where
     abbrev judged_here : Tree → Judged
     judged_here e = judged env e (judging_scope names later)
 
@@ -193,7 +193,7 @@ module _ (written : List WrittenDecl) (env : List Declared) (decls : List Decl) 
   resolved_layer layer names = resolve_form written env (map-Tree Tree (Names → ResolvedExpr) (expression written env) layer) names
 
   abbrev Lawful : Tree-F Tree → Type 0
-  Lawful layer = (names : Names) (later : List (List ℕ)) (scope : Scope) → Sees env decls sorts names scope → AreSpelled (names_in_form (map-Tree Tree Texts names_in_expr layer))
+  Lawful layer = (names : Names) (later : List (List ℕ)) (scope : SortScope) → Sees env decls sorts names scope → AreSpelled (names_in_form (map-Tree Tree Texts names_in_expr layer))
       → (judged_layer layer (judging_scope names later)).faults ≡ [] → Fits (resolved_layer layer names) (judged_layer layer (judging_scope names later)) scope
 
   lawful-Chain : (first : Tree) (links : List (Link Tree)) → IsLawful first → Each (InLink IsLawful) links → Lawful (Tree-F.Chain first links)

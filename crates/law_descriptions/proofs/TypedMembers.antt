@@ -25,7 +25,7 @@ use Rattle.pads_rules.specs.declared.declared.Named.{Named}
 use Rattle.pads_rules.specs.declared.expr_sort.ExprSort.{ExprSort}
 use Rattle.pads_rules.specs.declared.expr_sort.ExprSort.TheVariants as expr_sort
 use Rattle.pads_rules.proofs.SameTexts.{same-is}
-use Rattle.law_descriptions.specs.Expressions.{Scope, plainly, number_alone, length_sort, part_sort, union_branch, branch_sort, plain_choice, choice_sort, of_elements, element_sort, sort_in}
+use Rattle.law_descriptions.specs.Expressions.{SortScope, plainly, number_alone, length_sort, part_sort, union_branch, branch_sort, plain_choice, choice_sort, of_elements, element_sort, sort_in}
 use Rattle.law_descriptions.specs.Sorts.{num, truth}
 use Rattle.law_descriptions.specs.Described.{IsRead, IsProper, IsKnown, Describes}
 use Rattle.pads_rules.proofs.Faultless.{none-left, none-right, not-one, not-when, is-taken, own-sort}
@@ -34,14 +34,14 @@ use Rattle.law_descriptions.proofs.TypedOperators as operators
 use Rattle.law_descriptions.proofs.TypedOperators.{some_is_not_none, told-found, told-known, and_then, at-plain}
 
 module _ (written : List WrittenDecl) (env : List Declared) (decls : List Decl) (sorts : List Sort) (describes : Describes written env decls sorts) where
-  abbrev TypedIn : Scope → Expr → ExprSort → Type 0
+  abbrev TypedIn : SortScope → Expr → ExprSort → Type 0
   TypedIn = operators.TypedIn written env decls sorts describes
 
-  abbrev Fits : ResolvedExpr → Judged → Scope → Type 0
+  abbrev Fits : ResolvedExpr → Judged → SortScope → Type 0
   Fits = operators.Fits written env decls sorts describes
 
   -- members
-  struct-member : (scope : Scope) (e : Expr) (k : ℕ) (name : List ℕ) (found : ExprSort) (fields : List Named) → content_of env k ≡ content.Fields fields → IsRead decls k
+  struct-member : (scope : SortScope) (e : Expr) (k : ℕ) (name : List ℕ) (found : ExprSort) (fields : List Named) → content_of env k ≡ content.Fields fields → IsRead decls k
       → sort_in decls sorts e scope ≡ Some (record { optional = 0; form = form.Struct k }) → sort_of (names_in (content_of env k)) name ≡ Some found
       → TypedIn scope (expr.Part e (field_number written k name) (sort_known found)) found
   struct-member scope e k name found fields is reads has there =
@@ -50,7 +50,7 @@ module _ (written : List WrittenDecl) (env : List Declared) (decls : List Decl) 
       (sort-Part decls sorts scope e (field_number written k name) (sort_known found)
       ∙ told-found (sort_known found) x.0 _ (told-known found x.0 x.1) (and_then (plainly (part_sort decls sorts (field_number written k name))) (sort_in decls sorts e scope) _ x.0 has x.3))
 
-  union-member : (scope : Scope) (e : Expr) (k : ℕ) (name : List ℕ) (found : ExprSort) (branches : List Named) → content_of env k ≡ content.Branches branches → IsRead decls k
+  union-member : (scope : SortScope) (e : Expr) (k : ℕ) (name : List ℕ) (found : ExprSort) (branches : List Named) → content_of env k ≡ content.Branches branches → IsRead decls k
       → sort_in decls sorts e scope ≡ Some (record { optional = 0; form = form.Union k }) → sort_of (names_in (content_of env k)) name ≡ Some found
       → TypedIn scope (expr.Branch e (choice_in (content_of env k) name) (sort_known found)) found
   union-member scope e k name found branches is reads has there =
@@ -64,7 +64,7 @@ module _ (written : List WrittenDecl) (env : List Declared) (decls : List Decl) 
   one-less : (o : ℕ) → suc o - 1 ≡ o
   one-less o = omega arith
 
-  some-member : (scope : Scope) (e : Expr) (o : ℕ) (f : Form) (n : ℕ) → n ≡ 0 → IsProper env decls f → sort_in decls sorts e scope ≡ Some (record { optional = suc o; form = f })
+  some-member : (scope : SortScope) (e : Expr) (o : ℕ) (f : Form) (n : ℕ) → n ≡ 0 → IsProper env decls f → sort_in decls sorts e scope ≡ Some (record { optional = suc o; form = f })
       → TypedIn scope (expr.Branch e n (record { optional = suc o - 1; form = f })) (expr_sort.Known (record { optional = suc o - 1; form = f }))
   some-member scope e o f n first proper has =
       let told : Sort = record { optional = suc o - 1; form = f } in
@@ -75,7 +75,7 @@ module _ (written : List WrittenDecl) (env : List Declared) (decls : List Decl) 
       ∙ told-found told s _ same (and_then (branch_sort decls sorts n) (sort_in decls sorts e scope) (record { optional = suc o; form = f }) s has
       (ap (λ n. branch_sort decls sorts n (record { optional = suc o; form = f })) first)))
 
-  optional-member : (scope : Scope) (e : Expr) (o : ℕ) (f : Form) (name : List ℕ) (found : ExprSort) (is_some is_none : Bool) → same_text name (codes "some") ≡ is_some → same_text name (codes "none") ≡ is_none
+  optional-member : (scope : SortScope) (e : Expr) (o : ℕ) (f : Form) (name : List ℕ) (found : ExprSort) (is_some is_none : Bool) → same_text name (codes "some") ≡ is_some → same_text name (codes "none") ≡ is_none
       → IsProper env decls f → sort_in decls sorts e scope ≡ Some (record { optional = suc o; form = f })
       → (if is_some then Some (expr_sort.Known (record { optional = suc o - 1; form = f })) else if is_none then Some expr_sort.Nothing else None) ≡ Some found
       → TypedIn scope (expr.Branch e (if is_none then 1 else 0) (sort_known found)) found
@@ -90,7 +90,7 @@ module _ (written : List WrittenDecl) (env : List Declared) (decls : List Decl) 
   optional-member scope e o f name found false false some none proper has there = cc
 
   -- behind `Popt`
-  popt-member : (b : Bool) → b ≡ false → (scope : Scope) (e : Expr) (o : ℕ) (f : Form) (name : List ℕ) (found : ExprSort) → IsProper env decls f → sort_in decls sorts e scope ≡ Some (record { optional = suc o; form = f })
+  popt-member : (b : Bool) → b ≡ false → (scope : SortScope) (e : Expr) (o : ℕ) (f : Form) (name : List ℕ) (found : ExprSort) → IsProper env decls f → sort_in decls sorts e scope ≡ Some (record { optional = suc o; form = f })
       → (if b then plain_member env f name else optional_branch (record { optional = suc o; form = f }) name) ≡ Some found
       → TypedIn scope (member_expr (b && is_struct_form f) e (if b then plain_member_number written env f name else optional_number name) (sort_known found)) found
   popt-member true is scope e o f name found proper has there = cc
@@ -100,7 +100,7 @@ module _ (written : List WrittenDecl) (env : List Declared) (decls : List Decl) 
   behind : (o : ℕ) → (suc o == 0) ≡ false
   behind o = ne_eqb (suc o) 0 (λ is. absurd (omega (arith, is)))
 
-  member-by : (scope : Scope) (e : Expr) (o : ℕ) (f : Form) (name : List ℕ) (found : ExprSort) → IsProper env decls f → sort_in decls sorts e scope ≡ Some (record { optional = o; form = f })
+  member-by : (scope : SortScope) (e : Expr) (o : ℕ) (f : Form) (name : List ℕ) (found : ExprSort) → IsProper env decls f → sort_in decls sorts e scope ≡ Some (record { optional = o; form = f })
       → member env (expr_sort.Known (record { optional = o; form = f })) name ≡ Some found
       → TypedIn scope (member_expr (is_struct (expr_sort.Known (record { optional = o; form = f }))) e (member_number written env (expr_sort.Known (record { optional = o; form = f })) name) (sort_known found)) found
   unfolding member_number
@@ -113,19 +113,19 @@ module _ (written : List WrittenDecl) (env : List Declared) (decls : List Decl) 
   member-by scope e zero (form.Array k) name found proper has there = cc
   member-by scope e (suc o) f name found proper has there = popt-member (suc o == 0) (behind o) scope e o f name found proper has there
 
-  member-typed : (scope : Scope) (e : Expr) (sort : ExprSort) (name : List ℕ) (found : ExprSort) → TypedIn scope e sort → member env sort name ≡ Some found
+  member-typed : (scope : SortScope) (e : Expr) (sort : ExprSort) (name : List ℕ) (found : ExprSort) → TypedIn scope e sort → member env sort name ≡ Some found
       → TypedIn scope (member_expr (is_struct sort) e (member_number written env sort name) (sort_known found)) found
   member-typed scope e expr_sort.Unknown name found typed there = absurd typed
   member-typed scope e expr_sort.Nothing name found typed there = cc
   member-typed scope e (expr_sort.Known s) name found typed there = member-by scope e s.optional s.form name found typed.0 typed.1 there
 
-  member-found : (r : ResolvedExpr) (whole : Judged) (name : Name) (scope : Scope) (o : Option ExprSort) → TypedIn scope r.expr r.sort → member env r.sort name.text ≡ o
+  member-found : (r : ResolvedExpr) (whole : Judged) (name : Name) (scope : SortScope) (o : Option ExprSort) → TypedIn scope r.expr r.sort → member env r.sort name.text ≡ o
       → (judging.member_found whole name o).faults ≡ []
       → Fits (member_as (is_struct r.sort) r.expr (member_number written env r.sort name.text) (sort_or_unknown o)) (judging.member_found whole name o) scope
   member-found r whole name scope (Some found) typed there none = (own-sort whole.first (suc whole.height) found whole.faults none, member-typed scope r.expr r.sort name.text found typed there)
   member-found r whole name scope None typed there none = absurd (not-one whole.faults (breaks 16 name.at) (too_high whole.first (suc whole.height)) none)
 
-  pub member-fits : (r : ResolvedExpr) (whole : Judged) (name : Name) (scope : Scope) → Fits r whole scope → (judging.member_found whole name (member env whole.sort name.text)).faults ≡ []
+  pub member-fits : (r : ResolvedExpr) (whole : Judged) (name : Name) (scope : SortScope) → Fits r whole scope → (judging.member_found whole name (member env whole.sort name.text)).faults ≡ []
       → Fits (made.member_of written env r name.text) (judging.member_found whole name (member env whole.sort name.text)) scope
   unfolding made.member_of
   member-fits r whole name scope fits none =
@@ -134,7 +134,7 @@ module _ (written : List WrittenDecl) (env : List Declared) (decls : List Decl) 
       (member-found r whole name scope (member env r.sort name.text) fits.1 refl (subst (λ s. (judging.member_found whole name (member env s name.text)).faults ≡ []) (sym fits.0) none))
 
   -- elements
-  array-element : (scope : Scope) (array index : Expr) (a b : Sort) → sort_in decls sorts array scope ≡ Some a → sort_in decls sorts index scope ≡ Some b → a.optional ≡ 0 → b.optional ≡ 0
+  array-element : (scope : SortScope) (array index : Expr) (a b : Sort) → sort_in decls sorts array scope ≡ Some a → sort_in decls sorts index scope ≡ Some b → a.optional ≡ 0 → b.optional ≡ 0
       → is_array_form a.form ≡ true → is_num_form b.form ≡ true → IsProper env decls a.form
       → TypedIn scope (expr.Index array index (sort_known (element env (expr_sort.Known a)))) (element env (expr_sort.Known a))
   array-element scope array index a b one other plain_a plain_b of_array number proper =
@@ -153,7 +153,7 @@ module _ (written : List WrittenDecl) (env : List Declared) (decls : List Decl) 
           subst (IsKnown env decls (λ s. of_elements decls sorts (form.Array k) ≡ Some s)) (sym (ap element_in proper.1)) (describes.element k proper.0 proper.1 proper.2)
       element-known _ h proper = cc
 
-  pub index-fits : (r i : ResolvedExpr) (whole index : Judged) (scope : Scope) → Fits r whole scope → Fits i index scope → (judging.indexed env whole index).faults ≡ []
+  pub index-fits : (r i : ResolvedExpr) (whole index : Judged) (scope : SortScope) → Fits r whole scope → Fits i index scope → (judging.indexed env whole index).faults ≡ []
       → Fits (made.indexed env r i) (judging.indexed env whole index) scope
   unfolding made.indexed
   index-fits r i whole index scope one other none =
@@ -173,14 +173,14 @@ module _ (written : List WrittenDecl) (env : List Declared) (decls : List Decl) 
   some-there None h = cc
   some-there (Some x) h = (x, refl)
 
-  truth-of-pis : (scope : Scope) (e : Expr) (n : ℕ) (s : Sort) → sort_in decls sorts e scope ≡ Some s → choice_sort decls sorts n s ≡ Some truth → TypedIn scope (expr.Pis e n) (expr_sort.Known truth)
+  truth-of-pis : (scope : SortScope) (e : Expr) (n : ℕ) (s : Sort) → sort_in decls sorts e scope ≡ Some s → choice_sort decls sorts n s ≡ Some truth → TypedIn scope (expr.Pis e n) (expr_sort.Known truth)
   truth-of-pis scope e n s has gives = (tt, sort-Pis decls sorts scope e n ∙ and_then (choice_sort decls sorts n) (sort_in decls sorts e scope) s truth has gives)
 
   optional-choice : (b : Bool) → (if nat_lt (if b then 1 else 0) 2 then Some truth else None) ≡ Some truth
   optional-choice true = refl
   optional-choice false = refl
 
-  choice-by : (scope : Scope) (e : Expr) (o : ℕ) (f : Form) (name : List ℕ) → IsProper env decls f → sort_in decls sorts e scope ≡ Some (record { optional = o; form = f })
+  choice-by : (scope : SortScope) (e : Expr) (o : ℕ) (f : Form) (name : List ℕ) → IsProper env decls f → sort_in decls sorts e scope ≡ Some (record { optional = o; form = f })
       → has_choice env (expr_sort.Known (record { optional = o; form = f })) name ≡ true
       → TypedIn scope (expr.Pis e (choice_number env (expr_sort.Known (record { optional = o; form = f })) name)) (expr_sort.Known truth)
   unfolding choice_number
@@ -201,7 +201,7 @@ module _ (written : List WrittenDecl) (env : List Declared) (decls : List Decl) 
       subst (λ (b : Bool). TypedIn scope (expr.Pis e (if b then plain_choice_number env f name else optional_number name)) (expr_sort.Known truth)) (sym (behind o))
       (truth-of-pis scope e (optional_number name) (record { optional = suc o; form = f }) has (optional-choice (same_text name (codes "none"))))
 
-  choice-typed : (scope : Scope) (e : Expr) (sort : ExprSort) (name : List ℕ) → TypedIn scope e sort → may_choose sort ≡ true → has_choice env sort name ≡ true
+  choice-typed : (scope : SortScope) (e : Expr) (sort : ExprSort) (name : List ℕ) → TypedIn scope e sort → may_choose sort ≡ true → has_choice env sort name ≡ true
       → TypedIn scope (expr.Pis e (choice_number env sort name)) (expr_sort.Known truth)
   choice-typed scope e expr_sort.Unknown name typed may chosen = absurd typed
   choice-typed scope e expr_sort.Nothing name typed may chosen = cc
@@ -211,7 +211,7 @@ module _ (written : List WrittenDecl) (env : List Declared) (decls : List Decl) 
   and-not true b one h = not-false b h
   and-not false b one h = cc
 
-  pub pis-fits : (at : ℕ) (r : ResolvedExpr) (value : Judged) (name : Name) (scope : Scope) → Fits r value scope → (judging.pis env at value name).faults ≡ []
+  pub pis-fits : (at : ℕ) (r : ResolvedExpr) (value : Judged) (name : Name) (scope : SortScope) → Fits r value scope → (judging.pis env at value name).faults ≡ []
       → Fits (made.pis env r name.text) (judging.pis env at value name) scope
   unfolding made.pis
   pis-fits at r value name scope fits none =
@@ -231,7 +231,7 @@ module _ (written : List WrittenDecl) (env : List Declared) (decls : List Decl) 
   length-of (form.Array k) h = refl
   length-of _ h = cc
 
-  pub plen-fits : (at : ℕ) (r : ResolvedExpr) (value : Judged) (scope : Scope) → Fits r value scope → (judging.plen at value).faults ≡ [] → Fits (made.plen r) (judging.plen at value) scope
+  pub plen-fits : (at : ℕ) (r : ResolvedExpr) (value : Judged) (scope : SortScope) → Fits r value scope → (judging.plen at value).faults ≡ [] → Fits (made.plen r) (judging.plen at value) scope
   unfolding made.plen
   plen-fits at r value scope fits none =
       let says = operators.judged-plen written env decls sorts describes at value none in

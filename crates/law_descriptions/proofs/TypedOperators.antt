@@ -16,7 +16,7 @@ use Rattle.pads_resolution.specs.declared.visible.Known.{Known}
 use Rattle.pads_resolution.specs.declared.visible.ResolvedExpr.{ResolvedExpr}
 use Rattle.pads_resolution.specs.Expressions as made
 use Rattle.pads_resolution.specs.Expressions.{sort_known, as_sort, meaning_of, name_in, name_found}
-use Rattle.pads_resolution.specs.Scopes.{Scope as Names, known_in}
+use Rattle.pads_resolution.specs.Scopes.{NameScope as Names, known_in}
 use Rattle.pads_resolution.specs.JudgedNames.{judging_scope}
 use Rattle.pads_resolution.proofs.JudgedNames.{sort-known}
 use Rattle.pads_rules.specs.Faults.{breaks, when}
@@ -30,7 +30,7 @@ use Rattle.pads_rules.specs.declared.declared.Declared.{Declared}
 use Rattle.pads_rules.specs.declared.expr_sort.ExprSort.{ExprSort}
 use Rattle.pads_rules.specs.declared.expr_sort.ExprSort.TheVariants as expr_sort
 use Rattle.pads_rules.specs.declared.fault.CheckFault.{CheckFault}
-use Rattle.law_descriptions.specs.Expressions.{Scope, if_told, as_told, of_plain, plainly, of_forms, binary_sort, number_alone, truth_alone, sort_in}
+use Rattle.law_descriptions.specs.Expressions.{SortScope, if_told, as_told, of_plain, plainly, of_forms, binary_sort, number_alone, truth_alone, sort_in}
 use Rattle.law_descriptions.specs.Sorts.{num, text, truth}
 use Rattle.law_descriptions.specs.Described.{IsProper, Describes, Typed, Sees}
 use Rattle.pads_rules.proofs.Faultless.{none-left, none-right, not-when, is-taken, own-sort, inner-faults}
@@ -66,48 +66,48 @@ pub at-plain : (gives : Form → Option Sort) (s : Sort) → s.optional ≡ 0 �
 at-plain gives s is = ap (λ n. of_plain gives n s.form) is
 
 module _ (written : List WrittenDecl) (env : List Declared) (decls : List Decl) (sorts : List Sort) (describes : Describes written env decls sorts) where
-  abbrev pub TypedIn : Scope → Expr → ExprSort → Type 0
+  abbrev pub TypedIn : SortScope → Expr → ExprSort → Type 0
   TypedIn = Typed env decls sorts
 
   -- of the judged sort, and well-sorted
-  abbrev pub Fits : ResolvedExpr → Judged → Scope → Type 0
+  abbrev pub Fits : ResolvedExpr → Judged → SortScope → Type 0
   Fits r j scope = (r.sort ≡ j.sort) × TypedIn scope r.expr r.sort
 
   -- an operand that is taken
-  pub known-operand : (test : Form → Bool) (sort : ExprSort) (e : Expr) (scope : Scope) → TypedIn scope e sort → accepts test sort ≡ true
+  pub known-operand : (test : Form → Bool) (sort : ExprSort) (e : Expr) (scope : SortScope) → TypedIn scope e sort → accepts test sort ≡ true
       → (s : Sort) × (sort ≡ expr_sort.Known s) × (s.optional ≡ 0) × (test s.form ≡ true) × IsProper env decls s.form × (sort_in decls sorts e scope ≡ Some s)
   known-operand test expr_sort.Unknown e scope typed h = absurd typed
   known-operand test expr_sort.Nothing e scope typed h = cc
   known-operand test (expr_sort.Known s) e scope typed h =
       (s, refl, eqb-true s.optional 0 (and_parts (s.optional == 0) (test s.form) h).0, (and_parts (s.optional == 0) (test s.form) h).1, typed.0, typed.1)
 
-  pub operand : (test : Form → Bool) (r : ResolvedExpr) (j : Judged) (scope : Scope) → Fits r j scope → accepts test j.sort ≡ true
+  pub operand : (test : Form → Bool) (r : ResolvedExpr) (j : Judged) (scope : SortScope) → Fits r j scope → accepts test j.sort ≡ true
       → (s : Sort) × (r.sort ≡ expr_sort.Known s) × (s.optional ≡ 0) × (test s.form ≡ true) × IsProper env decls s.form × (sort_in decls sorts r.expr scope ≡ Some s)
   operand test r j scope fits h = known-operand test r.sort r.expr scope fits.1 (ap (accepts test) fits.0 ∙ h)
 
   -- a form of a sort that it has whatever its parts are
-  as-judged : (e : Expr) (sort : ExprSort) (scope : Scope) (first height : ℕ) (faults : List CheckFault) → (judgement first height sort faults).faults ≡ [] → TypedIn scope e sort
+  as-judged : (e : Expr) (sort : ExprSort) (scope : SortScope) (first height : ℕ) (faults : List CheckFault) → (judgement first height sort faults).faults ≡ [] → TypedIn scope e sort
       → Fits (as_sort e sort) (judgement first height sort faults) scope
   as-judged e sort scope first height faults none typed = (own-sort first height sort faults none, typed)
 
-  pub typed-as : (scope : Scope) (e : Expr) (sort : ExprSort) (s : Sort) → sort ≡ expr_sort.Known s → IsProper env decls s.form → sort_in decls sorts e scope ≡ Some s → TypedIn scope e sort
+  pub typed-as : (scope : SortScope) (e : Expr) (sort : ExprSort) (s : Sort) → sort ≡ expr_sort.Known s → IsProper env decls s.form → sort_in decls sorts e scope ≡ Some s → TypedIn scope e sort
   typed-as scope e sort s is proper has = subst (TypedIn scope e) (sym is) (proper, has)
 
   -- names
-  name-typed : (names : Names) (scope : Scope) (text : List ℕ) (known : Known) → Sees env decls sorts names scope → known_in names text ≡ Some known
+  name-typed : (names : Names) (scope : SortScope) (text : List ℕ) (known : Known) → Sees env decls sorts names scope → known_in names text ≡ Some known
       → TypedIn scope (expr.Name (meaning_of text known.stands) (sort_known known.sort)) known.sort
   name-typed names scope text known sees is =
       let x = sees text known is in
       typed-as scope (expr.Name (meaning_of text known.stands) (sort_known known.sort)) known.sort x.0 x.1 x.2
       (sort-Name decls sorts scope (meaning_of text known.stands) (sort_known known.sort) ∙ told-found (sort_known known.sort) x.0 _ (told-known known.sort x.0 x.1) x.3)
 
-  found-fits : (names : Names) (later : List (List ℕ)) (scope : Scope) (name : Name) (known : Option Known) → Sees env decls sorts names scope → known_in names name.text ≡ known
+  found-fits : (names : Names) (later : List (List ℕ)) (scope : SortScope) (name : Name) (known : Option Known) → Sees env decls sorts names scope → known_in names name.text ≡ known
       → (judging.variable_found (judging_scope names later) name (option_map (λ (k : Known). k.sort) known)).faults ≡ []
       → Fits (name_found name.text known) (judging.variable_found (judging_scope names later) name (option_map (λ (k : Known). k.sort) known)) scope
   found-fits names later scope name (Some known) sees is none = (own-sort name.at 1 known.sort [] none, name-typed names scope name.text known sees is)
   found-fits names later scope name None sees is none = cc
 
-  pub name-fits : (names : Names) (later : List (List ℕ)) (scope : Scope) (name : Name) → Sees env decls sorts names scope → (judging.variable (judging_scope names later) name).faults ≡ []
+  pub name-fits : (names : Names) (later : List (List ℕ)) (scope : SortScope) (name : Name) → Sees env decls sorts names scope → (judging.variable (judging_scope names later) name).faults ≡ []
       → Fits (name_in names name.text) (judging.variable (judging_scope names later) name) scope
   unfolding name_in
   name-fits names later scope name sees none =
@@ -154,7 +154,7 @@ module _ (written : List WrittenDecl) (env : List Declared) (decls : List Decl) 
   agree-forms : (a b : Sort) → ((a.optional == b.optional) && rules.same_form a.form b.form) ≡ true → rules.same_form a.form b.form ≡ true
   agree-forms a b h = (and_parts (a.optional == b.optional) (rules.same_form a.form b.form) h).1
 
-  binary-typed : (op : BinOp) (left right : Expr) (scope : Scope) (a b : Sort) → sort_in decls sorts left scope ≡ Some a → sort_in decls sorts right scope ≡ Some b → a.optional ≡ 0 → b.optional ≡ 0
+  binary-typed : (op : BinOp) (left right : Expr) (scope : SortScope) (a b : Sort) → sort_in decls sorts left scope ≡ Some a → sort_in decls sorts right scope ≡ Some b → a.optional ≡ 0 → b.optional ≡ 0
       → takes op a.form ≡ true → rules.same_form a.form b.form ≡ true → TypedIn scope (expr.Binary op left right) (judging.result_of op)
   binary-typed op left right scope a b one other plain_a plain_b taken same =
       let x = forms-sort op a.form b.form taken same in
@@ -169,7 +169,7 @@ module _ (written : List WrittenDecl) (env : List Declared) (decls : List Decl) 
   agreed true false both one other h = cc
   agreed false r both one other h = cc
 
-  pub binary-fits : (op : BinOp) (l r : ResolvedExpr) (left right : Judged) (scope : Scope) → Fits l left scope → Fits r right scope → (judging.binary op left right).faults ≡ []
+  pub binary-fits : (op : BinOp) (l r : ResolvedExpr) (left right : Judged) (scope : SortScope) → Fits l left scope → Fits r right scope → (judging.binary op left right).faults ≡ []
       → Fits (made.binary op l r) (judging.binary op left right) scope
   unfolding made.binary
   binary-fits op l r left right scope one other none =
@@ -190,14 +190,14 @@ module _ (written : List WrittenDecl) (env : List Declared) (decls : List Decl) 
         binary-typed op l.expr r.expr scope x.0 y.0 x.5 y.5 x.2 y.2 x.3 (agree-forms x.0 y.0 same),
       )
 
-  unary-typed : (op : UnaryOperator) (e : Expr) (scope : Scope) (s : Sort) → sort_in decls sorts e scope ≡ Some s → s.optional ≡ 0 → unary_takes op s.form ≡ true
+  unary-typed : (op : UnaryOperator) (e : Expr) (scope : SortScope) (s : Sort) → sort_in decls sorts e scope ≡ Some s → s.optional ≡ 0 → unary_takes op s.form ≡ true
       → TypedIn scope (made.unary_expr op e) (unary_gives op)
   unary-typed unary_form.Minus e scope s has plain taken =
       (tt, sort-Minus decls sorts scope e ∙ and_then (plainly number_alone) (sort_in decls sorts e scope) s num has (at-plain number_alone s plain ∙ ap number_alone (num-form s.form taken)))
   unary-typed unary_form.Not e scope s has plain taken =
       (tt, sort-Not decls sorts scope e ∙ and_then (plainly truth_alone) (sort_in decls sorts e scope) s truth has (at-plain truth_alone s plain ∙ ap truth_alone (truth-form s.form taken)))
 
-  pub unary-fits : (op : UnaryOperator) (at : ℕ) (r : ResolvedExpr) (j : Judged) (scope : Scope) → Fits r j scope → (judging.unary op at j).faults ≡ []
+  pub unary-fits : (op : UnaryOperator) (at : ℕ) (r : ResolvedExpr) (j : Judged) (scope : SortScope) → Fits r j scope → (judging.unary op at j).faults ≡ []
       → Fits (made.unary op r) (judging.unary op at j) scope
   unfolding made.unary
   unary-fits op at r j scope fits none =

@@ -7,7 +7,7 @@ use Rattle.pads_typed_tree.specs.declared.decl.Decl.{Decl}
 use Rattle.pads_typed_tree.specs.declared.expr.Expr.{Expr, Expr-F, out-Expr, roll-Expr, roll-out-Expr, map-Expr, fold-roll-Expr, size-Expr, the_lemmas}
 use Rattle.pads_trans_expr.specs.Expressions.{expr_of, expr_step as made_step}
 use Rattle.pads_trans_expr.specs.Names.{Name}
-use Rattle.law_descriptions.specs.Expressions.{Scope, sort_in, expr_step}
+use Rattle.law_descriptions.specs.Expressions.{SortScope, sort_in, expr_step}
 
 -- what holds of each expression directly in one
 abbrev pub Inside : (Expr → Type 0) → Expr-F Expr → Type 0
@@ -54,10 +54,10 @@ module _ (P : Expr → Type 0) (each : (layer : Expr-F Expr) → Inside P layer 
   pub all-layers : (e : Expr) → P e
   all-layers e = all-smaller (size-Expr e + 1) e (omega arith)
 
-pub sort-roll : (decls : List Decl) (sorts : List Sort) (layer : Expr-F Expr) (scope : Scope)
-    → sort_in decls sorts (roll-Expr layer) scope ≡ expr_step decls sorts (map-Expr Expr (Scope → Option Sort) (sort_in decls sorts) layer) scope
+pub sort-roll : (decls : List Decl) (sorts : List Sort) (layer : Expr-F Expr) (scope : SortScope)
+    → sort_in decls sorts (roll-Expr layer) scope ≡ expr_step decls sorts (map-Expr Expr (SortScope → Option Sort) (sort_in decls sorts) layer) scope
 unfolding sort_in
-sort-roll decls sorts layer scope = ap (λ (f : Scope → Option Sort). f scope) (fold-roll-Expr (Scope → Option Sort) (expr_step decls sorts) layer)
+sort-roll decls sorts layer scope = ap (λ (f : SortScope → Option Sort). f scope) (fold-roll-Expr (SortScope → Option Sort) (expr_step decls sorts) layer)
 
 pub made-roll : (names : List Name) (layer : Expr-F Expr) → expr_of names (roll-Expr layer) ≡ made_step names (map-Expr Expr Made (expr_of names) layer)
 unfolding expr_of

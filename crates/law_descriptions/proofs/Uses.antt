@@ -23,7 +23,7 @@ use Rattle.pads_resolution.specs.Bodies.{expr_at, body_at as made_body}
 use Rattle.pads_resolution.specs.Expressions.{expression, expr_of, sort_known}
 use Rattle.pads_resolution.specs.Numbers.{declared_number}
 use Rattle.pads_resolution.specs.Resolution.{role_of, params_scope as made_params, decl_at}
-use Rattle.pads_resolution.specs.Scopes.{Scope as Names}
+use Rattle.pads_resolution.specs.Scopes.{NameScope as Names}
 use Rattle.pads_resolution.specs.Types.{is_end, base_type_of, declared_type, type_name_of, named_type, args, type_at, param_of}
 use Rattle.pads_resolution.specs.JudgedNames.{judging_scope}
 use Rattle.pads_rules.specs.Faults.{breaks, when, each}
@@ -39,7 +39,7 @@ use Rattle.pads_rules.specs.Violations.{violations}
 use Rattle.pads_rules.specs.declared.declared.Declared.{Declared}
 use Rattle.pads_rules.specs.declared.expr_sort.ExprSort.{ExprSort}
 use Rattle.pads_rules.specs.declared.expr_sort.ExprSort.TheVariants as expr_sort
-use Rattle.law_descriptions.specs.Expressions.{Scope, sort_in}
+use Rattle.law_descriptions.specs.Expressions.{SortScope, sort_in}
 use Rattle.law_descriptions.specs.Sorts as sorts_of
 use Rattle.law_descriptions.specs.WellSorted.{Takes, HaveSorts, IsCall, IsNamed, IsType, param_sorts}
 use Rattle.law_descriptions.proofs.Lists.{each-left, each-right, each-there, there-mapped, mapped-there}
@@ -102,19 +102,19 @@ param-earlier None x m is h = let e = sym (ap (is_base is_param_base) is) ∙ h 
 param-earlier (Some place) x m is h = cc
 
 module _ (tree : Ast) (none : violations tree ≡ []) where
-  abbrev TypedHere : Scope → Expr → ExprSort → Type 0
+  abbrev TypedHere : SortScope → Expr → ExprSort → Type 0
   TypedHere = Typed (env tree none) (made tree none) (sorts tree none)
 
-  abbrev SeesHere : Names → Scope → Type 0
+  abbrev SeesHere : Names → SortScope → Type 0
   SeesHere = Sees (env tree none) (made tree none) (sorts tree none)
 
-  abbrev Has : Scope → Expr → Sort → Type 0
+  abbrev Has : SortScope → Expr → Sort → Type 0
   Has w e s = sort_in (made tree none) (sorts tree none) e w ≡ Some s
 
   abbrev judged_here : Tree → Names → List (List ℕ) → Judged
   judged_here e names later = judged (env tree none) e (judging_scope names later)
 
-  abbrev Haves : Scope → List Expr → List Sort → Type 0
+  abbrev Haves : SortScope → List Expr → List Sort → Type 0
   Haves = HaveSorts (made tree none) (sorts tree none)
 
   -- a parameter of a declaration
@@ -139,14 +139,14 @@ module _ (tree : Ast) (none : violations tree ≡ []) where
           (meaning-earlier (take n (env tree none)) t.name.text (declare (take k (env tree none)) e) none_base found) plain)
 
   -- expressions
-  pub expr-typed : (n : ℕ) (d : WrittenDecl) (e : Tree) (names : Names) (later : List (List ℕ)) (w : Scope) → SeesHere names w → AreSpelled (names_in_expr e) → (judged_here e names later).faults ≡ []
+  pub expr-typed : (n : ℕ) (d : WrittenDecl) (e : Tree) (names : Names) (later : List (List ℕ)) (w : SortScope) → SeesHere names w → AreSpelled (names_in_expr e) → (judged_here e names later).faults ≡ []
       → (sort : ExprSort) × (sort ≡ (judged_here e names later).sort) × TypedHere w (expr_at (site_of tree.decls n d) names e) sort
   unfolding expr_at expr_of
   expr-typed n d e names later w sees spelled free =
       let fits = lawful tree.decls (env tree none) (made tree none) (sorts tree none) (described tree none) e names later w sees spelled free in
       ((expression tree.decls (env tree none) e names).sort, fits.0, fits.1)
 
-  pub number-typed : (n : ℕ) (d : WrittenDecl) (e : Tree) (names : Names) (later : List (List ℕ)) (w : Scope) → SeesHere names w → AreSpelled (names_in_expr e) → (judged_here e names later).faults ≡ []
+  pub number-typed : (n : ℕ) (d : WrittenDecl) (e : Tree) (names : Names) (later : List (List ℕ)) (w : SortScope) → SeesHere names w → AreSpelled (names_in_expr e) → (judged_here e names later).faults ≡ []
       → wrong_sort is_num_form (judged_here e names later) ≡ [] → Has w (expr_at (site_of tree.decls n d) names e) sorts_of.num
   number-typed n d e names later w sees spelled free taken =
       let x = expr-typed n d e names later w sees spelled free in
@@ -154,7 +154,7 @@ module _ (tree : Ast) (none : violations tree ≡ []) where
       (ap (accepts is_num_form) x.1 ∙ is-taken is_num_form (judged_here e names later) taken) in
       s.5 ∙ ap (λ s. Some s) (sort-is s.0 form.Num s.2 (num-form (s.0).form s.3))
 
-  pub truth-typed : (n : ℕ) (d : WrittenDecl) (e : Tree) (names : Names) (later : List (List ℕ)) (w : Scope) → SeesHere names w → AreSpelled (names_in_expr e) → (judged_here e names later).faults ≡ []
+  pub truth-typed : (n : ℕ) (d : WrittenDecl) (e : Tree) (names : Names) (later : List (List ℕ)) (w : SortScope) → SeesHere names w → AreSpelled (names_in_expr e) → (judged_here e names later).faults ≡ []
       → no_truth (judged_here e names later) ≡ [] → Has w (expr_at (site_of tree.decls n d) names e) sorts_of.truth
   truth-typed n d e names later w sees spelled free taken =
       let x = expr-typed n d e names later w sees spelled free in
@@ -162,19 +162,19 @@ module _ (tree : Ast) (none : violations tree ≡ []) where
       (ap (accepts is_truth_form) x.1 ∙ is-truth (judged_here e names later) taken) in
       s.5 ∙ ap (λ s. Some s) (sort-is s.0 form.Truth s.2 (truth-form (s.0).form s.3))
 
-  agree-typed : (wanted : Sort) (sort : ExprSort) (e : Expr) (w : Scope) → TypedHere w e sort → agree (expr_sort.Known wanted) sort ≡ true → Has w e wanted
+  agree-typed : (wanted : Sort) (sort : ExprSort) (e : Expr) (w : SortScope) → TypedHere w e sort → agree (expr_sort.Known wanted) sort ≡ true → Has w e wanted
   agree-typed wanted expr_sort.Unknown e w typed h = absurd typed
   agree-typed wanted expr_sort.Nothing e w typed h = cc
   agree-typed wanted (expr_sort.Known s) e w typed h = typed.1 ∙ ap (λ s. Some s) (sym (agree-is wanted s h))
 
-  pub agreed-typed : (n : ℕ) (d : WrittenDecl) (e : Tree) (names : Names) (later : List (List ℕ)) (w : Scope) (wanted : Sort) → SeesHere names w → AreSpelled (names_in_expr e)
+  pub agreed-typed : (n : ℕ) (d : WrittenDecl) (e : Tree) (names : Names) (later : List (List ℕ)) (w : SortScope) (wanted : Sort) → SeesHere names w → AreSpelled (names_in_expr e)
       → (judged_here e names later).faults ≡ [] → agree (expr_sort.Known wanted) (judged_here e names later).sort ≡ true → Has w (expr_at (site_of tree.decls n d) names e) wanted
   agreed-typed n d e names later w wanted sees spelled free h =
       let x = expr-typed n d e names later w sees spelled free in
       agree-typed wanted x.0 (expr_at (site_of tree.decls n d) names e) w x.2 (ap (agree (expr_sort.Known wanted)) x.1 ∙ h)
 
   -- arguments
-  module _ (n : ℕ) (d : WrittenDecl) (names : Names) (later : List (List ℕ)) (w : Scope) (sees : SeesHere names w) where
+  module _ (n : ℕ) (d : WrittenDecl) (names : Names) (later : List (List ℕ)) (w : SortScope) (sees : SeesHere names w) where
     abbrev site : Site
     site = site_of tree.decls n d
 

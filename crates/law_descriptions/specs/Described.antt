@@ -9,7 +9,7 @@ use Rattle.pads_typed_tree.specs.declared.expr.Expr.{Expr}
 use Rattle.pads_resolution.specs.declared.visible.Known.{Known}
 use Rattle.pads_resolution.specs.Expressions.{meaning_of}
 use Rattle.pads_resolution.specs.Numbers.{field_number, branch_number, label_number}
-use Rattle.pads_resolution.specs.Scopes.{Scope as Names, known_in}
+use Rattle.pads_resolution.specs.Scopes.{NameScope as Names, known_in}
 use Rattle.pads_rules.specs.Members.{content_of}
 use Rattle.pads_rules.specs.Texts.{is_among, sort_of}
 use Rattle.pads_rules.specs.declared.declared.Content.TheVariants as content
@@ -21,7 +21,7 @@ use Rattle.pads_rules.specs.declared.sort.Form.{Form}
 use Rattle.pads_rules.specs.declared.sort.Form.TheVariants as form
 use Rattle.pads_rules.specs.declared.sort.Sort.{Sort}
 use Rattle.pads_trans_expr.specs.Names.{at_sign}
-use Rattle.law_descriptions.specs.Expressions.{Scope, body_at, part_sort, union_branch, plain_choice, of_elements, meaning_sort, sort_in}
+use Rattle.law_descriptions.specs.Expressions.{SortScope, body_at, part_sort, union_branch, plain_choice, of_elements, meaning_sort, sort_in}
 use Rattle.law_descriptions.specs.Sorts.{truth}
 use Rattle.law_descriptions.specs.WellSorted.{Each}
 
@@ -64,12 +64,12 @@ pub record Describes (written : List WrittenDecl) (env : List Declared) (decls :
 
 module _ (env : List Declared) (decls : List Decl) (sorts : List Sort) where
   -- An expression of a known sort is well-sorted and has it. One of the sort that no operator takes may be any.
-  abbrev pub Typed : Scope → Expr → ExprSort → Type 0
+  abbrev pub Typed : SortScope → Expr → ExprSort → Type 0
   Typed scope e expr_sort.Unknown = ⊥
   Typed scope e expr_sort.Nothing = ⊤
   Typed scope e (expr_sort.Known s) = IsProper env decls s.form × (sort_in decls sorts e scope ≡ Some s)
 
   -- What each name in scope stands for has its sort.
-  abbrev pub Sees : Names → Scope → Type 0
+  abbrev pub Sees : Names → SortScope → Type 0
   Sees names scope = (name : List ℕ) (known : Known) → known_in names name ≡ Some known
       → IsKnown env decls (λ s. meaning_sort decls sorts (meaning_of name known.stands) scope ≡ Some s) known.sort

@@ -19,8 +19,8 @@ use Rattle.pads_typed_tree.specs.declared.decl.Union.TheVariants as union
 use Rattle.pads_expr.specs.declared.expr.BinOp.{BinOp}
 use Rattle.pads_expr.specs.declared.expr.BinOp.TheVariants as operator
 use Rattle.pads_typed_tree.specs.declared.expr.Expr.{Expr, Expr-F, fold-Expr}
-use Rattle.pads_typed_tree.specs.declared.expr.Meaning.{Meaning}
-use Rattle.pads_typed_tree.specs.declared.expr.Meaning.TheVariants as meaning
+use Rattle.pads_typed_tree.specs.declared.expr.NameUse.{NameUse}
+use Rattle.pads_typed_tree.specs.declared.expr.NameUse.TheVariants as meaning
 use Rattle.pads_typed_tree.specs.declared.types.Branch.{Branch}
 use Rattle.pads_typed_tree.specs.declared.types.«Type».{«Type» as Typed}
 use Rattle.pads_trans_expr.specs.Names.{Name, at_sign}
@@ -28,10 +28,10 @@ use Rattle.law_descriptions.specs.Sorts.{num, text, truth, computed_sort, type_s
 
 -- Names with the sorts of what they stand for, the latest binding first. `@` stands for the elements so far
 -- of an array, and for the whole struct or array in its `Pwhere`.
-abbrev pub Scope : Type 0
-Scope = List (Name × Sort)
+abbrev pub SortScope : Type 0
+SortScope = List (Name × Sort)
 
-abbrev pub sort_in_scope : Scope → Name → Option Sort
+abbrev pub sort_in_scope : SortScope → Name → Option Sort
 sort_in_scope scope name = option_map (λ bound. bound.1) (find (λ bound. pointwise nat_eq name bound.0) scope)
 
 -- The sort that the tree tells is the one found.
@@ -219,14 +219,14 @@ module _ (decls : List Decl) (sorts : List Sort) where
   abbrev pub element_sort : Sort → Sort → Option Sort
   element_sort array index = option_and_then (λ number. plainly of_elements array) (plainly number_alone index)
 
-  abbrev pub meaning_sort : Meaning → Scope → Option Sort
+  abbrev pub meaning_sort : NameUse → SortScope → Option Sort
   meaning_sort (meaning.Variable name) scope = sort_in_scope scope name
   meaning_sort meaning.Elts scope = sort_in_scope scope at_sign
   meaning_sort meaning.Length scope = option_and_then (plainly length_sort) (sort_in_scope scope at_sign)
   meaning_sort (meaning.Field number) scope = option_and_then (plainly (part_sort number)) (sort_in_scope scope at_sign)
 
   -- one equation for each form
-  abbrev pub expr_step : Expr-F (Scope → Option Sort) → Scope → Option Sort
+  abbrev pub expr_step : Expr-F (SortScope → Option Sort) → SortScope → Option Sort
   expr_step (Expr-F.Number number) scope = Some num
   expr_step (Expr-F.Word points) scope = Some text
   expr_step (Expr-F.Truth value) scope = Some truth
@@ -246,5 +246,5 @@ module _ (decls : List Decl) (sorts : List Sort) where
       (λ a. option_and_then (λ b. option_and_then (forall_sort a b) (inner ((variable, num) ∷ scope))) (high scope))
       (low scope)
 
-  unfoldable pub sort_in : Expr → Scope → Option Sort
-  sort_in = fold-Expr (Scope → Option Sort) expr_step
+  unfoldable pub sort_in : Expr → SortScope → Option Sort
+  sort_in = fold-Expr (SortScope → Option Sort) expr_step

@@ -33,7 +33,7 @@ use Rattle.pads_typed_tree.specs.declared.types.TypeName.TheVariants as type_nam
 use Rattle.pads_trans.specs.Terms.{label_of}
 use Rattle.pads_trans_expr.specs.Met.{names_of}
 use Rattle.pads_trans_expr.specs.Names.{Name, at_sign}
-use Rattle.law_descriptions.specs.Expressions.{Scope, sort_in, if_read, union_branches}
+use Rattle.law_descriptions.specs.Expressions.{SortScope, sort_in, if_read, union_branches}
 use Rattle.law_descriptions.specs.Sorts.{plain, num, text, truth, computed_sort, type_sort, body_sort}
 
 -- all items of a list, one by one
@@ -70,7 +70,7 @@ abbrev pub IsParam : Param → Type 0
 IsParam param = (param.sort ≡ num) ⊎ (param.sort ≡ text)
 
 -- Parameters are bound in their order.
-abbrev pub params_scope : List Param → Scope → Scope
+abbrev pub params_scope : List Param → SortScope → SortScope
 params_scope [] scope = scope
 params_scope (param ∷ params) scope = params_scope params ((param.name, param.sort) ∷ scope)
 
@@ -79,83 +79,83 @@ param_sorts params = map (λ param. param.sort) params
 
 -- of these declarations, whose values have these sorts
 module _ (decls : List Decl) (sorts : List Sort) where
-  abbrev pub HasSort : Scope → Expr → Sort → Type 0
+  abbrev pub HasSort : SortScope → Expr → Sort → Type 0
   HasSort scope e sort = sort_in decls sorts e scope ≡ Some sort
 
-  abbrev pub IsNumber : Scope → Expr → Type 0
+  abbrev pub IsNumber : SortScope → Expr → Type 0
   IsNumber scope e = HasSort scope e num
 
-  abbrev pub IsTruth : Scope → Expr → Type 0
+  abbrev pub IsTruth : SortScope → Expr → Type 0
   IsTruth scope e = HasSort scope e truth
 
   -- So many arguments, of these sorts.
-  abbrev pub HaveSorts : Scope → List Expr → List Sort → Type 0
+  abbrev pub HaveSorts : SortScope → List Expr → List Sort → Type 0
   HaveSorts scope [] [] = ⊤
   HaveSorts scope [] (sort ∷ wanted) = ⊥
   HaveSorts scope (e ∷ es) [] = ⊥
   HaveSorts scope (e ∷ es) (sort ∷ wanted) = HasSort scope e sort × HaveSorts scope es wanted
 
   -- A constraint, in which a name stands for a value of this sort.
-  abbrev pub IsConstraint : Scope → Name → Sort → Option Expr → Type 0
+  abbrev pub IsConstraint : SortScope → Name → Sort → Option Expr → Type 0
   IsConstraint scope name sort condition = IfThere (IsTruth ((name, sort) ∷ scope)) condition
 
   -- in the declaration of this number
   module _ (number : ℕ) where
     -- A call names an earlier declaration that is read, and has arguments for its parameters.
-    abbrev pub IsCall : Scope → List Expr → ℕ → Type 0
+    abbrev pub IsCall : SortScope → List Expr → ℕ → Type 0
     IsCall scope args n =
         (n < number) × (d : Decl) × (slice_get decls n ≡ Some d) × (if_read d.role d.body ≡ Some d.body)
         × HaveSorts scope args (param_sorts d.params)
 
-    abbrev pub IsNamed : Scope → List Expr → TypeName → Type 0
+    abbrev pub IsNamed : SortScope → List Expr → TypeName → Type 0
     IsNamed scope args (type_name.Base b) = Takes b (HaveSorts scope args)
     IsNamed scope args (type_name.Declared n) = IsCall scope args n
 
-    abbrev pub IsType : Scope → Typed → Type 0
+    abbrev pub IsType : SortScope → Typed → Type 0
     IsType scope t = IsNamed scope t.args t.name
 
     -- A field or a branch: its constraint sees its name.
-    abbrev pub IsBranch : Scope → Branch → Type 0
+    abbrev pub IsBranch : SortScope → Branch → Type 0
     IsBranch scope f = IsType scope f.of × IsConstraint scope f.name (type_sort sorts f.of) f.constraint
 
-    abbrev pub IsPart : Scope → Part → Type 0
+    abbrev pub IsPart : SortScope → Part → Type 0
     IsPart scope (part.Literal l) = ⊤
     IsPart scope (part.Pcompute of name value) = HasSort scope value (computed_sort of)
     IsPart scope (part.Field f) = IsBranch scope f
 
-    abbrev pub behind : Part → Scope → Scope
+    abbrev pub behind : Part → SortScope → SortScope
     behind (part.Literal l) scope = scope
     behind (part.Pcompute of name value) scope = (name, computed_sort of) ∷ scope
     behind (part.Field f) scope = (f.name, type_sort sorts f.of) ∷ scope
 
     -- Later parts see the names of earlier ones.
-    abbrev pub AreParts : Scope → List Part → Type 0
+    abbrev pub AreParts : SortScope → List Part → Type 0
     AreParts scope [] = ⊤
     AreParts scope (p ∷ parts) = IsPart scope p × AreParts (behind p scope) parts
 
-    abbrev pub IsStruct : Scope → Struct → Type 0
+    abbrev pub IsStruct : SortScope → Struct → Type 0
     IsStruct scope s =
         (few s.parts ≡ true) × AreParts scope s.parts × IsConstraint scope at_sign (plain (form.Struct number)) s.condition
 
     -- Case constants are of the sort of the switch's expression.
-    abbrev pub Chooses : Scope → Expr → List Case → Type 0
+    abbrev pub Chooses : SortScope → Expr → List Case → Type 0
     Chooses scope value cases =
         (HasSort scope value num × Each (λ case. IsNumberKey case.key) cases)
         ⊎ (HasSort scope value text × Each (λ case. IsTextKey case.key) cases)
 
-    abbrev pub IsChosen : Scope → Union → Type 0
+    abbrev pub IsChosen : SortScope → Union → Type 0
     IsChosen scope (union.Branches branches) = ⊤
     IsChosen scope (union.Pswitch s) = Chooses scope s.value s.cases
 
-    abbrev pub IsUnion : Scope → Union → Type 0
+    abbrev pub IsUnion : SortScope → Union → Type 0
     IsUnion scope u = (few (union_branches u) ≡ true) × IsChosen scope u × Each (IsBranch scope) (union_branches u)
 
-    abbrev pub IsOption : Scope → ArrayOption → Type 0
+    abbrev pub IsOption : SortScope → ArrayOption → Type 0
     IsOption scope (option.Psep points) = ⊤
     IsOption scope (option.Pterm l) = ⊤
     IsOption scope (option.Plast e) = IsTruth ((at_sign, plain (form.Array number)) ∷ scope) e
 
-    abbrev pub IsArray : Scope → Array → Type 0
+    abbrev pub IsArray : SortScope → Array → Type 0
     IsArray scope a =
         IsType scope a.of × IfThere (IsNumber scope) a.size × Each (IsOption scope) a.options
         × IsConstraint scope at_sign (plain (form.Array number)) a.condition
@@ -163,11 +163,11 @@ module _ (decls : List Decl) (sorts : List Sort) where
     abbrev pub IsEnum : List Label → Type 0
     IsEnum labels = (few labels ≡ true) × SpellingsDiffer (map label_of labels)
 
-    abbrev pub IsTypedef : Scope → Typedef → Type 0
+    abbrev pub IsTypedef : SortScope → Typedef → Type 0
     IsTypedef scope t =
         IsType scope t.of × IfThere (λ c. IsTruth ((c.variable, type_sort sorts t.of) ∷ scope) c.condition) t.constraint
 
-    abbrev pub IsBody : Scope → DeclBody → Type 0
+    abbrev pub IsBody : SortScope → DeclBody → Type 0
     IsBody scope (body.Struct s) = IsStruct scope s
     IsBody scope (body.Union u) = IsUnion scope u
     IsBody scope (body.Array a) = IsArray scope a

@@ -7,7 +7,7 @@ ghost use Rattle.pads_code.specs.declared.Coding.{Coding};
 ghost use Rattle.pads_typed_tree.specs.declared.decl.Decl.{Decl};
 ghost use Rattle.pads_resolution.specs.Expressions.{expression};
 ghost use Rattle.pads_resolution.specs.Resolution.{resolved};
-ghost use Rattle.pads_resolution.specs.Scopes.{Scope as Names};
+ghost use Rattle.pads_resolution.specs.Scopes.{NameScope as Names};
 ghost use Rattle.pads_rules.specs.Judging.{judged};
 ghost use Rattle.pads_rules.specs.NameTokens.{names_in_expr};
 ghost use Rattle.pads_rules.specs.Resolving.{declared};
@@ -17,7 +17,7 @@ ghost use Rattle.law_calculus.specs.Plain.{Plain};
 ghost use Rattle.law_calculus.specs.Sorted.{Sorted};
 ghost use Rattle.pads_rules.specs.declared.sort.Sort.{Sort};
 ghost use Rattle.pads_trans.specs.Modules.{is_module, module_of};
-ghost use Rattle.law_descriptions.specs.Expressions.{Scope};
+ghost use Rattle.law_descriptions.specs.Expressions.{SortScope};
 ghost use Rattle.law_descriptions.specs.WellSorted.{AreSorts, IsDecl, WellSorted};
 ghost use Rattle.pads_resolution.specs.JudgedNames.{judging_scope};
 ghost use Rattle.law_descriptions.specs.Described.{AreSpelled, Describes, Sees, Typed};
@@ -27,11 +27,11 @@ ghost use Rattle.law_descriptions.specs.Known.{known_sorts, IsSpelledTree};
 /// has their sorts: an expression that breaks no rule, and in which no name is spelled `@`, resolves to one of the
 /// sort that the rules give it, and well-sorted where an operator may take it.
 pub fn accepted_expressions_are_sorted()
-    ensures judged { (written : List WrittenDecl) (env : List Declared) (decls : List Decl) (sorts : List Sort) (e : Tree) (names : Names) (later : List (List ℕ)) (scope : Scope)
+    ensures judged { (written : List WrittenDecl) (env : List Declared) (decls : List Decl) (sorts : List Sort) (e : Tree) (names : Names) (later : List (List ℕ)) (scope : SortScope)
         → Describes written env decls sorts → Sees env decls sorts names scope → AreSpelled (names_in_expr e)
         → (judged env e (judging_scope names later)).faults ≡ []
         → (expression written env e names).sort ≡ (judged env e (judging_scope names later)).sort }
-    ensures sorted { (written : List WrittenDecl) (env : List Declared) (decls : List Decl) (sorts : List Sort) (e : Tree) (names : Names) (later : List (List ℕ)) (scope : Scope)
+    ensures sorted { (written : List WrittenDecl) (env : List Declared) (decls : List Decl) (sorts : List Sort) (e : Tree) (names : Names) (later : List (List ℕ)) (scope : SortScope)
         → Describes written env decls sorts → Sees env decls sorts names scope → AreSpelled (names_in_expr e)
         → (judged env e (judging_scope names later)).faults ≡ []
         → Typed env decls sorts scope (expression written env e names).expr (expression written env e names).sort }

@@ -12,6 +12,7 @@
 --   Psbl_  Psbh_     before a kind: binary, low or high byte first, maybe of a size of its own
 use Rattle.std.specs.Prelude.{ℕ, Bool, List, [], ◌∷◌, Option, Some, None, option_map, option_and_then, if◌then◌else◌, codes, take, drop, length}
 use Rattle.std.specs.Str.{bytes_eq}
+use Rattle.pads_value.specs.Words.{find_word}
 use Rattle.pads_int.specs.declared.kind.Kind.{Kind}
 use Rattle.pads_int.specs.declared.kind.Kind.TheVariants.{I8, I16, I32, I64, U8, U16, U32, U64}
 use Rattle.pads_base_names.specs.declared.meaning.BaseName.{BaseName}
@@ -22,14 +23,6 @@ use Rattle.pads_bases.specs.declared.binary.Order.{Order}
 use Rattle.pads_bases.specs.declared.binary.Order.TheVariants as order
 use Rattle.pads_base_names.specs.declared.meaning.Takes.{Takes}
 use Rattle.pads_base_names.specs.declared.meaning.Takes.TheVariants as takes_form
-
-unfoldable pub is_word : List ℕ → List ℕ → Bool
-is_word word text = bytes_eq word text
-
--- what a table has for a word
-abbrev pub find_word : {A : Type 0} → List ℕ → List (List ℕ × A) → Option A
-find_word word [] = None
-find_word word ((text, meaning) ∷ table) = if is_word word text then Some meaning else find_word word table
 
 abbrev pub kinds : List (List ℕ × Kind)
 kinds =

@@ -2,18 +2,13 @@
 
 ghost use Rattle.std.specs.Prelude.{◌≡◌, codes, option_map};
 ghost use Rattle.pads_base_names.specs.Names as names;
-ghost use Rattle.pads_base_names.specs.Names.{is_word, find_word, texts};
+ghost use Rattle.pads_base_names.specs.Names.{texts};
+ghost use Rattle.pads_value.specs.Words.{find_word};
 
 use crate::{BaseName, NamedCoding};
 use pads_bases::Order;
 use pads_int::Kind;
-
-#[tactic(auto, unfolding(crate::specs::Names::is_word))]
-fn is_word(word: &[u8], text: &[u8]) -> bool
-    ensures same { result ≡ is_word word.now text.now }
-{
-    word == text
-}
+use pads_value::is_word;
 
 /// The kind that a word spells.
 #[tactic(auto, unfolding(crate::specs::Names::kind_of))]

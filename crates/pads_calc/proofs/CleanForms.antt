@@ -24,7 +24,7 @@ use Rattle.pads_calc.specs.declared.reading.Reading.{Reading}
 use Rattle.pads_calc.specs.declared.term.Arm.{Arm}
 use Rattle.pads_calc.specs.declared.term.Case.{Case}
 use Rattle.pads_calc.specs.declared.term.Part.{Part}
-use Rattle.pads_calc.specs.declared.term.Result2.{Result2}
+use Rattle.pads_calc.specs.declared.term.ComputedForm.{ComputedForm}
 use Rattle.pads_calc.specs.Arguments.{arguments, bound_to, is_true}
 use Rattle.pads_calc.specs.Calculus.{Caller, read, caller, meaning, body_of, part_reader, arm_reader, case_reader}
 use Rattle.pads_calc.specs.Choices.{branch_of, alt_from, case_at, switch_of}
@@ -96,17 +96,17 @@ module _ (subject : Subject) where
       clean-read base found i (base_reading base found (drop i subject.bytes)) refl (base-takes base found (drop i subject.bytes)) ok
 
   -- a computed field whose expression has a value of its form
-  pub record CleanCompute (form : Result2) (found : Option Worth) (i : ℕ) : Type 0 where
+  pub record CleanCompute (form : ComputedForm) (found : Option Worth) (i : ℕ) : Type 0 where
     pub value : Val
     pub told : computed_told form found ≡ Some value
     pub is : compute_of subject.origin form found i ≡ leaf subject.origin value i i
 
-  clean-value : (form : Result2) (found : Option Worth) (i : ℕ) (value : Option Val) → computed_told form found ≡ value
+  clean-value : (form : ComputedForm) (found : Option Worth) (i : ℕ) (value : Option Val) → computed_told form found ≡ value
       → is_ok (compute_node subject.origin i value) ≡ true → CleanCompute form found i
   clean-value form found i None told ok = let bad = fails-unclean subject.origin cause.Compute i in absurd cc
   clean-value form found i (Some value) told ok = record { value = value; told = told; is = ap (compute_node subject.origin i) told }
 
-  pub clean-compute : (form : Result2) (found : Option Worth) (i : ℕ) → is_ok (compute_of subject.origin form found i) ≡ true → CleanCompute form found i
+  pub clean-compute : (form : ComputedForm) (found : Option Worth) (i : ℕ) → is_ok (compute_of subject.origin form found i) ≡ true → CleanCompute form found i
   clean-compute form found i ok = clean-value form found i (computed_told form found) refl ok
 
 -- a constraint is asked, and true, of a clean reading, which stays as it is

@@ -8,7 +8,7 @@ use Rattle.pads_expr.specs.declared.expr.Expr.{Expr}
 use Rattle.pads_dispatch.specs.declared.base.Base.{Base}
 use Rattle.pads_dispatch.specs.Labels.{labels_fit}
 use Rattle.pads_calc.specs.declared.decl.Decl.{Decl}
-use Rattle.pads_calc.specs.declared.term.Result2.{Result2}
+use Rattle.pads_calc.specs.declared.term.ComputedForm.{ComputedForm}
 use Rattle.pads_calc.specs.declared.term.Arm.{Arm, fold-Arm, fold_out-Arm}
 use Rattle.pads_calc.specs.declared.term.Case.{Case, fold-Case, fold_out-Case}
 use Rattle.pads_calc.specs.declared.term.Part.{Part, fold-Part, fold_out-Part}
@@ -136,7 +136,7 @@ counts-Eor = ap counts_fit (sym term.rolls-Eor) ∙ counts-roll Term-F.Eor
 pub counts-Call : (number : ℕ) (args : List Expr) → counts_fit (term.Call number args) ≡ true
 counts-Call number args = ap counts_fit (sym (term.rolls-Call number args)) ∙ counts-roll (Term-F.Call number args)
 
-pub counts-Compute : (e : Expr) (form : Result2) → counts_fit (term.Compute e form) ≡ true
+pub counts-Compute : (e : Expr) (form : ComputedForm) → counts_fit (term.Compute e form) ≡ true
 counts-Compute e form = ap counts_fit (sym (term.rolls-Compute e form)) ∙ counts-roll (Term-F.Compute e form)
 
 -- every form's counts

@@ -4,7 +4,7 @@ use Rattle.std.proofs.Common.{◌≡◌, sym, ap, refl, subst, arith, ℕ, zero,
 use Rattle.pads_value.specs.declared.cause.Cause.TheVariants as cause
 use Rattle.pads_expr.specs.declared.expr.Expr.{Expr}
 use Rattle.pads_expr.specs.Value.{Pairs, value}
-use Rattle.pads_expr.specs.Worth.{told}
+use Rattle.pads_expr.specs.Worth.{worth_or_none}
 use Rattle.pads_dispatch.specs.declared.base.Arg.{Arg}
 use Rattle.pads_dispatch.specs.declared.base.Base.{Base}
 use Rattle.pads_calc.specs.declared.decl.Decl.{Decl}
@@ -12,7 +12,7 @@ use Rattle.pads_calc.specs.declared.reading.Reading.{Reading}
 use Rattle.pads_calc.specs.declared.term.Arm.{Arm, size-Arm}
 use Rattle.pads_calc.specs.declared.term.Case.{Case, size-Case}
 use Rattle.pads_calc.specs.declared.term.Part.{Part, size-Part}
-use Rattle.pads_calc.specs.declared.term.Result2.{Result2}
+use Rattle.pads_calc.specs.declared.term.ComputedForm.{ComputedForm}
 use Rattle.pads_calc.specs.declared.term.Seq.{Seq, size-Seq}
 use Rattle.pads_calc.specs.declared.term.Term.{Term, Term-F, size-Term, out-Term, roll-Term, roll-out-Term}
 use Rattle.pads_calc.specs.declared.term.Term.TheVariants as term
@@ -60,7 +60,7 @@ module _ (P : Term → Type 0) where
     pub of_guard : (inner : Term) (binder : ℕ) (condition : Expr) → P inner → P (term.Guard inner binder condition)
     pub of_seq : (s : Seq) → InSeq s → P (term.Seq s)
     pub of_call : (number : ℕ) (args : List Expr) → P (term.Call number args)
-    pub of_compute : (e : Expr) (form : Result2) → P (term.Compute e form)
+    pub of_compute : (e : Expr) (form : ComputedForm) → P (term.Compute e form)
     pub of_absorb : (inner : Term) → P inner → P (term.Absorb inner)
     pub of_scan : (inner : Term) → P inner → P (term.Scan inner)
 
@@ -127,8 +127,8 @@ module _ (Holds : ℕ → Term → Pairs → ℕ → Reading → Type 0) (subjec
         → Holds depth (term.Guard inner binder condition) env i (guard_of binder condition env (meaning subject decls depth inner env i))
     pub of_seq : (depth : ℕ) (s : Seq) → InSeq (Reads depth) s → (env : Pairs) (i : ℕ)
         → Holds depth (term.Seq s) env i (seq_of subject (seq_reader subject (caller subject decls depth) s) env i)
-    pub of_compute : (depth : ℕ) (e : Expr) (form : Result2) (env : Pairs) (i : ℕ)
-        → Holds depth (term.Compute e form) env i (compute_of subject.origin form (told (value e env)) i)
+    pub of_compute : (depth : ℕ) (e : Expr) (form : ComputedForm) (env : Pairs) (i : ℕ)
+        → Holds depth (term.Compute e form) env i (compute_of subject.origin form (worth_or_none (value e env)) i)
     pub of_absorb : (depth : ℕ) (inner : Term) → Reads depth inner → (env : Pairs) (i : ℕ)
         → Holds depth (term.Absorb inner) env i (absorb_of (meaning subject decls depth inner env i))
     pub of_scan : (depth : ℕ) (inner : Term) → Reads depth inner → (env : Pairs) (i : ℕ)

@@ -2,13 +2,13 @@
 use Rattle.std.proofs.Common.{◌≡◌, ◌∙◌, sym, ap, refl, ℕ, List, [], ◌∷◌, map, Option, None, Some, option_map}
 use Rattle.pads_expr.specs.declared.expr.Expr.{Expr}
 use Rattle.pads_expr.specs.Value.{Pairs, value}
-use Rattle.pads_expr.specs.Worth.{told}
+use Rattle.pads_expr.specs.Worth.{worth_or_none}
 use Rattle.pads_dispatch.specs.declared.base.Base.{Base}
 use Rattle.pads_calc.specs.declared.reading.Reading.{Reading}
 use Rattle.pads_calc.specs.declared.term.Arm.{Arm, fold-Arm, fold_out-Arm}
 use Rattle.pads_calc.specs.declared.term.Case.{Case, fold-Case, fold_out-Case}
 use Rattle.pads_calc.specs.declared.term.Part.{Part, fold-Part, fold_out-Part}
-use Rattle.pads_calc.specs.declared.term.Result2.{Result2}
+use Rattle.pads_calc.specs.declared.term.ComputedForm.{ComputedForm}
 use Rattle.pads_calc.specs.declared.term.Seq.{Seq, fold-Seq, fold_out-Seq}
 use Rattle.pads_calc.specs.declared.term.Term.{Term, Term-F, fold-Term, fold-roll-Term, roll-Term, map-Term}
 use Rattle.pads_calc.specs.declared.term.Term.TheShapes.{former-Seq-sep}
@@ -127,7 +127,7 @@ module _ (subject : Subject) (call : Caller) where
   read-Call number args env i =
       ap (λ t. read subject call t env i) (sym (term.rolls-Call number args)) ∙ ap (λ (r : Reader). r env i) (read-roll (Term-F.Call number args))
 
-  pub read-Compute : (e : Expr) (form : Result2) (env : Pairs) (i : ℕ) → read subject call (term.Compute e form) env i ≡ compute_of subject.origin form (told (value e env)) i
+  pub read-Compute : (e : Expr) (form : ComputedForm) (env : Pairs) (i : ℕ) → read subject call (term.Compute e form) env i ≡ compute_of subject.origin form (worth_or_none (value e env)) i
   read-Compute e form env i =
       ap (λ t. read subject call t env i) (sym (term.rolls-Compute e form)) ∙ ap (λ (r : Reader). r env i) (read-roll (Term-F.Compute e form))
 

@@ -7,7 +7,7 @@ use Rattle.pads_dispatch.specs.declared.base.Base.{Base}
 use Rattle.pads_calc.specs.declared.term.Arm.{Arm, fold-Arm, fold_out-Arm}
 use Rattle.pads_calc.specs.declared.term.Case.{Case, fold-Case, fold_out-Case}
 use Rattle.pads_calc.specs.declared.term.Part.{Part, fold-Part, fold_out-Part}
-use Rattle.pads_calc.specs.declared.term.Result2.{Result2}
+use Rattle.pads_calc.specs.declared.term.ComputedForm.{ComputedForm}
 use Rattle.pads_calc.specs.declared.term.Seq.{Seq, fold-Seq, fold_out-Seq}
 use Rattle.pads_calc.specs.declared.term.Term.{Term, Term-F, fold-Term, fold-roll-Term, roll-Term, map-Term}
 use Rattle.pads_calc.specs.declared.term.Term.TheShapes.{former-Seq-sep}
@@ -114,7 +114,7 @@ module _ (names : ℕ) (arities : List ℕ) where
       ≡ (has_arity (slice_get arities number) (length args) && exprs_in_scope names args scope)
   in-Call number args scope = ap (λ t. in_scope names arities t scope) (sym (term.rolls-Call number args)) ∙ in-roll (Term-F.Call number args) scope
 
-  pub in-Compute : (e : Expr) (form : Result2) (scope : List ℕ) → in_scope names arities (term.Compute e form) scope ≡ expr_in_scope names e scope
+  pub in-Compute : (e : Expr) (form : ComputedForm) (scope : List ℕ) → in_scope names arities (term.Compute e form) scope ≡ expr_in_scope names e scope
   in-Compute e form scope = ap (λ t. in_scope names arities t scope) (sym (term.rolls-Compute e form)) ∙ in-roll (Term-F.Compute e form) scope
 
   pub in-Absorb : (inner : Term) (scope : List ℕ) → in_scope names arities (term.Absorb inner) scope ≡ in_scope names arities inner scope

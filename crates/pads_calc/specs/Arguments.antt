@@ -4,7 +4,7 @@ use Rattle.pads_value.specs.declared.value.Val.{Val}
 use Rattle.pads_value.specs.declared.value.Val.TheVariants as val
 use Rattle.pads_expr.specs.declared.expr.Expr.{Expr}
 use Rattle.pads_expr.specs.Value.{Pairs, value}
-use Rattle.pads_expr.specs.Worth.{Worth, told}
+use Rattle.pads_expr.specs.Worth.{Worth, worth_or_none}
 use Rattle.pads_expr.specs.Worth as worth
 use Rattle.pads_dispatch.specs.declared.base.Arg.{Arg}
 use Rattle.pads_dispatch.specs.declared.base.Arg.TheVariants as arg
@@ -21,7 +21,7 @@ arg_told None = None
 arg_told (Some found) = arg_of_worth found
 
 abbrev pub argument : Expr → Pairs → Option Arg
-argument e env = arg_told (told (value e env))
+argument e env = arg_told (worth_or_none (value e env))
 
 -- the arguments, where each has a value
 abbrev pub and_more : Option Arg → Option (List Arg) → Option (List Arg)
@@ -45,7 +45,7 @@ is_true_told None = false
 is_true_told (Some found) = is_true_worth found
 
 abbrev pub is_true : Expr → Pairs → Bool
-is_true e env = is_true_told (told (value e env))
+is_true e env = is_true_told (worth_or_none (value e env))
 
 abbrev pub value_of_arg : Arg → Val
 value_of_arg (arg.Num number) = val.Num number

@@ -21,7 +21,7 @@ use Rattle.pads_calc.specs.Readings.{Subject, Reader, fails}
 use Rattle.pads_calc.specs.Structs.{Named, in_turn, struct_of}
 use Rattle.pads_calc.specs.Wrappers.{guard_of, absorb_of, scan}
 use Rattle.pads_expr.specs.Value.{value}
-use Rattle.pads_expr.specs.Worth.{told}
+use Rattle.pads_expr.specs.Worth.{worth_or_none}
 
 -- what a call of a declaration with such arguments reads as
 abbrev pub Caller : Type 0
@@ -41,7 +41,7 @@ module _ (subject : Subject) (call : Caller) where
   term_step (Term-F.Guard inner binder condition) env i = guard_of binder condition env (inner env i)
   term_step (Term-F.Seq s) env i = seq_of subject s env i
   term_step (Term-F.Call number args) env i = call number args env i
-  term_step (Term-F.Compute e form) env i = compute_of subject.origin form (told (value e env)) i
+  term_step (Term-F.Compute e form) env i = compute_of subject.origin form (worth_or_none (value e env)) i
   term_step (Term-F.Absorb inner) env i = absorb_of (inner env i)
   term_step (Term-F.Scan inner) env i = scan subject inner env i
 

@@ -12,8 +12,8 @@ use Rattle.pads_dispatch.specs.declared.base.Arg.{Arg}
 use Rattle.pads_dispatch.specs.declared.base.Base.{Base}
 use Rattle.pads_dispatch.specs.Readings.{base_reading}
 use Rattle.pads_calc.specs.declared.reading.Reading.{Reading}
-use Rattle.pads_calc.specs.declared.term.Result2.{Result2}
-use Rattle.pads_calc.specs.declared.term.Result2.TheVariants as form
+use Rattle.pads_calc.specs.declared.term.ComputedForm.{ComputedForm}
+use Rattle.pads_calc.specs.declared.term.ComputedForm.TheVariants as form
 use Rattle.pads_calc.specs.Readings.{Subject, leaf, fails, faulty}
 
 -- nothing
@@ -45,7 +45,7 @@ base_of subject base None i = fails subject.origin cause.BadParam i
 base_of subject base (Some args) i = base_node subject.origin i (base_reading base args (drop i subject.bytes))
 
 -- the value of a computed field: a number in the range, or a text
-abbrev pub computed : Result2 → Worth → Option Val
+abbrev pub computed : ComputedForm → Worth → Option Val
 computed (form.Range least greatest) (worth.Num number) =
     if int_le least number && int_le number greatest then Some (val.Num number) else None
 computed (form.Range least greatest) (worth.Text text) = None
@@ -56,7 +56,7 @@ computed form.Text (worth.Text text) = Some (val.Text text)
 computed form.Text (worth.Truth truth) = None
 computed form.Text (worth.Part part) = None
 
-abbrev pub computed_told : Result2 → Option Worth → Option Val
+abbrev pub computed_told : ComputedForm → Option Worth → Option Val
 computed_told form None = None
 computed_told form (Some found) = computed form found
 
@@ -64,5 +64,5 @@ abbrev pub compute_node : ℕ → ℕ → Option Val → Reading
 compute_node origin i None = fails origin cause.Compute i
 compute_node origin i (Some value) = leaf origin value i i
 
-abbrev pub compute_of : ℕ → Result2 → Option Worth → ℕ → Reading
+abbrev pub compute_of : ℕ → ComputedForm → Option Worth → ℕ → Reading
 compute_of origin form found i = compute_node origin i (computed_told form found)

@@ -9,10 +9,10 @@ ghost use Rattle.pads_dispatch.specs.Labels.{labels_fit};
 ghost use Rattle.pads_dispatch.specs.Sizes.{taken};
 ghost use Rattle.pads_expr.specs.Seen.{seen};
 ghost use Rattle.pads_expr.specs.Value.{value};
-ghost use Rattle.pads_expr.specs.Worth.{told};
+ghost use Rattle.pads_expr.specs.Worth.{worth_or_none};
 
 use crate::args::arguments_in;
-use crate::{Args, Base, Reading, Record, Result2};
+use crate::{Args, Base, Reading, Record, ComputedForm};
 use pads_dispatch::read_base;
 use pads_expr::{Binding, Env, Expr, Res, eval_in};
 use pads_value::{Cause, Items, Memory, Read, Val};
@@ -154,12 +154,12 @@ impl<'a> Record<'a> {
         &self,
         alloc: Global,
         e: &Expr,
-        form: &Result2,
+        form: &ComputedForm,
         bindings: &[Binding],
         place: u64,
     ) -> Result<Reading, Memory>
         requires { place ≤ length self.now.bytes.now }
-        ensures computed { IfOk result (λ r. r ≡ compute_of self.now.origin form.now (told (value e.now (reverse bindings.now))) place) }
+        ensures computed { IfOk result (λ r. r ≡ compute_of self.now.origin form.now (worth_or_none (value e.now (reverse bindings.now))) place) }
         ensures within { IfOk result (λ r. EndsWithin self.now.bytes.now place r) }
     {
         let value = computed_value(alloc, *form, eval_in(e, bindings))?;
@@ -174,12 +174,12 @@ impl<'a> Record<'a> {
         &self,
         alloc: Global,
         e: &Expr,
-        form: &Result2,
+        form: &ComputedForm,
         env: &Env,
         place: u64,
     ) -> Result<Reading, Memory>
         requires { place ≤ length self.now.bytes.now }
-        ensures computed { IfOk result (λ r. r ≡ compute_of self.now.origin form.now (told (value e.now env.now.pairs)) place) }
+        ensures computed { IfOk result (λ r. r ≡ compute_of self.now.origin form.now (worth_or_none (value e.now env.now.pairs)) place) }
         ensures within { IfOk result (λ r. EndsWithin self.now.bytes.now place r) }
     {
         self.computed_in(alloc, e, form, env.as_slice(), place)
@@ -187,18 +187,18 @@ impl<'a> Record<'a> {
 }
 
 /// What a computed field's expression is worth, where it has the form that is asked for.
-fn computed_value(alloc: Global, form: Result2, found: Option<Res>) -> Result<Option<Val>, Memory>
+fn computed_value(alloc: Global, form: ComputedForm, found: Option<Res>) -> Result<Option<Val>, Memory>
     ensures value { IfOk result (λ value. value ≡ computed_told form (option_map seen found.entry)) }
 {
     Ok(match (form, found) {
-        (Result2::Range(least, greatest), Some(Res::Num(number))) => {
+        (ComputedForm::Range(least, greatest), Some(Res::Num(number))) => {
             if least <= number && number <= greatest {
                 Some(Val::Num(number))
             } else {
                 None
             }
         }
-        (Result2::Text, Some(Res::Text(text))) => Some(Val::Text(Items::from_slice(alloc, text)?)),
+        (ComputedForm::Text, Some(Res::Text(text))) => Some(Val::Text(Items::from_slice(alloc, text)?)),
         _ => None,
     })
 }

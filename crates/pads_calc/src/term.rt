@@ -39,7 +39,7 @@ pub enum Term {
     /// A declaration by its number, with its arguments.
     Call(u16, Exprs),
     /// The value of an expression, over no bytes.
-    Compute(Expr, Result2),
+    Compute(Expr, ComputedForm),
     /// A term whose value isn't kept.
     Absorb(Boxed<Term>),
     /// A term at the first place from here on at which it reads without a fault.
@@ -95,7 +95,7 @@ pub enum Key {
 
 /// What a computed field is to be: a number from the first to the second, or a text.
 #[derive(Clone, Copy, Debug)]
-pub enum Result2 {
+pub enum ComputedForm {
     Range(i128, i128),
     Text,
 }

@@ -11,7 +11,7 @@ use Rattle.pads_value.specs.declared.value.Val.TheVariants as val
 use Rattle.pads_int.specs.Spellings.{widest}
 use Rattle.pads_expr.specs.declared.expr.Expr.{Expr}
 use Rattle.pads_expr.specs.Value.{Pairs, value}
-use Rattle.pads_expr.specs.Worth.{told}
+use Rattle.pads_expr.specs.Worth.{worth_or_none}
 use Rattle.pads_calc.specs.declared.decl.Decl.{Decl}
 use Rattle.pads_calc.specs.declared.reading.Reading.{Reading}
 use Rattle.pads_calc.specs.declared.term.Arm.{Arm}
@@ -285,10 +285,10 @@ module _ (subject : Subject) (decls : List Decl) (modules : Plain decls) (bounde
         }));
     of_seq = λ depth s h env i number is_plain ok. seq-has depth number s h is_plain env i ok;
     of_compute = λ depth e form env i number is_plain ok. (
-        let clean = clean-compute subject form (told (value e env)) i ok in
+        let clean = clean-compute subject form (worth_or_none (value e env)) i ok in
         by depth (term.Compute e form) env i _ _ clean.is (record {
           bytes = [];
-          is = spelled-Compute (speller depth) e form env clean.value ∙ computed-bytes form (told (value e env)) clean.value clean.told;
+          is = spelled-Compute (speller depth) e form env clean.value ∙ computed-bytes form (worth_or_none (value e env)) clean.value clean.told;
           short = omega arith;
           fits = fit.compute e form clean.told;
         }));

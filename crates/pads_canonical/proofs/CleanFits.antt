@@ -10,7 +10,7 @@ use Rattle.pads_value.specs.declared.cause.Cause.TheVariants as cause
 use Rattle.pads_value.specs.declared.value.Val.{Val}
 use Rattle.pads_value.specs.declared.value.Val.TheVariants as val
 use Rattle.pads_expr.specs.Value.{Pairs, value}
-use Rattle.pads_expr.specs.Worth.{told}
+use Rattle.pads_expr.specs.Worth.{worth_or_none}
 use Rattle.pads_dispatch.proofs.BaseLaws.{base_spelled}
 use Rattle.pads_calc.specs.declared.decl.Decl.{Decl}
 use Rattle.pads_calc.specs.declared.reading.Reading.{Reading}
@@ -191,7 +191,7 @@ module _ (subject : Subject) (decls : List Decl) where
         by depth (term.Guard inner binder condition) env i _ _ clean.is (record { forth = here.forth; fits = fit.guard binder condition clean.holds here.fits }));
     of_seq = λ depth s h env i ok. seq-fits depth s h env i ok;
     of_compute = λ depth e form env i ok. (
-        let clean = clean-compute subject form (told (value e env)) i ok in
+        let clean = clean-compute subject form (worth_or_none (value e env)) i ok in
         by depth (term.Compute e form) env i _ _ clean.is (at-once depth (term.Compute e form) env i clean.value (fit.compute e form clean.told)));
     of_absorb = λ depth inner h env i ok. (
         let r = meaning subject decls depth inner env i in

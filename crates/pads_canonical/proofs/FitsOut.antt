@@ -3,7 +3,7 @@ use Rattle.std.proofs.Common.{◌≡◌, sym, refl, subst, ℕ, suc, Bool, true,
 use Rattle.pads_value.specs.declared.value.Val.{Val}
 use Rattle.pads_value.specs.declared.value.Val.TheVariants as val
 use Rattle.pads_expr.specs.Value.{Pairs, value}
-use Rattle.pads_expr.specs.Worth.{told}
+use Rattle.pads_expr.specs.Worth.{worth_or_none}
 use Rattle.pads_dispatch.specs.declared.base.Arg.{Arg}
 use Rattle.pads_dispatch.specs.Texts.{SpellsBase}
 use Rattle.pads_calc.specs.declared.decl.Decl.{Decl}
@@ -38,7 +38,7 @@ module _ (decls : List Decl) where
   OutOf depth (Term-F.Call number args) env v bytes =
       (less : ℕ) × (found : List Arg) × (decl : Decl) × (depth ≡ suc less) × (arguments args env ≡ Some found) × (slice_get decls number ≡ Some decl)
       × Fits decls less decl.body (bound_to decl.params found []) v bytes
-  OutOf depth (Term-F.Compute e form) env v bytes = (computed_told form (told (value e env)) ≡ Some v) × (bytes ≡ [])
+  OutOf depth (Term-F.Compute e form) env v bytes = (computed_told form (worth_or_none (value e env)) ≡ Some v) × (bytes ≡ [])
   OutOf depth (Term-F.Absorb inner) env v bytes = (inside : Val) × (v ≡ val.Unit) × Fits decls depth inner env inside bytes
   OutOf depth (Term-F.Scan inner) env v bytes = Fits decls depth inner env v bytes
 

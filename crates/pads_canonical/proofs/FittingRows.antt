@@ -8,7 +8,7 @@ use Rattle.pads_value.specs.declared.value.Val.{Val, out-Val}
 use Rattle.pads_value.specs.declared.value.Val.TheVariants as val
 use Rattle.pads_expr.specs.declared.expr.Expr.TheVariants as expr
 use Rattle.pads_expr.specs.Value.{Pairs}
-use Rattle.pads_expr.specs.Worth.{told}
+use Rattle.pads_expr.specs.Worth.{worth_or_none}
 use Rattle.pads_expr.proofs.Steps.{value-Num, value-Truth}
 use Rattle.pads_dispatch.specs.Applied.{integer}
 use Rattle.pads_dispatch.specs.Texts.{SpellsBase}
@@ -18,7 +18,7 @@ use Rattle.pads_calc.specs.declared.decl.Decl.{Decl}
 use Rattle.pads_calc.specs.declared.term.Arm.{Arm}
 use Rattle.pads_calc.specs.declared.term.Case.{Case}
 use Rattle.pads_calc.specs.declared.term.Part.{Part}
-use Rattle.pads_calc.specs.declared.term.Result2.TheVariants as form
+use Rattle.pads_calc.specs.declared.term.ComputedForm.TheVariants as form
 use Rattle.pads_calc.specs.declared.term.Seq.{Seq}
 use Rattle.pads_calc.specs.declared.term.Term.{Term, Term-F, out-Term}
 use Rattle.pads_calc.specs.declared.term.Term.TheVariants as term
@@ -89,14 +89,14 @@ switch-fits = fit.switch (expr.Num (pos 1)) cases 0 refl (fit.base u8 [] refl sp
 pub compute-fits : Fits [] 0 worked_out [] (num 7) []
 compute-fits =
     fit.compute (expr.Num (pos 7)) (form.Range (pos 0) (pos 255))
-    (ap (λ found. computed_told (form.Range (pos 0) (pos 255)) (told found)) (value-Num (pos 7) []))
+    (ap (λ found. computed_told (form.Range (pos 0) (pos 255)) (worth_or_none found)) (value-Num (pos 7) []))
 
 -- a constraint that isn't met
 pub constraint : (bytes : List ℕ) → Fits [] 0 barred [] (num 7) bytes → ⊥
 constraint bytes h =
     let env : Pairs = (0, num 7) ∷ [] in
     let met = (out 0 barred (Term-F.Guard number 0 (expr.Truth false)) [] (num 7) bytes (term.outs-Guard number 0 (expr.Truth false)) h).0 in
-    let unmet : is_true (expr.Truth false) env ≡ false = ap (λ found. is_true_told (told found)) (value-Truth false env) in
+    let unmet : is_true (expr.Truth false) env ≡ false = ap (λ found. is_true_told (worth_or_none found)) (value-Truth false env) in
     absurd (both_ways (is_true (expr.Truth false) env) unmet met)
 
 -- a mark has its literal's bytes
@@ -125,7 +125,7 @@ no_literal v h =
 -- an array of more elements than its size
 size-is : (env : Pairs) (size : Option ℕ) → size_at few.size env ≡ Some size → size ≡ Some 2
 size-is env size sized =
-    let two : size_at few.size env ≡ Some (Some 2) = ap (λ found. option_map Some (size_of_arg (arg_told (told found)))) (value-Num (pos 2) env) in cc
+    let two : size_at few.size env ≡ Some (Some 2) = ap (λ found. option_map Some (size_of_arg (arg_told (worth_or_none found)))) (value-Num (pos 2) env) in cc
 
 lengths : Val → ℕ
 lengths v = length (unwrap_or (array_in (out-Val v)) [])

@@ -8,7 +8,7 @@ use Rattle.pads_dispatch.specs.declared.base.Base.{Base}
 use Rattle.pads_calc.specs.declared.term.Arm.{Arm, fold-Arm, fold_out-Arm}
 use Rattle.pads_calc.specs.declared.term.Case.{Case, fold-Case, fold_out-Case}
 use Rattle.pads_calc.specs.declared.term.Part.{Part, fold-Part, fold_out-Part}
-use Rattle.pads_calc.specs.declared.term.Result2.{Result2}
+use Rattle.pads_calc.specs.declared.term.ComputedForm.{ComputedForm}
 use Rattle.pads_calc.specs.declared.term.Seq.{Seq, fold-Seq, fold_out-Seq}
 use Rattle.pads_calc.specs.declared.term.Term.{Term, Term-F, fold-roll-Term, roll-Term, map-Term}
 use Rattle.pads_calc.specs.declared.term.Term.TheShapes.{former-Seq-sep}
@@ -122,7 +122,7 @@ module _ (call : CallSpeller) where
   spelled-Call number args env v =
       ap (λ t. spelled call t env v) (sym (term.rolls-Call number args)) ∙ ap (λ (s : Speller). s env v) (spelled-roll (Term-F.Call number args))
 
-  pub spelled-Compute : (e : Expr) (form : Result2) (env : Pairs) (v : Val) → spelled call (term.Compute e form) env v ≡ of_computed form v
+  pub spelled-Compute : (e : Expr) (form : ComputedForm) (env : Pairs) (v : Val) → spelled call (term.Compute e form) env v ≡ of_computed form v
   spelled-Compute e form env v =
       ap (λ t. spelled call t env v) (sym (term.rolls-Compute e form)) ∙ ap (λ (s : Speller). s env v) (spelled-roll (Term-F.Compute e form))
 

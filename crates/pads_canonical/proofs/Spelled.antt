@@ -8,8 +8,8 @@ use Rattle.pads_expr.specs.Worth.{Worth}
 use Rattle.pads_expr.specs.Worth as worth
 use Rattle.pads_dispatch.specs.declared.base.Arg.{Arg}
 use Rattle.pads_calc.specs.declared.decl.Decl.{Decl}
-use Rattle.pads_calc.specs.declared.term.Result2.{Result2}
-use Rattle.pads_calc.specs.declared.term.Result2.TheVariants as form
+use Rattle.pads_calc.specs.declared.term.ComputedForm.{ComputedForm}
+use Rattle.pads_calc.specs.declared.term.ComputedForm.TheVariants as form
 use Rattle.pads_calc.specs.Arguments.{arguments, bound_to}
 use Rattle.pads_calc.specs.Leaves.{computed_told}
 use Rattle.pads_forms.specs.Shapes.{num_in, text_in, tuple_in, branch_in, array_in}
@@ -41,7 +41,7 @@ ranged least greatest number true v within is =
     ap (of_computed (form.Range least greatest)) (sym same) ∙ ap (λ layer. in_range least greatest (num_in layer)) (val.outs-Num number)
     ∙ ap (λ (truth : Bool). if truth then Some [] else None) within
 
-pub computed-bytes : (form : Result2) (found : Option Worth) (v : Val) → computed_told form found ≡ Some v → of_computed form v ≡ Some []
+pub computed-bytes : (form : ComputedForm) (found : Option Worth) (v : Val) → computed_told form found ≡ Some v → of_computed form v ≡ Some []
 computed-bytes (form.Range least greatest) None v is = absurd cc
 computed-bytes (form.Range least greatest) (Some (worth.Num number)) v is = ranged least greatest number (int_le least number && int_le number greatest) v refl is
 computed-bytes (form.Range least greatest) (Some (worth.Text text)) v is = absurd cc

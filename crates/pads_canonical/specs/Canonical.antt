@@ -12,8 +12,8 @@ use Rattle.pads_calc.specs.declared.decl.Decl.{Decl}
 use Rattle.pads_calc.specs.declared.term.Arm.{Arm-F}
 use Rattle.pads_calc.specs.declared.term.Case.{Case-F}
 use Rattle.pads_calc.specs.declared.term.Part.{Part-F}
-use Rattle.pads_calc.specs.declared.term.Result2.{Result2}
-use Rattle.pads_calc.specs.declared.term.Result2.TheVariants as form
+use Rattle.pads_calc.specs.declared.term.ComputedForm.{ComputedForm}
+use Rattle.pads_calc.specs.declared.term.ComputedForm.TheVariants as form
 use Rattle.pads_calc.specs.declared.term.Seq.{Seq-F}
 use Rattle.pads_calc.specs.declared.term.Term.{Term, Term-F, fold-Term}
 use Rattle.pads_calc.specs.Arguments.{arguments, bound_to}
@@ -72,7 +72,7 @@ abbrev pub any_text : Option (List ℕ) → Option (List ℕ)
 any_text None = None
 any_text (Some text) = Some []
 
-abbrev pub of_computed : Result2 → Val → Option (List ℕ)
+abbrev pub of_computed : ComputedForm → Val → Option (List ℕ)
 of_computed (form.Range least greatest) v = in_range least greatest (num_in (out-Val v))
 of_computed form.Text v = any_text (text_in (out-Val v))
 

@@ -6,7 +6,7 @@ use Rattle.pads_value.specs.declared.value.Val.{Val}
 use Rattle.pads_value.specs.declared.value.Val.TheVariants as val
 use Rattle.pads_expr.specs.declared.expr.Expr.{Expr}
 use Rattle.pads_expr.specs.Value.{Pairs, value}
-use Rattle.pads_expr.specs.Worth.{told}
+use Rattle.pads_expr.specs.Worth.{worth_or_none}
 use Rattle.pads_dispatch.specs.declared.base.Arg.{Arg}
 use Rattle.pads_dispatch.specs.declared.base.Base.{Base}
 use Rattle.pads_dispatch.specs.Texts.{SpellsBase}
@@ -14,7 +14,7 @@ use Rattle.pads_calc.specs.declared.decl.Decl.{Decl}
 use Rattle.pads_calc.specs.declared.term.Arm.{Arm}
 use Rattle.pads_calc.specs.declared.term.Case.{Case}
 use Rattle.pads_calc.specs.declared.term.Part.{Part}
-use Rattle.pads_calc.specs.declared.term.Result2.{Result2}
+use Rattle.pads_calc.specs.declared.term.ComputedForm.{ComputedForm}
 use Rattle.pads_calc.specs.declared.term.Seq.{Seq}
 use Rattle.pads_calc.specs.declared.term.Term.{Term}
 use Rattle.pads_calc.specs.declared.term.Term.TheVariants as term
@@ -51,8 +51,8 @@ mutual
     call : {depth : ℕ} (number : ℕ) (args : List Expr) {found : List Arg} {decl : Decl} {env : Pairs} {v : Val} {bytes : List ℕ}
         → arguments args env ≡ Some found → slice_get decls number ≡ Some decl → Fits decls depth decl.body (bound_to decl.params found []) v bytes
         → Fits decls (suc depth) (term.Call number args) env v bytes
-    compute : {depth : ℕ} (e : Expr) (form : Result2) {env : Pairs} {v : Val}
-        → computed_told form (told (value e env)) ≡ Some v → Fits decls depth (term.Compute e form) env v []
+    compute : {depth : ℕ} (e : Expr) (form : ComputedForm) {env : Pairs} {v : Val}
+        → computed_told form (worth_or_none (value e env)) ≡ Some v → Fits decls depth (term.Compute e form) env v []
     absorb : {depth : ℕ} {inner : Term} {env : Pairs} {v : Val} {bytes : List ℕ} → Fits decls depth inner env v bytes → Fits decls depth (term.Absorb inner) env val.Unit bytes
     scan : {depth : ℕ} {inner : Term} {env : Pairs} {v : Val} {bytes : List ℕ} → Fits decls depth inner env v bytes → Fits decls depth (term.Scan inner) env v bytes
 

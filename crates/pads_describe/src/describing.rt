@@ -1,7 +1,7 @@
 //! What an accepted text describes.
 
 ghost use Rattle.std.specs.Prelude.{IfOk};
-ghost use Rattle.pads_describe.specs.Answers.{OnFault};
+ghost use Rattle.pads_value.specs.Refusals.{OnFault};
 ghost use Rattle.pads_describe.specs.Describing.{Describes};
 ghost use Rattle.pads_describe.specs.Verdicts.{IsRefused};
 ghost use Rattle.law_calculus.specs.Plain.{Plain};

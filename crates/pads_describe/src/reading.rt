@@ -2,7 +2,7 @@
 
 ghost use Rattle.std.specs.Prelude.{◌≤◌, IfOk, length};
 ghost use Rattle.pads_lex.specs.Answers.{EndsLast};
-ghost use Rattle.pads_describe.specs.Answers.{OnFault};
+ghost use Rattle.pads_value.specs.Refusals.{OnFault};
 ghost use Rattle.pads_describe.specs.Trees.{HasTokens, HasTree, longest};
 ghost use Rattle.pads_describe.specs.Verdicts.{IsRefused};
 

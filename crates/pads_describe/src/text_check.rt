@@ -1,7 +1,8 @@
 //! Whether a text is accepted.
 
 ghost use Rattle.std.specs.Prelude.{◌≡◌, [], IfOk, length};
-ghost use Rattle.pads_describe.specs.Answers.{IsAcceptedWith, OnFault};
+ghost use Rattle.pads_describe.specs.Answers.{IsAcceptedWith};
+ghost use Rattle.pads_value.specs.Refusals.{OnFault};
 ghost use Rattle.pads_describe.specs.Trees.{HasTree, IsAccepted};
 ghost use Rattle.pads_describe.specs.Verdicts.{IsRefused};
 ghost use Rattle.pads_resolution.specs.Resolution.{resolved};

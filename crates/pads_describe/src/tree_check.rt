@@ -3,7 +3,7 @@
 ghost use Rattle.std.specs.Prelude.{◌≡◌, Some, [], IfOk};
 ghost use Rattle.pads_rules.specs.Faults.{least};
 ghost use Rattle.pads_rules.specs.Violations.{violations};
-ghost use Rattle.pads_describe.specs.Answers.{OnFault};
+ghost use Rattle.pads_value.specs.Refusals.{OnFault};
 ghost use Rattle.pads_describe.specs.Checked.{Accepts};
 
 use crate::Checked;

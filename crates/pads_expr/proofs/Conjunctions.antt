@@ -8,7 +8,7 @@ use Rattle.pads_expr.specs.Ranges.{conjunction, count_between, longest_range, ra
 use Rattle.pads_value.specs.declared.value.Val.TheVariants as val
 use Rattle.pads_expr.specs.declared.expr.Expr.{Expr}
 use Rattle.pads_expr.specs.Value.{Pairs, value, at_number}
-use Rattle.pads_expr.specs.Worth.{Worth, Num, Text, Truth, Part, Answer, Is, Absent, Ill, told, is_true, truth_alone}
+use Rattle.pads_expr.specs.Worth.{Worth, Num, Text, Truth, Part, Answer, Is, Absent, Ill, worth_or_none, is_true, truth_alone}
 
 -- the numbers of a range are between its bounds, so they fit
 pub in_range : (first last : ℤ) (step : ℕ) → FitsSigned w128 first → FitsSigned w128 last → step < count_between first last → FitsSigned w128 (first +ℤ pos step)
@@ -25,7 +25,7 @@ in_range_size first last step size fits_first fits_last is_size inside =
     size_is false e = cc
 
 -- where all that came before is true, what holds next decides
-next : (a b : Answer) → told a ≡ Some (Truth true) → told (between And a b) ≡ truth_alone (told b)
+next : (a b : Answer) → worth_or_none a ≡ Some (Truth true) → worth_or_none (between And a b) ≡ truth_alone (worth_or_none b)
 next (Is (Truth true)) (Is (Num _)) e = refl
 next (Is (Truth true)) (Is (Text _)) e = refl
 next (Is (Truth true)) (Is (Truth true)) e = refl
@@ -49,7 +49,7 @@ settles (Some (Truth true)) = false
 settles (Some (Truth false)) = true
 settles (Some (Part _)) = false
 
-stays : (a b : Answer) → settles (told a) ≡ true → told (between And a b) ≡ told a
+stays : (a b : Answer) → settles (worth_or_none a) ≡ true → worth_or_none (between And a b) ≡ worth_or_none a
 unfolding settles
 stays (Is (Truth true)) b e = cc
 stays (Is (Truth false)) b e = refl
@@ -78,43 +78,43 @@ true_alone (Some (Part _)) e = cc
 
 module _ (holds : ℤ → Answer) (first : ℤ) where
   -- one more that is true
-  pub all_true : (count : ℕ) (here : Option Worth) → told (conjunction holds first count) ≡ Some (Truth true) →
-      here ≡ told (holds (first +ℤ pos count)) → is_true here ≡ true → told (conjunction holds first (count + 1)) ≡ Some (Truth true)
+  pub all_true : (count : ℕ) (here : Option Worth) → worth_or_none (conjunction holds first count) ≡ Some (Truth true) →
+      here ≡ worth_or_none (holds (first +ℤ pos count)) → is_true here ≡ true → worth_or_none (conjunction holds first (count + 1)) ≡ Some (Truth true)
   all_true count here so_far e so = rw add-one (next (conjunction holds first count) _ so_far ∙ ap truth_alone (sym e) ∙ true_alone here so)
 
-  settled_after : (count more : ℕ) → settles (told (conjunction holds first count)) ≡ true →
-      told (conjunction holds first (more + count)) ≡ told (conjunction holds first count)
+  settled_after : (count more : ℕ) → settles (worth_or_none (conjunction holds first count)) ≡ true →
+      worth_or_none (conjunction holds first (more + count)) ≡ worth_or_none (conjunction holds first count)
   settled_after count zero e = rw zero-add refl
   settled_after count (suc more) e =
-      let rest : told (conjunction holds first (more + count)) ≡ told (conjunction holds first count) = settled_after count more e in
-      let again : settles (told (conjunction holds first (more + count))) ≡ true = ap settles rest ∙ e in
+      let rest : worth_or_none (conjunction holds first (more + count)) ≡ worth_or_none (conjunction holds first count) = settled_after count more e in
+      let again : settles (worth_or_none (conjunction holds first (more + count))) ≡ true = ap settles rest ∙ e in
       let n : suc more + count ≡ suc (more + count) = omega arith in
       rw n (stays (conjunction holds first (more + count)) _ again ∙ rest)
 
   -- the first that isn't true settles the whole
-  pub settled : (last : ℤ) (count size : ℕ) (here : Option Worth) → told (conjunction holds first count) ≡ Some (Truth true) →
-      here ≡ told (holds (first +ℤ pos count)) → is_true here ≡ false → Some size ≡ range_size first last → count < size →
-      told (over_range holds first last) ≡ truth_alone here
+  pub settled : (last : ℤ) (count size : ℕ) (here : Option Worth) → worth_or_none (conjunction holds first count) ≡ Some (Truth true) →
+      here ≡ worth_or_none (holds (first +ℤ pos count)) → is_true here ≡ false → Some size ≡ range_size first last → count < size →
+      worth_or_none (over_range holds first last) ≡ truth_alone here
   settled last count size here so_far e so is_size below =
-      let one : told (conjunction holds first (suc count)) ≡ truth_alone here = next (conjunction holds first count) _ so_far ∙ ap truth_alone (sym e) in
+      let one : worth_or_none (conjunction holds first (suc count)) ≡ truth_alone here = next (conjunction holds first count) _ so_far ∙ ap truth_alone (sym e) in
       let n : size ≡ (size - suc count) + suc count = omega arith in
-      let all : told (conjunction holds first size) ≡ truth_alone here =
+      let all : worth_or_none (conjunction holds first size) ≡ truth_alone here =
       rw n (settled_after (suc count) (size - suc count) (ap settles one ∙ not_true_settles here so) ∙ one) in
       rw (← is_size) all
 
   -- none is left
-  pub all_done : (last : ℤ) (count size : ℕ) → told (conjunction holds first count) ≡ Some (Truth true) → Some size ≡ range_size first last →
-      count ≡ size → told (over_range holds first last) ≡ Some (Truth true)
+  pub all_done : (last : ℤ) (count size : ℕ) → worth_or_none (conjunction holds first count) ≡ Some (Truth true) → Some size ≡ range_size first last →
+      count ≡ size → worth_or_none (over_range holds first last) ≡ Some (Truth true)
   all_done last count size so_far is_size done = rw (← is_size, ← done) so_far
 
 -- the same of a body
 pub cut_short : (body : Expr) (name : ℕ) (env bound : Pairs) (v w : Worth) (first last number : ℤ) (count size : ℕ) (here outcome : Option Worth) (so : Bool) →
-    v ≡ Num first → w ≡ Num last → told (conjunction (at_number (value body) name env) first count) ≡ Some (Truth true) →
-    number ≡ first +ℤ pos count → bound ≡ (name, val.Num number) ∷ env → here ≡ told (value body bound) →
+    v ≡ Num first → w ≡ Num last → worth_or_none (conjunction (at_number (value body) name env) first count) ≡ Some (Truth true) →
+    number ≡ first +ℤ pos count → bound ≡ (name, val.Num number) ∷ env → here ≡ worth_or_none (value body bound) →
     so ≡ is_true here → so ≡ false → Some size ≡ range_size first last → count < size →
-    outcome ≡ truth_alone here → outcome ≡ told (for_all (at_number (value body) name env) v w)
+    outcome ≡ truth_alone here → outcome ≡ worth_or_none (for_all (at_number (value body) name env) v w)
 cut_short body name env bound v w first last number count size here outcome so is_first is_last
     so_far is_number is_bound is_here is_so not_so is_size below is_outcome =
-    let e : here ≡ told (at_number (value body) name env (first +ℤ pos count)) = is_here ∙ rw (is_bound, is_number) refl in
+    let e : here ≡ worth_or_none (at_number (value body) name env (first +ℤ pos count)) = is_here ∙ rw (is_bound, is_number) refl in
     rw (is_first, is_last)
     (is_outcome ∙ sym (settled (at_number (value body) name env) first last count size here so_far e (sym is_so ∙ not_so) is_size below))

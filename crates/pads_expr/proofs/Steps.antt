@@ -7,7 +7,7 @@ use Rattle.pads_expr.specs.Operators.{between, decides, operate}
 use Rattle.pads_expr.specs.Parts.{part_of, arm_of, is_arm_of, element_of, length_of, minus, negation}
 use Rattle.pads_expr.specs.Ranges.{for_all}
 use Rattle.pads_expr.specs.Value.{Pairs, value, step, variable_of, at_number}
-use Rattle.pads_expr.specs.Worth.{Worth, Num, Text, Truth, Answer, Is, Absent, Ill, on, told}
+use Rattle.pads_expr.specs.Worth.{Worth, Num, Text, Truth, Answer, Is, Absent, Ill, on, worth_or_none}
 
 -- one layer at a time
 pub value-roll : (layer : Expr-F Expr) (env : Pairs) → value (roll-Expr layer) env ≡ step (map-Expr Expr (Pairs → Answer) value layer) env
@@ -62,26 +62,26 @@ value-Forall name first last body env =
     ap (λ e. value e env) (sym (expr.rolls-Forall name first last body)) ∙ value-roll (Expr-F.Forall name first last body) env
 
 -- An operand that is told to have no worth leaves none of the whole, and one that has decides it.
-pub told-on-none : (a : Answer) (operator : Worth → Answer) → None ≡ told a → told (on a operator) ≡ None
+pub told-on-none : (a : Answer) (operator : Worth → Answer) → None ≡ worth_or_none a → worth_or_none (on a operator) ≡ None
 told-on-none (Is worth) operator none = cc
 told-on-none Absent operator none = refl
 told-on-none Ill operator none = refl
 
-pub told-on-some : (a : Answer) (operator : Worth → Answer) (worth : Worth) → Some worth ≡ told a → told (on a operator) ≡ told (operator worth)
-told-on-some (Is found) operator worth some = let e : worth ≡ found = cc in ap (λ w. told (operator w)) (sym e)
+pub told-on-some : (a : Answer) (operator : Worth → Answer) (worth : Worth) → Some worth ≡ worth_or_none a → worth_or_none (on a operator) ≡ worth_or_none (operator worth)
+told-on-some (Is found) operator worth some = let e : worth ≡ found = cc in ap (λ w. worth_or_none (operator w)) (sym e)
 told-on-some Absent operator worth some = cc
 told-on-some Ill operator worth some = cc
 
 -- The right operand counts where the left one doesn't decide.
-pub told-between : (op : BinOp) (left right : Answer) (a b : Worth) → Some a ≡ told left → decides op a ≡ false → Some b ≡ told right →
-    told (between op left right) ≡ told (operate op a b)
+pub told-between : (op : BinOp) (left right : Answer) (a b : Worth) → Some a ≡ worth_or_none left → decides op a ≡ false → Some b ≡ worth_or_none right →
+    worth_or_none (between op left right) ≡ worth_or_none (operate op a b)
 told-between op left right a b some_left undecided some_right =
     told-on-some left _ a some_left ∙ rw undecided (told-on-some right (operate op a) b some_right)
 
 -- the same of an operator between two expressions
 pub operated : (e left right : Expr) (op : BinOp) (env : Pairs) (l r : Expr) (a b : Worth) (outcome : Option Worth) → e ≡ expr.Bin op left right →
-    l ≡ left → Some a ≡ told (value l env) → decides op a ≡ false → r ≡ right → Some b ≡ told (value r env) → outcome ≡ told (operate op a b) →
-    outcome ≡ told (value e env)
+    l ≡ left → Some a ≡ worth_or_none (value l env) → decides op a ≡ false → r ≡ right → Some b ≡ worth_or_none (value r env) → outcome ≡ worth_or_none (operate op a b) →
+    outcome ≡ worth_or_none (value e env)
 operated e left right op env l r a b outcome is_bin is_l some_a undecided is_r some_b is_outcome =
     rw (is_bin, value-Bin op left right env, ← is_l, ← is_r)
     (is_outcome ∙ sym (told-between op (value l env) (value r env) a b some_a undecided some_b))

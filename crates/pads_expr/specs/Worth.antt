@@ -23,10 +23,10 @@ pub data Answer : Type 0 where
   Ill : Answer
 
 -- What is told of a value: the two without a worth are one.
-abbrev pub told : Answer → Option Worth
-told (Is worth) = Some worth
-told Absent = None
-told Ill = None
+abbrev pub worth_or_none : Answer → Option Worth
+worth_or_none (Is worth) = Some worth
+worth_or_none Absent = None
+worth_or_none Ill = None
 
 -- Whether it is told to be true: a condition without a value isn't met.
 abbrev pub is_true : Option Worth → Bool

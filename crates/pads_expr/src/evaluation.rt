@@ -6,7 +6,7 @@ ghost use Rattle.pads_expr.specs.Ranges.{range_size};
 ghost use Rattle.pads_expr.specs.Scopes.{pairs_of};
 ghost use Rattle.pads_expr.specs.Seen.{seen};
 ghost use Rattle.pads_expr.specs.Value.{value, found, variable_of, at_number};
-ghost use Rattle.pads_expr.specs.Worth.{told};
+ghost use Rattle.pads_expr.specs.Worth.{worth_or_none};
 
 use crate::operators::{apply, is_decided};
 use crate::parts::worth;
@@ -33,7 +33,7 @@ fn binding<'a>(bindings: &'a [Binding], name: u16) -> Option<&'a Val>
 
 /// What a name is worth in a scope.
 fn variable<'a>(scope: &Scope<'_, 'a>, name: u16) -> Option<Res<'a>>
-    ensures value { option_map seen result ≡ told (variable_of (pairs_of scope.now) name) }
+    ensures value { option_map seen result ≡ worth_or_none (variable_of (pairs_of scope.now) name) }
 {
     match scope {
         Scope::Base(bindings) => worth(binding(bindings, name)?),
@@ -81,7 +81,7 @@ fn number_at(first: i128, step: u32) -> i128
 #[cycle(evaluate)]
 #[tactic(auto, using(std::proofs::lemmas::Grind::common_steps, crate::proofs::Steps::values))]
 fn evaluate<'a>(e: &'a Expr, scope: &Scope<'_, 'a>) -> Option<Res<'a>>
-    ensures value { option_map seen result ≡ told (value e.now (pairs_of scope.now)) }
+    ensures value { option_map seen result ≡ worth_or_none (value e.now (pairs_of scope.now)) }
 {
     match e {
         Expr::Num(number) => Some(Res::Num(*number)),
@@ -123,7 +123,7 @@ fn for_all<'a>(
     body: &'a Expr,
     scope: &Scope<'_, 'a>,
 ) -> Option<Res<'a>>
-    ensures value { option_map seen result ≡ told (ranges.for_all (at_number (value body.now) name (pairs_of scope.now)) (seen first.entry) (seen last.entry)) }
+    ensures value { option_map seen result ≡ worth_or_none (ranges.for_all (at_number (value body.now) name (pairs_of scope.now)) (seen first.entry) (seen last.entry)) }
 {
     let (Res::Num(first), Res::Num(last)) = (first, last) else {
         return None;
@@ -142,7 +142,7 @@ fn for_all<'a>(
 /// The value of an expression where the last binding of a name counts. It takes no memory; texts and parts
 /// are lent. `None` exactly where the expression has no value or is ill-sorted.
 pub fn eval_in<'a>(e: &'a Expr, bindings: &'a [Binding]) -> Option<Res<'a>>
-    ensures value { option_map seen result ≡ told (value e.now (reverse bindings.now)) }
+    ensures value { option_map seen result ≡ worth_or_none (value e.now (reverse bindings.now)) }
 {
     evaluate(e, &Scope::Base(bindings))
 }
@@ -154,7 +154,7 @@ pub fn eval_with<'a>(
     lent: &'a Val,
     bindings: &'a [Binding],
 ) -> Option<Res<'a>>
-    ensures value { option_map seen result ≡ told (value e.now ((name, lent.now) ∷ reverse bindings.now)) }
+    ensures value { option_map seen result ≡ worth_or_none (value e.now ((name, lent.now) ∷ reverse bindings.now)) }
 {
     evaluate(e, &Scope::Lent(name, lent, &Scope::Base(bindings)))
 }
@@ -162,7 +162,7 @@ pub fn eval_with<'a>(
 /// The value of an expression in an environment. It takes no memory; texts and parts are lent. `None`
 /// exactly where the expression has no value or is ill-sorted.
 pub fn eval<'a>(e: &'a Expr, env: &'a Env) -> Option<Res<'a>>
-    ensures value { option_map seen result ≡ told (value e.now env.now.pairs) }
+    ensures value { option_map seen result ≡ worth_or_none (value e.now env.now.pairs) }
 {
     eval_in(e, env.as_slice())
 }

@@ -1,6 +1,6 @@
 ghost use Rattle.std.specs.Prelude.{◌≡◌, option_map};
 ghost use Rattle.pads_expr.specs.Operators.{holds, on_numbers, on_texts, on_truths, operate, decides};
-ghost use Rattle.pads_expr.specs.Worth.{told, number_or_absent, truth_or_ill};
+ghost use Rattle.pads_expr.specs.Worth.{worth_or_none, number_or_absent, truth_or_ill};
 ghost use Rattle.pads_expr.specs.Seen.{seen};
 
 use crate::{BinOp, Res, numbers};
@@ -24,21 +24,21 @@ fn holds_for(op: BinOp, order: Ordering) -> Option<bool>
 
 /// A number as what an expression is worth.
 fn number<'a>(number: Option<i128>) -> Option<Res<'a>>
-    ensures value { option_map seen result ≡ told (number_or_absent number) }
+    ensures value { option_map seen result ≡ worth_or_none (number_or_absent number) }
 {
     Some(Res::Num(number?))
 }
 
 /// A truth value as what an expression is worth.
 fn truth<'a>(truth: Option<bool>) -> Option<Res<'a>>
-    ensures value { option_map seen result ≡ told (truth_or_ill truth) }
+    ensures value { option_map seen result ≡ worth_or_none (truth_or_ill truth) }
 {
     Some(Res::Truth(truth?))
 }
 
 /// An operator between two numbers.
 fn between_numbers<'a>(op: BinOp, a: i128, b: i128) -> Option<Res<'a>>
-    ensures value { option_map seen result ≡ told (on_numbers op a b) }
+    ensures value { option_map seen result ≡ worth_or_none (on_numbers op a b) }
 {
     match op {
         BinOp::Add => number(numbers::add(a, b)),
@@ -52,14 +52,14 @@ fn between_numbers<'a>(op: BinOp, a: i128, b: i128) -> Option<Res<'a>>
 
 /// An operator between two texts.
 fn between_texts<'a>(op: BinOp, a: &[u8], b: &[u8]) -> Option<Res<'a>>
-    ensures value { option_map seen result ≡ told (on_texts op a.now b.now) }
+    ensures value { option_map seen result ≡ worth_or_none (on_texts op a.now b.now) }
 {
     truth(holds_for(op, a.cmp(b)))
 }
 
 /// An operator between two truth values.
 fn between_truths<'a>(op: BinOp, a: bool, b: bool) -> Option<Res<'a>>
-    ensures value { option_map seen result ≡ told (on_truths op a b) }
+    ensures value { option_map seen result ≡ worth_or_none (on_truths op a b) }
 {
     match op {
         BinOp::Or => Some(Res::Truth(a || b)),
@@ -72,7 +72,7 @@ fn between_truths<'a>(op: BinOp, a: bool, b: bool) -> Option<Res<'a>>
 
 /// An operator between what its two operands are worth.
 pub(crate) fn apply<'a>(op: BinOp, a: Res<'a>, b: Res<'a>) -> Option<Res<'a>>
-    ensures value { option_map seen result ≡ told (operate op (seen a.entry) (seen b.entry)) }
+    ensures value { option_map seen result ≡ worth_or_none (operate op (seen a.entry) (seen b.entry)) }
 {
     match (a, b) {
         (Res::Num(a), Res::Num(b)) => between_numbers(op, a, b),

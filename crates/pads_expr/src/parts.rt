@@ -2,14 +2,14 @@ ghost use Rattle.std.specs.Prelude.{◌≡◌, option_map};
 ghost use Rattle.std.specs.Option.{option_copied};
 ghost use Rattle.pads_expr.specs.Parts.{worth_of, worth_or, part_of, arm_of, is_arm_of, item_at, element_of, length_of, minus, negation};
 ghost use Rattle.pads_expr.specs.Seen.{seen};
-ghost use Rattle.pads_expr.specs.Worth.{told};
+ghost use Rattle.pads_expr.specs.Worth.{worth_or_none};
 
 use crate::{Res, numbers};
 use pads_value::{Items, Val};
 
 /// What a value is worth where a name, a part, a branch or an element stands for it.
 pub(crate) fn worth<'a>(value: &'a Val) -> Option<Res<'a>>
-    ensures worth { option_map seen result ≡ told (worth_of value.now) }
+    ensures worth { option_map seen result ≡ worth_or_none (worth_of value.now) }
 {
     match value {
         Val::Missing => None,
@@ -32,7 +32,7 @@ fn item<'a>(items: &'a Items<Val>, index: i128) -> Option<&'a Val>
 impl<'a> Res<'a> {
     /// Part `number` of a struct.
     pub(crate) fn part(self, number: u16) -> Option<Res<'a>>
-        ensures value { option_map seen result ≡ told (part_of number (seen self.entry)) }
+        ensures value { option_map seen result ≡ worth_or_none (part_of number (seen self.entry)) }
     {
         match self {
             Res::Part(Val::Tuple(parts)) => worth(parts.get(number as u64)?),
@@ -42,7 +42,7 @@ impl<'a> Res<'a> {
 
     /// Branch `number` of a union or optional, where that was chosen.
     pub(crate) fn arm(self, number: u16) -> Option<Res<'a>>
-        ensures value { option_map seen result ≡ told (arm_of number (seen self.entry)) }
+        ensures value { option_map seen result ≡ worth_or_none (arm_of number (seen self.entry)) }
     {
         match self {
             Res::Part(Val::Branch(chosen, inner)) => {
@@ -58,7 +58,7 @@ impl<'a> Res<'a> {
 
     /// Whether a union, optional or enum chose the branch or label `number`.
     pub(crate) fn is_arm(self, number: u16) -> Option<Res<'a>>
-        ensures value { option_map seen result ≡ told (is_arm_of number (seen self.entry)) }
+        ensures value { option_map seen result ≡ worth_or_none (is_arm_of number (seen self.entry)) }
     {
         match self {
             Res::Part(Val::Branch(chosen, _)) => Some(Res::Truth(*chosen == number)),
@@ -69,7 +69,7 @@ impl<'a> Res<'a> {
 
     /// The element of an array at an index from 0, where the array has it.
     pub(crate) fn element(self, index: Res) -> Option<Res<'a>>
-        ensures value { option_map seen result ≡ told (element_of (seen self.entry) (seen index.entry)) }
+        ensures value { option_map seen result ≡ worth_or_none (element_of (seen self.entry) (seen index.entry)) }
     {
         match (self, index) {
             (Res::Part(Val::Array(elements)), Res::Num(index)) => worth(item(elements, index)?),
@@ -79,7 +79,7 @@ impl<'a> Res<'a> {
 
     /// The length of a text or an array.
     pub(crate) fn length(self) -> Option<Res<'a>>
-        ensures value { option_map seen result ≡ told (length_of (seen self.entry)) }
+        ensures value { option_map seen result ≡ worth_or_none (length_of (seen self.entry)) }
     {
         match self {
             Res::Text(text) => Some(Res::Num(text.len() as i128)),
@@ -90,7 +90,7 @@ impl<'a> Res<'a> {
 
     /// Unary minus.
     pub(crate) fn minus(self) -> Option<Res<'a>>
-        ensures value { option_map seen result ≡ told (minus (seen self.entry)) }
+        ensures value { option_map seen result ≡ worth_or_none (minus (seen self.entry)) }
     {
         match self {
             Res::Num(number) => Some(Res::Num(numbers::negate(number)?)),
@@ -100,7 +100,7 @@ impl<'a> Res<'a> {
 
     /// The negation of a truth value.
     pub(crate) fn negation(self) -> Option<Res<'a>>
-        ensures value { option_map seen result ≡ told (negation (seen self.entry)) }
+        ensures value { option_map seen result ≡ worth_or_none (negation (seen self.entry)) }
     {
         match self {
             Res::Truth(truth) => Some(Res::Truth(!truth)),

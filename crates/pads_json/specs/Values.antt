@@ -15,8 +15,8 @@ use Rattle.pads_calc.specs.declared.decl.Decl.{Decl}
 use Rattle.pads_calc.specs.declared.term.Arm.{Arm}
 use Rattle.pads_calc.specs.declared.term.Case.{Case}
 use Rattle.pads_calc.specs.declared.term.Part.{Part}
-use Rattle.pads_calc.specs.declared.term.Result2.{Result2}
-use Rattle.pads_calc.specs.declared.term.Result2.TheVariants as result2
+use Rattle.pads_calc.specs.declared.term.ComputedForm.{ComputedForm}
+use Rattle.pads_calc.specs.declared.term.ComputedForm.TheVariants as result2
 use Rattle.pads_calc.specs.declared.term.Seq.{Seq}
 use Rattle.pads_calc.specs.declared.term.Term.{Term, Term-F, out-Term}
 use Rattle.pads_forms.specs.Forms.{Form, form_at}
@@ -64,7 +64,7 @@ base_shown (base.Ip coding) v = address_shown (num_in v)
 base_shown (base.Enum coding labels) v = labelled labels (label_in v)
 
 -- the value of a computed field
-abbrev pub computed_shown : {A : Type 0} → Result2 → Val-F A → Data
+abbrev pub computed_shown : {A : Type 0} → ComputedForm → Val-F A → Data
 computed_shown (result2.Range least greatest) v = number_shown (num_in v)
 computed_shown result2.Text v = text_shown (text_in v)
 
@@ -161,7 +161,7 @@ text_told v = text_shown (text_in (out-Val v))
 abbrev pub base_told : Base → Val → Data
 base_told base v = base_shown base (out-Val v)
 
-abbrev pub computed_told : Result2 → Val → Data
+abbrev pub computed_told : ComputedForm → Val → Data
 computed_told form v = computed_shown form (out-Val v)
 
 abbrev pub address_told : Val → Data

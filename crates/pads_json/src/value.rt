@@ -8,7 +8,7 @@ use crate::number::{write_integer, write_null};
 use crate::order::order_of;
 use crate::text::write_quoted;
 use pads_bases::{Labels, spell_ip};
-use pads_calc::{Base, Part, Result2, Term};
+use pads_calc::{Base, Part, ComputedForm, Term};
 use pads_code::Coding;
 use pads_forms::{Terms, arm_at, form_at, name_at};
 use pads_value::{Bytes, Memory, Val};
@@ -73,12 +73,12 @@ fn write_string(out: &mut Bytes, val: &Val) -> Result<(), Memory>
 }
 
 /// Writes the value of a computed field.
-fn write_computed(out: &mut Bytes, form: Result2, val: &Val) -> Result<(), Memory>
+fn write_computed(out: &mut Bytes, form: ComputedForm, val: &Val) -> Result<(), Memory>
     ensures written { OnOk result (out.new ≡ out.old ++ compact_text (computed_told form val.now)) }
 {
     match form {
-        Result2::Range(_, _) => write_number(out, val),
-        Result2::Text => write_string(out, val),
+        ComputedForm::Range(_, _) => write_number(out, val),
+        ComputedForm::Text => write_string(out, val),
     }
 }
 

@@ -28,8 +28,8 @@ capped height = min height 257
 abbrev pub above : ℕ → ℕ
 above height = min (suc height) 257
 
-abbrev pub told : Judged → Judgement
-told j = record { first = j.first; height = capped j.height; sort = j.sort; fault = least j.faults }
+abbrev pub shown_judgement : Judged → Judgement
+shown_judgement j = record { first = j.first; height = capped j.height; sort = j.sort; fault = least j.faults }
 
 abbrev pub unless_fault : Option CheckFault → ExprSort → ExprSort
 unless_fault None sort = sort
@@ -109,9 +109,9 @@ pforall at low high body =
 
 -- An operator and its right operand behind a left one.
 abbrev pub linked : List Declared → Scope → Judgement → Link Expr → Judgement
-linked env scope left link = binary link.operator left (told (judged env link.operand scope))
+linked env scope left link = binary link.operator left (shown_judgement (judged env link.operand scope))
 
 -- What stands behind an atom.
 abbrev pub stepped : List Declared → Scope → Judgement → Step Expr → Judgement
 stepped env scope whole (step_form.Name name) = member_of env whole name
-stepped env scope whole (step_form.Index at index) = indexed env whole (told (judged env index scope))
+stepped env scope whole (step_form.Index at index) = indexed env whole (shown_judgement (judged env index scope))

@@ -1,6 +1,6 @@
 ghost use Rattle.std.specs.Prelude.{◌≡◌, fold};
 ghost use Rattle.pads_rules.specs.Judging.{judged};
-ghost use Rattle.pads_judge.specs.Judgements.{told, linked, stepped};
+ghost use Rattle.pads_judge.specs.Judgements.{shown_judgement, linked, stepped};
 ghost use Rattle.pads_judge.specs.Scopes.{names_in_scope};
 
 use crate::forms::{
@@ -16,7 +16,7 @@ use pads_rules::{ExprSort, Form};
 #[cycle(judge)]
 #[tactic(auto, using(std::proofs::lemmas::Grind::common_steps, crate::proofs::FormLemmas::forms))]
 pub fn judge(env: &TypeTable, e: &Expr, scope: &Scope<'_, '_>) -> Judgement
-    ensures judged { result ≡ told (judged env.now e.now (names_in_scope scope.now)) }
+    ensures judged { result ≡ shown_judgement (judged env.now e.now (names_in_scope scope.now)) }
 {
     match e {
         Expr::Chain { first, rest } => {

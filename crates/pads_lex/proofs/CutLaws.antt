@@ -10,7 +10,8 @@ use Rattle.pads_lex.specs.Cut.{token_of, IsGap, StandsAt, IsFault, IsLiteral, Is
 use Rattle.pads_lex.specs.Cut.IsCut.{ends, passes as cut_passes, stands as cut_stands}
 use Rattle.pads_lex.specs.Cut.BreaksAt.{here, passes as breaks_passes, stands as breaks_stands}
 use Rattle.pads_lex.specs.Spelling.Spells.{name, zero as zero_word, decimal, hexadecimal, char, text, mark}
-use Rattle.pads_lex.specs.Answers.{Gives, OnFault, EndsLast, HasNoNegative}
+use Rattle.pads_lex.specs.Answers.{EndsLast, HasNoNegative}
+use Rattle.pads_value.specs.Refusals.{Gives, OnFault}
 use Rattle.pads_value.specs.declared.memory.Refusal.{Refusal}
 use Rattle.pads_value.specs.declared.memory.Refusal.TheVariants as refusal
 use Rattle.pads_lex.proofs.SameLaws.{is_number, no_number, word_no_number, mark_no_number}

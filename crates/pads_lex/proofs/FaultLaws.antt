@@ -4,7 +4,8 @@ use Rattle.std.specs.Prelude.{◌==◌}
 use Rattle.std.proofs.lemmas.Bool.{eqb-true}
 use Rattle.pads_lex.specs.Bytes.{is_blank, is_letter, is_digit}
 use Rattle.pads_lex.specs.Numbers.{number_limit, word_value, in_range}
-use Rattle.pads_lex.specs.Words.{is_text, double_mark, single_mark}
+use Rattle.pads_lex.specs.Words.{double_mark, single_mark}
+use Rattle.pads_value.specs.Words.{is_word}
 use Rattle.pads_lex.specs.Literals.{character_at, literal_from}
 use Rattle.pads_lex.specs.Gaps.{to_close}
 use Rattle.pads_lex.specs.Spelling.{Spells, IsLongest, mark_of}
@@ -111,7 +112,7 @@ spells_none_longest : {P : Type 0} (z : List ℕ) (n : ℕ) (k : TokenKind) → 
 spells_none_longest z n k none longest = absurd (none n k longest.within longest.spells)
 
 slash_spells : mark_of (0x2F ∷ []) ≡ Some kind.Slash
-unfolding is_text
+unfolding is_word
 slash_spells = refl
 
 none_no_comment : (b : ℕ) (after : List ℕ) → SpellsNone (b ∷ after) → opens_comment (b ∷ after) ≡ false

@@ -7,7 +7,8 @@ use Rattle.std.proofs.lemmas.List.{length-take-le}
 use Rattle.pads_lex.specs.Bytes.{is_between, is_letter, is_digit, is_word_byte, is_hex}
 use Rattle.pads_lex.specs.Runs.{run}
 use Rattle.pads_lex.specs.Numbers.{number_size, hex_length, word_value}
-use Rattle.pads_lex.specs.Words.{find_word, or_else, double_mark, single_mark, double_marks, single_marks}
+use Rattle.pads_lex.specs.Words.{or_else, double_mark, single_mark, double_marks, single_marks}
+use Rattle.pads_value.specs.Words.{find_word}
 use Rattle.pads_lex.specs.Spelling.{Spells, IsLongest, word_kind, mark_of}
 use Rattle.pads_lex.specs.Spelling.Spells.{name, mark}
 use Rattle.pads_lex.specs.declared.token.TokenKind.{TokenKind}

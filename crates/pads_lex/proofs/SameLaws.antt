@@ -5,7 +5,8 @@ use Rattle.std.specs.List.{list_all}
 use Rattle.std.proofs.lemmas.Bool.{cases_Bool, and_parts, eq-eqb, not-true}
 use Rattle.std.proofs.lemmas.List.{length-take-le, length-append, append_assoc, take-append-drop, take_at}
 use Rattle.pads_lex.specs.Bytes.{is_letter, is_digit}
-use Rattle.pads_lex.specs.Words.{double_mark, is_text, find_word, or_else, keyword_of, declaration_words, part_words, expression_words, double_marks, single_marks}
+use Rattle.pads_lex.specs.Words.{double_mark, or_else, keyword_of, declaration_words, part_words, expression_words, double_marks, single_marks}
+use Rattle.pads_value.specs.Words.{is_word, find_word}
 use Rattle.pads_lex.specs.Literals.{character_at, literal_from}
 use Rattle.pads_lex.specs.Spelling.{AreCharacters, Spells, IsLongest, word_kind, mark_of}
 use Rattle.pads_lex.specs.Spelling.Spells.{char, text}
@@ -127,7 +128,7 @@ kinds_pass : (table : List (List ℕ × TokenKind)) (word : List ℕ) (k : Token
 kinds_pass [] word k all found = cc
 kinds_pass ((spelling, token) ∷ table) word k all found =
     let parts = and_parts (not (is_number token)) (list_all (λ e. not (is_number e.1)) table) all in
-    go (is_text word spelling) parts.0 (λ h. kinds_pass table word k parts.1 h) found
+    go (is_word word spelling) parts.0 (λ h. kinds_pass table word k parts.1 h) found
   where
     go : (t : Bool) → not (is_number token) ≡ true → (find_word word table ≡ Some k → is_number k ≡ false) → cond t (Some token) (find_word word table) ≡ Some k → is_number k ≡ false
     go true here more found =

@@ -5,22 +5,23 @@ use Rattle.std.specs.List.{list_all}
 use Rattle.std.proofs.lemmas.Bool.{and_parts, eqb-true}
 use Rattle.std.proofs.lemmas.Slice.Eq.{bytes_eq-Decides}
 use Rattle.pads_lex.specs.Bytes.{is_blank, is_letter, is_digit}
-use Rattle.pads_lex.specs.Words.{is_text, find_word, or_else, double_marks, single_marks}
+use Rattle.pads_lex.specs.Words.{or_else, double_marks, single_marks}
+use Rattle.pads_value.specs.Words.{is_word, find_word}
 use Rattle.pads_lex.specs.Spelling.{mark_of}
 use Rattle.pads_lex.specs.declared.token.TokenKind.{TokenKind}
 use Rattle.pads_lex.proofs.ByteLemmas.{is_quote}
 
-same_text : (word text : List ℕ) → is_text word text ≡ true → word ≡ text
-unfolding is_text
+same_text : (word text : List ℕ) → is_word word text ≡ true → word ≡ text
+unfolding is_word
 same_text word text is = (bytes_eq-Decides word text).0 is
 
 pub found_passes : (test : List ℕ → Bool) (table : List (List ℕ × TokenKind)) (word : List ℕ) (token : TokenKind) → list_all (λ e. test e.0) table ≡ true → find_word word table ≡ Some token → test word ≡ true
 found_passes test [] word token all found = cc
 found_passes test ((text, kind) ∷ table) word token all found =
     let parts = and_parts (test text) (list_all (λ e. test e.0) table) all in
-    go (is_text word text) refl parts.0 (λ h. found_passes test table word token parts.1 h) found
+    go (is_word word text) refl parts.0 (λ h. found_passes test table word token parts.1 h) found
   where
-    go : (t : Bool) → is_text word text ≡ t → test text ≡ true → (find_word word table ≡ Some token → test word ≡ true) → cond t (Some kind) (find_word word table) ≡ Some token → test word ≡ true
+    go : (t : Bool) → is_word word text ≡ t → test text ≡ true → (find_word word table ≡ Some token → test word ≡ true) → cond t (Some kind) (find_word word table) ≡ Some token → test word ≡ true
     go true is here more found = ap test (same_text word text is) ∙ here
     go false is here more found = more found
 

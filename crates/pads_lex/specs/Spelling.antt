@@ -7,7 +7,8 @@
 use Rattle.std.specs.Prelude.{◌≡◌, ◌≢◌, ℕ, ◌<◌, ◌≤◌, pos, IsTrue, List, [], ◌∷◌, ◌++◌, length, take, Option, Some, None}
 use Rattle.std.specs.List.{list_all}
 use Rattle.pads_lex.specs.Bytes.{is_between, is_letter, is_digit, is_word_byte, is_hex}
-use Rattle.pads_lex.specs.Words.{keyword_of, find_word, double_marks, single_marks, or_else}
+use Rattle.pads_lex.specs.Words.{keyword_of, double_marks, single_marks, or_else}
+use Rattle.pads_value.specs.Words.{find_word}
 use Rattle.pads_lex.specs.Numbers.{value}
 use Rattle.pads_lex.specs.Literals.{is_printed, escape, hex_point}
 use Rattle.pads_lex.specs.declared.token.TokenKind.{TokenKind}

@@ -1,16 +1,8 @@
 -- The keywords and the marks of the language, each with its token.
-use Rattle.std.specs.Prelude.{ℕ, Bool, List, [], ◌∷◌, Option, Some, None, codes, if◌then◌else◌}
-use Rattle.std.specs.Str.{bytes_eq}
+use Rattle.std.specs.Prelude.{ℕ, List, [], ◌∷◌, Option, Some, None, codes}
+use Rattle.pads_value.specs.Words.{find_word}
 use Rattle.pads_lex.specs.declared.token.TokenKind.{TokenKind}
 use Rattle.pads_lex.specs.declared.token.TokenKind.TheVariants as kind
-
-unfoldable pub is_text : List ℕ → List ℕ → Bool
-is_text word text = bytes_eq word text
-
--- the token that a table has for a word
-abbrev pub find_word : List ℕ → List (List ℕ × TokenKind) → Option TokenKind
-find_word word [] = None
-find_word word ((text, token) ∷ table) = if is_text word text then Some token else find_word word table
 
 abbrev pub declaration_words : List (List ℕ × TokenKind)
 declaration_words =

@@ -1,7 +1,8 @@
 //! A whole text as its tokens.
 
 ghost use Rattle.std.specs.Prelude.{◌≡◌, ℕ, List, [], Ok, Err, IfOk};
-ghost use Rattle.pads_lex.specs.Answers.{Gives, OnFault, EndsLast, HasNoNegative};
+ghost use Rattle.pads_lex.specs.Answers.{EndsLast, HasNoNegative};
+ghost use Rattle.pads_value.specs.Refusals.{Gives, OnFault};
 ghost use Rattle.pads_lex.specs.Cut.{IsCut, BreaksAt};
 ghost use Rattle.pads_lex.specs.Reading.{tokens_from};
 ghost use Rattle.pads_lex.specs.declared.token.Token.{Token};

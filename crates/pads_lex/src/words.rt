@@ -1,42 +1,37 @@
 //! Keywords and marks.
 
 ghost use Rattle.std.specs.Prelude.{◌≡◌};
-ghost use Rattle.pads_lex.specs.Words.{is_text, find_word, declaration_words, part_words, expression_words, keyword_of, double_mark, single_mark};
+ghost use Rattle.pads_lex.specs.Words.{declaration_words, part_words, expression_words, keyword_of, double_mark, single_mark};
+ghost use Rattle.pads_value.specs.Words.{find_word};
 
 use crate::TokenKind;
-
-#[tactic(auto, unfolding(crate::specs::Words::is_text))]
-fn is_text(word: &[u8], text: &[u8]) -> bool
-    ensures same { result ≡ is_text word.now text.now }
-{
-    word == text
-}
+use pads_value::is_word;
 
 fn declaration_word(word: &[u8]) -> Option<TokenKind>
     ensures found { result ≡ find_word word.now declaration_words }
 {
-    if is_text(word, b"Pstruct") {
+    if is_word(word, b"Pstruct") {
         return Some(TokenKind::Pstruct);
     }
-    if is_text(word, b"Punion") {
+    if is_word(word, b"Punion") {
         return Some(TokenKind::Punion);
     }
-    if is_text(word, b"Parray") {
+    if is_word(word, b"Parray") {
         return Some(TokenKind::Parray);
     }
-    if is_text(word, b"Penum") {
+    if is_word(word, b"Penum") {
         return Some(TokenKind::Penum);
     }
-    if is_text(word, b"Popt") {
+    if is_word(word, b"Popt") {
         return Some(TokenKind::Popt);
     }
-    if is_text(word, b"Ptypedef") {
+    if is_word(word, b"Ptypedef") {
         return Some(TokenKind::Ptypedef);
     }
-    if is_text(word, b"Precord") {
+    if is_word(word, b"Precord") {
         return Some(TokenKind::Precord);
     }
-    if is_text(word, b"Psource") {
+    if is_word(word, b"Psource") {
         return Some(TokenKind::Psource);
     }
     None
@@ -45,28 +40,28 @@ fn declaration_word(word: &[u8]) -> Option<TokenKind>
 fn part_word(word: &[u8]) -> Option<TokenKind>
     ensures found { result ≡ find_word word.now part_words }
 {
-    if is_text(word, b"Pswitch") {
+    if is_word(word, b"Pswitch") {
         return Some(TokenKind::Pswitch);
     }
-    if is_text(word, b"Pcase") {
+    if is_word(word, b"Pcase") {
         return Some(TokenKind::Pcase);
     }
-    if is_text(word, b"Pdefault") {
+    if is_word(word, b"Pdefault") {
         return Some(TokenKind::Pdefault);
     }
-    if is_text(word, b"Pwhere") {
+    if is_word(word, b"Pwhere") {
         return Some(TokenKind::Pwhere);
     }
-    if is_text(word, b"Psep") {
+    if is_word(word, b"Psep") {
         return Some(TokenKind::Psep);
     }
-    if is_text(word, b"Pterm") {
+    if is_word(word, b"Pterm") {
         return Some(TokenKind::Pterm);
     }
-    if is_text(word, b"Plast") {
+    if is_word(word, b"Plast") {
         return Some(TokenKind::Plast);
     }
-    if is_text(word, b"Peor") {
+    if is_word(word, b"Peor") {
         return Some(TokenKind::Peor);
     }
     None
@@ -75,28 +70,28 @@ fn part_word(word: &[u8]) -> Option<TokenKind>
 fn expression_word(word: &[u8]) -> Option<TokenKind>
     ensures found { result ≡ find_word word.now expression_words }
 {
-    if is_text(word, b"Pforall") {
+    if is_word(word, b"Pforall") {
         return Some(TokenKind::Pforall);
     }
-    if is_text(word, b"Pin") {
+    if is_word(word, b"Pin") {
         return Some(TokenKind::Pin);
     }
-    if is_text(word, b"Pcompute") {
+    if is_word(word, b"Pcompute") {
         return Some(TokenKind::Pcompute);
     }
-    if is_text(word, b"Pfrom") {
+    if is_word(word, b"Pfrom") {
         return Some(TokenKind::Pfrom);
     }
-    if is_text(word, b"Pis") {
+    if is_word(word, b"Pis") {
         return Some(TokenKind::Pis);
     }
-    if is_text(word, b"Plen") {
+    if is_word(word, b"Plen") {
         return Some(TokenKind::Plen);
     }
-    if is_text(word, b"true") {
+    if is_word(word, b"true") {
         return Some(TokenKind::True);
     }
-    if is_text(word, b"false") {
+    if is_word(word, b"false") {
         return Some(TokenKind::False);
     }
     None
@@ -117,7 +112,7 @@ pub(crate) fn keyword(word: &[u8]) -> Option<TokenKind>
 }
 
 /// The mark of two bytes that they spell.
-#[tactic(auto, unfolding(crate::specs::Words::double_mark, crate::specs::Words::is_text))]
+#[tactic(auto, unfolding(crate::specs::Words::double_mark, pads_value::specs::Words::is_word))]
 pub(crate) fn double_mark(first: u8, second: u8) -> Option<TokenKind>
     ensures found { result ≡ double_mark first second }
 {
@@ -137,7 +132,7 @@ pub(crate) fn double_mark(first: u8, second: u8) -> Option<TokenKind>
 }
 
 /// The mark of one byte.
-#[tactic(auto, unfolding(crate::specs::Words::single_mark, crate::specs::Words::is_text))]
+#[tactic(auto, unfolding(crate::specs::Words::single_mark, pads_value::specs::Words::is_word))]
 pub(crate) fn single_mark(byte: u8) -> Option<TokenKind>
     ensures found { result ≡ single_mark byte }
 {

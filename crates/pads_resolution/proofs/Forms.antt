@@ -18,18 +18,18 @@ use Rattle.pads_resolution.specs.declared.visible.ResolvedExpr.{ResolvedExpr}
 use Rattle.pads_resolution.specs.declared.visible.Stands.TheVariants as stands
 use Rattle.pads_resolution.specs.Chains.{linked, stepped}
 use Rattle.pads_resolution.specs.Expressions.{as_sort, binary, unary, member_of, indexed, name_in, pis, plen, pforall, chained, posted, resolve_form, expression}
-use Rattle.pads_resolution.specs.Scopes.{Scope, hiding}
+use Rattle.pads_resolution.specs.Scopes.{NameScope, hiding}
 
-module _ (decls : List Decl) (env : List Declared) (scope : Scope) where
+module _ (decls : List Decl) (env : List Declared) (scope : NameScope) where
   -- links and steps, from the left
   fold-chained : (left : ResolvedExpr) (links : List (Link Expr)) →
-      chained left ((former-Expr-Chain-1).map Expr (Scope → ResolvedExpr) (expression decls env) links) scope ≡ fold (linked decls env scope) left links
+      chained left ((former-Expr-Chain-1).map Expr (NameScope → ResolvedExpr) (expression decls env) links) scope ≡ fold (linked decls env scope) left links
   unfolding linked
   fold-chained left [] = refl
   fold-chained left (link ∷ links) = fold-chained (binary link.operator left (expression decls env link.operand scope)) links
 
   fold-posted : (whole : ResolvedExpr) (steps : List (Step Expr)) →
-      posted decls env whole ((former-Expr-Post-1).map Expr (Scope → ResolvedExpr) (expression decls env) steps) scope ≡ fold (stepped decls env scope) whole steps
+      posted decls env whole ((former-Expr-Post-1).map Expr (NameScope → ResolvedExpr) (expression decls env) steps) scope ≡ fold (stepped decls env scope) whole steps
   unfolding stepped
   fold-posted whole [] = refl
   fold-posted whole (step_form.Name name ∷ steps) = fold-posted (member_of decls env whole name.text) steps
@@ -37,10 +37,10 @@ module _ (decls : List Decl) (env : List Declared) (scope : Scope) where
 
   -- one form at a time
   expression-roll : (layer : Expr-F Expr) (e : Expr) → roll-Expr layer ≡ e →
-      expression decls env e scope ≡ resolve_form decls env (map-Expr Expr (Scope → ResolvedExpr) (expression decls env) layer) scope
+      expression decls env e scope ≡ resolve_form decls env (map-Expr Expr (NameScope → ResolvedExpr) (expression decls env) layer) scope
   unfolding expression
   expression-roll layer e rolls =
-      ap (λ x. expression decls env x scope) (sym rolls) ∙ ap (λ (f : Scope → ResolvedExpr). f scope) (fold-roll-Expr (Scope → ResolvedExpr) (resolve_form decls env) layer)
+      ap (λ x. expression decls env x scope) (sym rolls) ∙ ap (λ (f : NameScope → ResolvedExpr). f scope) (fold-roll-Expr (NameScope → ResolvedExpr) (resolve_form decls env) layer)
 
   pub of-Chain : (first : Expr) (links : List (Link Expr)) → expression decls env (expr.Chain first links) scope ≡ fold (linked decls env scope) (expression decls env first scope) links
   of-Chain first links = expression-roll (Expr-F.Chain first links) _ (expr.rolls-Chain first links) ∙ fold-chained (expression decls env first scope) links

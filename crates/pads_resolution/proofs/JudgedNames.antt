@@ -3,10 +3,10 @@ use Rattle.std.proofs.Common.{◌≡◌, refl, ℕ, Bool, true, false, if◌then
 use Rattle.pads_rules.specs.Texts.{same_text, sort_of}
 use Rattle.pads_resolution.specs.declared.visible.Known.{Known}
 use Rattle.pads_resolution.specs.declared.visible.Visible.{Visible}
-use Rattle.pads_resolution.specs.Scopes.{Scope, known_in}
+use Rattle.pads_resolution.specs.Scopes.{NameScope, known_in}
 use Rattle.pads_resolution.specs.JudgedNames.{as_named}
 
-pub sort-known : (scope : Scope) (text : List ℕ) → sort_of (map as_named scope) text ≡ option_map (λ (k : Known). k.sort) (known_in scope text)
+pub sort-known : (scope : NameScope) (text : List ℕ) → sort_of (map as_named scope) text ≡ option_map (λ (k : Known). k.sort) (known_in scope text)
 sort-known [] text = refl
 sort-known (visible ∷ scope) text = by_text (same_text visible.text text) (sort-known scope text)
   where

@@ -19,14 +19,15 @@ use Rattle.pads_ast.specs.declared.types.Type.{«Type»}
 use Rattle.pads_int.specs.declared.kind.Kind.TheVariants.{U8}
 use Rattle.pads_rules.specs.declared.sort.Form.TheVariants as form
 use Rattle.pads_rules.specs.declared.sort.Sort.{Sort}
-use Rattle.pads_base_names.specs.Names.{base_name, kind_of, field_of, is_word, behind}
+use Rattle.pads_base_names.specs.Names.{base_name, kind_of, field_of, behind}
+use Rattle.pads_value.specs.Words.{is_word}
 use Rattle.pads_typed_tree.specs.declared.base_type.BaseType.TheVariants as base_type
 use Rattle.pads_base_names.specs.declared.meaning.NamedCoding.TheVariants as coding
 use Rattle.pads_typed_tree.specs.declared.decl.DeclBody.TheVariants as body
 use Rattle.pads_typed_tree.specs.declared.decl.Part.TheVariants as resolved_part
 use Rattle.pads_typed_tree.specs.declared.decl.Role.TheVariants as role
 use Rattle.pads_typed_tree.specs.declared.expr.Expr.TheVariants as resolved_expr
-use Rattle.pads_typed_tree.specs.declared.expr.Meaning.TheVariants as meaning
+use Rattle.pads_typed_tree.specs.declared.expr.NameUse.TheVariants as meaning
 use Rattle.pads_typed_tree.specs.declared.types.TypeName.TheVariants as type_name
 use Rattle.pads_rules.specs.declared.declared.Content.TheVariants as content
 use Rattle.pads_rules.specs.declared.expr_sort.ExprSort.TheVariants as expr_sort

@@ -12,7 +12,7 @@ use Rattle.pads_rules.specs.Resolving.{named, param_named}
 use Rattle.pads_rules.specs.Trees.{named_part, params_of}
 use Rattle.pads_resolution.specs.declared.visible.Visible.{Visible}
 use Rattle.pads_resolution.specs.Resolution.{params_scope}
-use Rattle.pads_resolution.specs.Scopes.{Scope, variable, field, names_after, fields_after}
+use Rattle.pads_resolution.specs.Scopes.{NameScope, variable, field, names_after, fields_after}
 use Rattle.pads_resolution.specs.JudgedNames.{as_named}
 
 -- names that are seen as the rules see them are those that were there
@@ -24,16 +24,16 @@ pub params-judged : (site : Site) → map as_named (params_scope site) ≡ map (
 unfolding params_scope
 params-judged site = seen (λ (param : Param). variable (param_named (earlier site) param)) (params_of site.decl.body)
 
-pub part-judged : (types : List Declared) (names : Scope) (p : Part) → map as_named (names_after types names p) ≡ pieces.names_after types (map as_named names) p
+pub part-judged : (types : List Declared) (names : NameScope) (p : Part) → map as_named (names_after types names p) ≡ pieces.names_after types (map as_named names) p
 part-judged types names p =
     map-append as_named names (map (λ (both : Name × «Type»). variable (named types both)) (named_part p))
     ∙ ap (λ more. map as_named names ++ more) (seen (λ (both : Name × «Type»). variable (named types both)) (named_part p))
 
-field-judged : (types : List Declared) (names : Scope) (number : ℕ) (p : Part) → map as_named (names ++ map (field types number) (named_part p)) ≡ pieces.names_after types (map as_named names) p
+field-judged : (types : List Declared) (names : NameScope) (number : ℕ) (p : Part) → map as_named (names ++ map (field types number) (named_part p)) ≡ pieces.names_after types (map as_named names) p
 field-judged types names number p =
     map-append as_named names (map (field types number) (named_part p)) ∙ ap (λ more. map as_named names ++ more) (seen (field types number) (named_part p))
 
-pub fields-judged : (types : List Declared) (names : Scope) (number : ℕ) (parts : List Part) →
+pub fields-judged : (types : List Declared) (names : NameScope) (number : ℕ) (parts : List Part) →
     map as_named (fields_after types names number parts) ≡ pieces.names_after_all types (map as_named names) parts
 fields-judged types names number [] = sym (append-nil (map as_named names))
 fields-judged types names number (p ∷ parts) =

@@ -23,7 +23,7 @@ use Rattle.pads_resolution.specs.declared.visible.Known.{Known}
 use Rattle.pads_resolution.specs.declared.visible.ResolvedExpr.{ResolvedExpr}
 use Rattle.pads_resolution.specs.declared.visible.Stands.TheVariants as stands
 use Rattle.pads_resolution.specs.Expressions.{expression, resolve_form, chained, posted, name_in, name_found, sort_or_unknown, binary as made_binary, unary as made_unary, member_of as made_member, indexed as made_index, pis as made_pis, plen as made_plen, pforall as made_pforall}
-use Rattle.pads_resolution.specs.Scopes.{Scope, known_in, hiding}
+use Rattle.pads_resolution.specs.Scopes.{NameScope, known_in, hiding}
 use Rattle.pads_resolution.specs.JudgedNames.{judging_scope}
 use Rattle.pads_resolution.proofs.JudgedNames.{sort-known}
 
@@ -33,7 +33,7 @@ found-sort : (scope : judging.Scope) (name : Name) (known : Option Known) → (j
 found-sort scope name (Some known) e = own-sort name.at 1 known.sort [] e
 found-sort scope name None e = own-sort name.at 1 expr_sort.Unknown (judging.not_in_scope scope name) e
 
-name-sort : (scope : Scope) (later : List (List ℕ)) (name : Name) → (judging.variable (judging_scope scope later) name).faults ≡ []
+name-sort : (scope : NameScope) (later : List (List ℕ)) (name : Name) → (judging.variable (judging_scope scope later) name).faults ≡ []
     → (name_in scope name.text).sort ≡ (judging.variable (judging_scope scope later) name).sort
 unfolding name_in
 name-sort scope later name e =
@@ -106,7 +106,7 @@ module _ (decls : List Decl) (env : List Declared) where
   unfolding made_index
   index-sort whole index w i same e = ap (element env) same ∙ own-sort whole.first (suc (max whole.height index.height)) (element env whole.sort) (index_faults whole index) e
 
-  module _ (scope : Scope) (later : List (List ℕ)) where
+  module _ (scope : NameScope) (later : List (List ℕ)) where
     -- operators in a row, and names and indexes: where the whole holds no violation, no part on the left does
     abbrev judged_chain : Judged → List (Link Expr) → Judged
     judged_chain left links = judging.chained left ((former-Expr-Chain-1).map Expr (judging.Scope → Judged) (judged env) links) (judging_scope scope later)
@@ -121,7 +121,7 @@ module _ (decls : List Decl) (env : List Declared) where
         (chained-faults (judging.binary link.operator left (judged env link.operand (judging_scope scope later))) links e)
 
     chained-sort : (left : Judged) (l : ResolvedExpr) (links : List (Link Expr)) → l.sort ≡ left.sort → (judged_chain left links).faults ≡ []
-        → (chained l ((former-Expr-Chain-1).map Expr (Scope → ResolvedExpr) (expression decls env) links) scope).sort ≡ (judged_chain left links).sort
+        → (chained l ((former-Expr-Chain-1).map Expr (NameScope → ResolvedExpr) (expression decls env) links) scope).sort ≡ (judged_chain left links).sort
     chained-sort left l [] same e = same
     chained-sort left l (link ∷ links) same e =
         chained-sort (judging.binary link.operator left (judged env link.operand (judging_scope scope later))) (made_binary link.operator l (expression decls env link.operand scope)) links
@@ -137,7 +137,7 @@ module _ (decls : List Decl) (env : List Declared) where
         indexed-whole env whole (judged env index (judging_scope scope later)) (posted-faults (judging.indexed env whole (judged env index (judging_scope scope later))) steps e)
 
     posted-sort : (whole : Judged) (w : ResolvedExpr) (steps : List (Step Expr)) → w.sort ≡ whole.sort → (judged_post whole steps).faults ≡ []
-        → (posted decls env w ((former-Expr-Post-1).map Expr (Scope → ResolvedExpr) (expression decls env) steps) scope).sort ≡ (judged_post whole steps).sort
+        → (posted decls env w ((former-Expr-Post-1).map Expr (NameScope → ResolvedExpr) (expression decls env) steps) scope).sort ≡ (judged_post whole steps).sort
     posted-sort whole w [] same e = same
     posted-sort whole w (step_form.Name name ∷ steps) same e =
         posted-sort (judging.member_found whole name (member env whole.sort name.text)) (made_member decls env w name.text) steps
@@ -150,7 +150,7 @@ module _ (decls : List Decl) (env : List Declared) where
         e
 
   abbrev IsLawful : Expr → Type 0
-  IsLawful e = (scope : Scope) (later : List (List ℕ)) → (judged env e (judging_scope scope later)).faults ≡ []
+  IsLawful e = (scope : NameScope) (later : List (List ℕ)) → (judged env e (judging_scope scope later)).faults ≡ []
       → (expression decls env e scope).sort ≡ (judged env e (judging_scope scope later)).sort
 
   abbrev Smaller : ℕ → Type 0
@@ -160,11 +160,11 @@ module _ (decls : List Decl) (env : List Declared) where
   abbrev judged_layer : Expr-F Expr → judging.Scope → Judged
   judged_layer layer scope = judge_form env (map-Expr Expr (judging.Scope → Judged) (judged env) layer) scope
 
-  abbrev resolved_layer : Expr-F Expr → Scope → ResolvedExpr
-  resolved_layer layer scope = resolve_form decls env (map-Expr Expr (Scope → ResolvedExpr) (expression decls env) layer) scope
+  abbrev resolved_layer : Expr-F Expr → NameScope → ResolvedExpr
+  resolved_layer layer scope = resolve_form decls env (map-Expr Expr (NameScope → ResolvedExpr) (expression decls env) layer) scope
 
   abbrev Lawful : Expr-F Expr → Type 0
-  Lawful layer = (scope : Scope) (later : List (List ℕ)) → (judged_layer layer (judging_scope scope later)).faults ≡ []
+  Lawful layer = (scope : NameScope) (later : List (List ℕ)) → (judged_layer layer (judging_scope scope later)).faults ≡ []
       → (resolved_layer layer scope).sort ≡ (judged_layer layer (judging_scope scope later)).sort
 
   lawful-Chain : (first : Expr) (links : List (Link Expr)) → IsLawful first → Lawful (Expr-F.Chain first links)
@@ -196,9 +196,9 @@ module _ (decls : List Decl) (env : List Declared) where
       pforall-sort at (judged env low (judging_scope scope later)) (judged env high (judging_scope scope later)) (judged env body (judging_scope (hiding name.text stands.Variable num scope) later)) name.text
       (expression decls env low scope) (expression decls env high scope) (expression decls env body (hiding name.text stands.Variable num scope)) e
 
-  expression-roll : (layer : Expr-F Expr) (scope : Scope) → expression decls env (roll-Expr layer) scope ≡ resolved_layer layer scope
+  expression-roll : (layer : Expr-F Expr) (scope : NameScope) → expression decls env (roll-Expr layer) scope ≡ resolved_layer layer scope
   unfolding expression
-  expression-roll layer scope = ap (λ (f : Scope → ResolvedExpr). f scope) (fold-roll-Expr (Scope → ResolvedExpr) (resolve_form decls env) layer)
+  expression-roll layer scope = ap (λ (f : NameScope → ResolvedExpr). f scope) (fold-roll-Expr (NameScope → ResolvedExpr) (resolve_form decls env) layer)
 
   rolled : (layer : Expr-F Expr) → Lawful layer → IsLawful (roll-Expr layer)
   rolled layer law scope later e =

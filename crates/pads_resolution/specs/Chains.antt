@@ -8,9 +8,9 @@ use Rattle.pads_ast.specs.declared.expr.Step.TheVariants as step_form
 use Rattle.pads_rules.specs.declared.declared.Declared.{Declared}
 use Rattle.pads_resolution.specs.declared.visible.ResolvedExpr.{ResolvedExpr}
 use Rattle.pads_resolution.specs.Expressions.{expression, binary, member_of, indexed}
-use Rattle.pads_resolution.specs.Scopes.{Scope}
+use Rattle.pads_resolution.specs.Scopes.{NameScope}
 
-module _ (decls : List Decl) (env : List Declared) (scope : Scope) where
+module _ (decls : List Decl) (env : List Declared) (scope : NameScope) where
   -- An operator and its right operand behind a left one.
   unfoldable pub linked : ResolvedExpr → Link Expr → ResolvedExpr
   linked left link = binary link.operator left (expression decls env link.operand scope)

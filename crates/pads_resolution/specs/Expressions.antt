@@ -14,8 +14,8 @@ use Rattle.pads_rules.specs.declared.sort.Form.TheVariants as form
 use Rattle.pads_rules.specs.declared.sort.Sort.{Sort}
 use Rattle.pads_typed_tree.specs.declared.expr.Expr.{Expr}
 use Rattle.pads_typed_tree.specs.declared.expr.Expr.TheVariants as expr
-use Rattle.pads_typed_tree.specs.declared.expr.Meaning.{Meaning}
-use Rattle.pads_typed_tree.specs.declared.expr.Meaning.TheVariants as meaning
+use Rattle.pads_typed_tree.specs.declared.expr.NameUse.{NameUse}
+use Rattle.pads_typed_tree.specs.declared.expr.NameUse.TheVariants as meaning
 use Rattle.pads_rules.specs.declared.declared.Declared.{Declared}
 use Rattle.pads_rules.specs.declared.expr_sort.ExprSort.{ExprSort}
 use Rattle.pads_rules.specs.declared.expr_sort.ExprSort.TheVariants as expr_sort
@@ -28,7 +28,7 @@ use Rattle.pads_resolution.specs.declared.visible.ResolvedExpr.{ResolvedExpr}
 use Rattle.pads_resolution.specs.declared.visible.Stands.{Stands}
 use Rattle.pads_resolution.specs.declared.visible.Stands.TheVariants as stands
 use Rattle.pads_resolution.specs.Numbers.{choice_number, member_number}
-use Rattle.pads_resolution.specs.Scopes.{Scope, known_in, hiding}
+use Rattle.pads_resolution.specs.Scopes.{NameScope, known_in, hiding}
 
 -- A sort as a resolved tree has it: one that isn't known is a number's.
 abbrev pub sort_known : ExprSort → Sort
@@ -44,7 +44,7 @@ abbrev pub as_sort : Expr → ExprSort → ResolvedExpr
 as_sort e sort = record { expr = e; sort = sort }
 
 -- What a name stands for.
-abbrev pub meaning_of : List ℕ → Stands → Meaning
+abbrev pub meaning_of : List ℕ → Stands → NameUse
 meaning_of name stands.Variable = meaning.Variable name
 meaning_of name stands.Elts = meaning.Elts
 meaning_of name stands.Length = meaning.Length
@@ -61,14 +61,14 @@ abbrev pub name_found : List ℕ → Option Known → ResolvedExpr
 name_found name (Some known) = known_name name known
 name_found name None = known_name name unknown_name
 
-unfoldable pub name_in : Scope → List ℕ → ResolvedExpr
+unfoldable pub name_in : NameScope → List ℕ → ResolvedExpr
 name_in scope name = name_found name (known_in scope name)
 
 unfoldable pub binary : BinOp → ResolvedExpr → ResolvedExpr → ResolvedExpr
 binary operator left right = as_sort (expr.Binary operator left.expr right.expr) (result_of operator)
 
 -- Operands of one level.
-abbrev pub chained : ResolvedExpr → List (Link (Scope → ResolvedExpr)) → Scope → ResolvedExpr
+abbrev pub chained : ResolvedExpr → List (Link (NameScope → ResolvedExpr)) → NameScope → ResolvedExpr
 chained left [] scope = left
 chained left (link ∷ links) scope = chained (binary link.operator left (link.operand scope)) links scope
 
@@ -112,12 +112,12 @@ element_as array index sort = as_sort (expr.Index array index (sort_known sort))
 unfoldable pub indexed : List Declared → ResolvedExpr → ResolvedExpr → ResolvedExpr
 indexed env whole index = element_as whole.expr index.expr (element env whole.sort)
 
-abbrev pub step : List Decl → List Declared → ResolvedExpr → Step (Scope → ResolvedExpr) → Scope → ResolvedExpr
+abbrev pub step : List Decl → List Declared → ResolvedExpr → Step (NameScope → ResolvedExpr) → NameScope → ResolvedExpr
 step decls env whole (step_form.Name name) scope = member_of decls env whole name.text
 step decls env whole (step_form.Index at index) scope = indexed env whole (index scope)
 
 -- What stands behind an atom.
-abbrev pub posted : List Decl → List Declared → ResolvedExpr → List (Step (Scope → ResolvedExpr)) → Scope → ResolvedExpr
+abbrev pub posted : List Decl → List Declared → ResolvedExpr → List (Step (NameScope → ResolvedExpr)) → NameScope → ResolvedExpr
 posted decls env whole [] scope = whole
 posted decls env whole (next ∷ steps) scope = posted decls env (step decls env whole next scope) steps scope
 
@@ -131,7 +131,7 @@ unfoldable pub pforall : List ℕ → ResolvedExpr → ResolvedExpr → Resolved
 pforall name low high body = as_sort (expr.Pforall name low.expr high.expr body.expr) truth
 
 -- One form of expression, from what its parts resolve to in any scope.
-abbrev pub resolve_form : List Decl → List Declared → Tree-F (Scope → ResolvedExpr) → Scope → ResolvedExpr
+abbrev pub resolve_form : List Decl → List Declared → Tree-F (NameScope → ResolvedExpr) → NameScope → ResolvedExpr
 resolve_form decls env (Tree-F.Chain first links) scope = chained (first scope) links scope
 resolve_form decls env (Tree-F.Unary written_as at operand) scope = unary written_as (operand scope)
 resolve_form decls env (Tree-F.Post base steps) scope = posted decls env (base scope) steps scope
@@ -146,9 +146,9 @@ resolve_form decls env (Tree-F.Pforall at name low high body) scope =
     pforall name.text (low scope) (high scope) (body (hiding name.text stands.Variable num scope))
 
 -- An expression of a description with these declarations and declared types, in a scope.
-unfoldable pub expression : List Decl → List Declared → Tree → Scope → ResolvedExpr
-expression decls env = fold-Tree (Scope → ResolvedExpr) (resolve_form decls env)
+unfoldable pub expression : List Decl → List Declared → Tree → NameScope → ResolvedExpr
+expression decls env = fold-Tree (NameScope → ResolvedExpr) (resolve_form decls env)
 
 -- The tree of it alone.
-unfoldable pub expr_of : List Decl → List Declared → Scope → Tree → Expr
+unfoldable pub expr_of : List Decl → List Declared → NameScope → Tree → Expr
 expr_of decls env scope e = (expression decls env e scope).expr

@@ -20,7 +20,7 @@ use Rattle.pads_rules.specs.Resolving.{is_record_list, param_named}
 use Rattle.pads_rules.specs.Trees.{name_of, params_of, is_precord, is_psource}
 use Rattle.pads_resolution.specs.Bodies.{body_at}
 use Rattle.pads_resolution.specs.Numbers.{short, number_of, declared_number}
-use Rattle.pads_resolution.specs.Scopes.{Scope, variable}
+use Rattle.pads_resolution.specs.Scopes.{NameScope, variable}
 use Rattle.pads_resolution.specs.Types.{param_of}
 
 -- What a declaration is for.
@@ -31,7 +31,7 @@ role_of site =
     else role.Part
 
 -- The parameters of a declaration as variables.
-unfoldable pub params_scope : Site → Scope
+unfoldable pub params_scope : Site → NameScope
 params_scope site = map (λ param. variable (param_named (earlier site) param)) (params_of site.decl.body)
 
 unfoldable pub decl_at : Site → Decl

@@ -36,7 +36,7 @@ use Rattle.pads_rules.specs.Resolving.{type_sort}
 use Rattle.pads_rules.specs.Trees.{args_of, points_of}
 use Rattle.pads_resolution.specs.Expressions.{expr_of, sort_known}
 use Rattle.pads_resolution.specs.Numbers.{short, declared_number}
-use Rattle.pads_resolution.specs.Scopes.{Scope}
+use Rattle.pads_resolution.specs.Scopes.{NameScope}
 
 -- `Peor` is the one argument.
 abbrev pub is_end : List Arg → Bool
@@ -75,15 +75,15 @@ unfoldable pub named_type : List Declared → «Type» → TypeName
 named_type types t = type_name_of (is_end (args_of t)) (base_name t.name.text) (declared_number types t.name.text)
 
 -- The expressions among some arguments.
-abbrev pub arg_exprs : List Decl → List Declared → Scope → Arg → List Expr
+abbrev pub arg_exprs : List Decl → List Declared → NameScope → Arg → List Expr
 arg_exprs decls env scope (arg.Expr e) = expr_of decls env scope e ∷ []
 arg_exprs decls env scope (arg.Peor at) = []
 
-unfoldable pub args : List Decl → List Declared → Scope → List Arg → List Expr
+unfoldable pub args : List Decl → List Declared → NameScope → List Arg → List Expr
 args decls env scope written = flat_map (arg_exprs decls env scope) written
 
 -- A type where it stands in a declaration, in a scope.
-unfoldable pub type_at : Site → Scope → «Type» → ResolvedType
+unfoldable pub type_at : Site → NameScope → «Type» → ResolvedType
 type_at site scope t = record {
   optional = is_some t.optional;
   name = named_type (earlier site) t;

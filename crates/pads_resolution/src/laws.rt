@@ -15,14 +15,14 @@ ghost use Rattle.pads_rules.specs.Trees.{params_of};
 ghost use Rattle.pads_resolution.specs.Expressions.{expression};
 ghost use Rattle.pads_resolution.specs.Resolution.{params_scope};
 ghost use Rattle.pads_resolution.specs.Scopes as scopes;
-ghost use Rattle.pads_resolution.specs.Scopes.{Scope};
+ghost use Rattle.pads_resolution.specs.Scopes.{NameScope};
 ghost use Rattle.pads_resolution.specs.JudgedNames.{as_named, judging_scope};
 
 /// The law of sorts: an expression without violations resolves to one of the sort that the rules give it, with the
 /// same names in scope.
 #[tactic(auto, using(crate::proofs::SortLaws::sort_laws))]
 pub fn resolved_sorts_are_judged()
-    ensures sorts { (decls : List Decl) (env : List Declared) (e : Expr) (scope : Scope) (later : List (List ℕ)) → (judged env e (judging_scope scope later)).faults ≡ [] → (expression decls env e scope).sort ≡ (judged env e (judging_scope scope later)).sort }
+    ensures sorts { (decls : List Decl) (env : List Declared) (e : Expr) (scope : NameScope) (later : List (List ℕ)) → (judged env e (judging_scope scope later)).faults ≡ [] → (expression decls env e scope).sort ≡ (judged env e (judging_scope scope later)).sort }
 {}
 
 /// The law of scopes: the names in which expressions are resolved are, with the same sorts, those in which the rules
@@ -31,7 +31,7 @@ pub fn resolved_sorts_are_judged()
 #[tactic(auto, using(crate::proofs::ScopeLaws::scope_laws))]
 pub fn scopes_are_judged()
     ensures params { (site : Site) → map as_named (params_scope site) ≡ map (param_named (earlier site)) (params_of site.decl.body) }
-    ensures part { (types : List Declared) (names : Scope) (part : Part) → map as_named (scopes.names_after types names part) ≡ pieces.names_after types (map as_named names) part }
-    ensures condition { (types : List Declared) (names : Scope) (parts : List Part) → map as_named (scopes.fields_after types names 0 parts) ≡ pieces.names_after_all types (map as_named names) parts }
-    ensures array { (number : ℕ) (names : Scope) → judging_scope (scopes.array_scope number names) [] ≡ pieces.array_scope (map as_named names) number }
+    ensures part { (types : List Declared) (names : NameScope) (part : Part) → map as_named (scopes.names_after types names part) ≡ pieces.names_after types (map as_named names) part }
+    ensures condition { (types : List Declared) (names : NameScope) (parts : List Part) → map as_named (scopes.fields_after types names 0 parts) ≡ pieces.names_after_all types (map as_named names) parts }
+    ensures array { (number : ℕ) (names : NameScope) → judging_scope (scopes.array_scope number names) [] ≡ pieces.array_scope (map as_named names) number }
 {}

@@ -7,8 +7,8 @@ ghost use Rattle.pads_resolve_expr.specs.Scopes.{names_in_scope};
 
 use pads_ast::{Array as WrittenArray, ArrayOption as WrittenOption};
 use pads_resolution::{Stands, Visible};
-use pads_resolve_expr::{Scope, points};
-use pads_resolve_types::{Site, expr_at, literal_of, option_at, type_at};
+use pads_resolve_expr::{NameScope, points};
+use pads_resolve_types::{ResolvingSite, expr_at, literal_of, option_at, type_at};
 use pads_rules::{ExprSort, Form};
 use pads_typed_tree::{Array, ArrayOption};
 use pads_value::{Items, Memory};
@@ -17,8 +17,8 @@ use std::alloc::Global;
 #[tactic(auto, unfolding(pads_resolution::specs::Bodies::array_option_at))]
 fn array_option_at(
     alloc: Global,
-    site: &Site<'_>,
-    scope: &Scope<'_, '_>,
+    site: &ResolvingSite<'_>,
+    scope: &NameScope<'_, '_>,
     option: &WrittenOption,
 ) -> Result<ArrayOption, Memory>
     ensures made { IfOk result (λ made. made ≡ bodies.array_option_at (stands site.now) (names_in_scope scope.now) option.now) }
@@ -36,8 +36,8 @@ fn array_option_at(
 
 fn array_options_at(
     alloc: Global,
-    site: &Site<'_>,
-    scope: &Scope<'_, '_>,
+    site: &ResolvingSite<'_>,
+    scope: &NameScope<'_, '_>,
     options: &[WrittenOption],
 ) -> Result<Items<ArrayOption>, Memory>
     ensures made { IfOk result (λ made. made ≡ map (bodies.array_option_at (stands site.now) (names_in_scope scope.now)) options.now) }
@@ -53,19 +53,19 @@ fn array_options_at(
 #[tactic(auto, unfolding(pads_resolution::specs::Bodies::array_at), using(pads_resolve_expr::proofs::ScopeLemmas::scope_rules))]
 pub(crate) fn array_at(
     alloc: Global,
-    site: &Site<'_>,
+    site: &ResolvingSite<'_>,
     params: &[Visible],
     d: &WrittenArray,
 ) -> Result<Array, Memory>
     ensures made { IfOk result (λ made. made ≡ bodies.array_at (stands site.now) params.now d.now) }
 {
-    let outside = Scope::Names(params);
+    let outside = NameScope::Names(params);
     let of = type_at(alloc, site, &outside, &d.of)?;
     let size = option_at(alloc, site, &outside, &d.size)?;
     let num = ExprSort::plain(Form::Num);
-    let counted = Scope::Hiding(b"length", Stands::Length, num, &outside);
+    let counted = NameScope::Hiding(b"length", Stands::Length, num, &outside);
     let array = ExprSort::plain(Form::Array(site.number as u64));
-    let inside = Scope::Hiding(b"elts", Stands::Elts, array, &counted);
+    let inside = NameScope::Hiding(b"elts", Stands::Elts, array, &counted);
     let options = array_options_at(alloc, site, &inside, d.options.as_slice())?;
     let condition = option_at(alloc, site, &inside, &d.condition)?;
     Ok(Array {

@@ -11,8 +11,8 @@ use crate::typedefs::typedef_at;
 use crate::unions::union_at;
 use pads_ast::{DeclBody as WrittenBody, Type as WrittenType};
 use pads_resolution::Visible;
-use pads_resolve_expr::Scope;
-use pads_resolve_types::{Site, labels_of, type_at};
+use pads_resolve_expr::NameScope;
+use pads_resolve_types::{ResolvingSite, labels_of, type_at};
 use pads_typed_tree::{DeclBody, Type};
 use pads_value::{Items, Memory};
 use std::alloc::Global;
@@ -21,20 +21,20 @@ use std::alloc::Global;
 #[tactic(auto, using(pads_resolve_expr::proofs::ScopeLemmas::scope_rules))]
 fn opt_at(
     alloc: Global,
-    site: &Site<'_>,
+    site: &ResolvingSite<'_>,
     params: &[Visible],
     of: &WrittenType,
 ) -> Result<Type, Memory>
     ensures made { IfOk result (λ made. made ≡ types.type_at (stands site.now) params.now of.now) }
 {
-    type_at(alloc, site, &Scope::Names(params), of)
+    type_at(alloc, site, &NameScope::Names(params), of)
 }
 
 /// The body of a declaration behind its parameters.
 #[tactic(auto, unfolding(pads_resolution::specs::Bodies::body_at))]
 pub(crate) fn body_at(
     alloc: Global,
-    site: &Site<'_>,
+    site: &ResolvingSite<'_>,
     params: Items<Visible>,
     body: &WrittenBody,
 ) -> Result<DeclBody, Memory>

@@ -9,8 +9,8 @@ ghost use Rattle.pads_rules.specs.Resolving.{branch_named};
 
 use pads_ast::Branch as WrittenBranch;
 use pads_resolution::Visible;
-use pads_resolve_expr::{Scope, text};
-use pads_resolve_types::{Site, add_variable, earlier, option_at, type_at};
+use pads_resolve_expr::{NameScope, text};
+use pads_resolve_types::{ResolvingSite, add_variable, earlier, option_at, type_at};
 use pads_typed_tree::Branch;
 use pads_value::{Items, Memory};
 use std::alloc::Global;
@@ -19,16 +19,16 @@ use std::alloc::Global;
 #[tactic(auto, unfolding(pads_resolution::specs::Bodies::branch_at), using(pads_resolve_expr::proofs::ScopeLemmas::scope_rules))]
 pub(crate) fn branch_in(
     alloc: Global,
-    site: &Site<'_>,
+    site: &ResolvingSite<'_>,
     names: &mut Items<Visible>,
     f: &WrittenBranch,
 ) -> Result<Branch, Memory>
     ensures made { IfOk result (λ made. made ≡ bodies.branch_at (stands site.now) names.old f.now) }
     ensures names { OnOk result (names.new ≡ names.old ++ variable (branch_named (pieces.earlier (stands site.now)) f.now) ∷ []) }
 {
-    let of = type_at(alloc, site, &Scope::Names(names.as_slice()), &f.of)?;
+    let of = type_at(alloc, site, &NameScope::Names(names.as_slice()), &f.of)?;
     add_variable(alloc, &earlier(site), names, &f.name, &f.of)?;
-    let scope = Scope::Names(names.as_slice());
+    let scope = NameScope::Names(names.as_slice());
     let constraint = option_at(alloc, site, &scope, &f.constraint)?;
     let name = text(alloc, f.name.text.as_slice())?;
     Ok(Branch {

@@ -10,14 +10,14 @@ use crate::sources::role_of;
 use pads_declared::{TypeTable, name_of, params_of as params_in};
 use pads_resolution::Visible;
 use pads_resolve_expr::{PartTable, text};
-use pads_resolve_types::{Site, earlier, params_of, variables};
+use pads_resolve_types::{ResolvingSite, earlier, params_of, variables};
 use pads_typed_tree::Decl;
 use pads_value::{Items, Memory};
 use std::alloc::Global;
 
 /// The parameters of a declaration as variables.
 #[tactic(auto, unfolding(pads_resolution::specs::Resolution::params_scope))]
-fn params_scope(alloc: Global, site: &Site<'_>) -> Result<Items<Visible>, Memory>
+fn params_scope(alloc: Global, site: &ResolvingSite<'_>) -> Result<Items<Visible>, Memory>
     ensures made { IfOk result (λ made. made ≡ resolution.params_scope (stands site.now)) }
 {
     variables(alloc, &earlier(site), params_in(&site.decl.body))
@@ -25,7 +25,7 @@ fn params_scope(alloc: Global, site: &Site<'_>) -> Result<Items<Visible>, Memory
 
 /// A declaration.
 #[tactic(auto, unfolding(pads_resolution::specs::Resolution::decl_at))]
-fn decl_at(alloc: Global, site: &Site<'_>) -> Result<Decl, Memory>
+fn decl_at(alloc: Global, site: &ResolvingSite<'_>) -> Result<Decl, Memory>
     ensures made { IfOk result (λ made. made ≡ resolution.decl_at (stands site.now)) }
 {
     let name = text(alloc, name_of(&site.decl.body).text.as_slice())?;
@@ -51,7 +51,7 @@ pub(crate) fn decls_of<'a>(
     let decls = table.as_slice();
     let mut made = Items::new(alloc);
     for number in 0..decls.len() {
-        let site = Site {
+        let site = ResolvingSite {
             decls: table,
             env,
             number,

@@ -9,12 +9,12 @@ ghost use Rattle.pads_resolve.specs.Places.{sites_among};
 use pads_ast::{Decl as WrittenDecl, DeclBody, DeclMark, Part, Type};
 use pads_declared::{EarlierTypes, TypeTable, is_precord, is_psource, is_record_list};
 use pads_resolve_expr::{PartTable, number_of, short};
-use pads_resolve_types::{Site, earlier};
+use pads_resolve_types::{ResolvingSite, earlier};
 use pads_typed_tree::{Role, Source};
 
 /// What a declaration is for.
 #[tactic(auto, unfolding(pads_resolution::specs::Resolution::role_of))]
-pub(crate) fn role_of(site: &Site<'_>) -> Role
+pub(crate) fn role_of(site: &ResolvingSite<'_>) -> Role
     ensures role { result ≡ resolution.role_of (stands site.now) }
 {
     if is_precord(site.decl.mark) {
@@ -53,7 +53,7 @@ fn decl(decls: &[WrittenDecl], number: u16) -> Option<&WrittenDecl>
 
 /// The record type of a declared record list, by the list's number.
 #[tactic(auto, unfolding(pads_resolution::specs::Resolution::list_record))]
-fn list_record(site: &Site<'_>, list: u16) -> u16
+fn list_record(site: &ResolvingSite<'_>, list: u16) -> u16
     ensures number { result ≡ resolution.list_record (stands site.now) list }
 {
     match decl(site.decls.as_slice(), list) {
@@ -73,7 +73,7 @@ fn plain_source(record_type: u16) -> Source
 }
 
 /// A source with a header: the type of the first field is the header's, that of the second lists the other records.
-fn headed_source(site: &Site<'_>, header: &Type, list: &Type) -> Source
+fn headed_source(site: &ResolvingSite<'_>, header: &Type, list: &Type) -> Source
     ensures source { result ≡ resolution.headed_source (stands site.now) header.now list.now }
 {
     let types = earlier(site);
@@ -83,7 +83,7 @@ fn headed_source(site: &Site<'_>, header: &Type, list: &Type) -> Source
     }
 }
 
-fn parts_source(site: &Site<'_>, parts: &[Part]) -> Source
+fn parts_source(site: &ResolvingSite<'_>, parts: &[Part]) -> Source
     ensures source { result ≡ resolution.parts_source (stands site.now) parts.now }
 {
     match parts {
@@ -93,7 +93,7 @@ fn parts_source(site: &Site<'_>, parts: &[Part]) -> Source
 }
 
 /// The source that a `Psource` declaration shapes: a record list, or a struct of a header and a record list.
-fn shaped_source(site: &Site<'_>, body: &DeclBody) -> Source
+fn shaped_source(site: &ResolvingSite<'_>, body: &DeclBody) -> Source
     ensures source { result ≡ resolution.shaped_source (stands site.now) body.now }
 {
     match body {
@@ -105,7 +105,7 @@ fn shaped_source(site: &Site<'_>, body: &DeclBody) -> Source
 
 /// The source behind a declaration, after that before it.
 #[tactic(auto, unfolding(pads_resolution::specs::Resolution::source_after))]
-fn source_after(source: Source, site: &Site<'_>) -> Source
+fn source_after(source: Source, site: &ResolvingSite<'_>) -> Source
     ensures source { result ≡ resolution.source_after source (stands site.now) }
 {
     match site.decl.mark {
@@ -123,7 +123,7 @@ pub(crate) fn source_of<'a>(table: &'a PartTable<'a>, env: &'a TypeTable) -> Sou
     let decls = table.as_slice();
     let mut source = plain_source(0);
     for number in 0..decls.len() {
-        let site = Site {
+        let site = ResolvingSite {
             decls: table,
             env,
             number,

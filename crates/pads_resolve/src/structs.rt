@@ -13,9 +13,9 @@ use pads_ast::{
     Expr as Tree, Name, Part as WrittenPart, Struct as WrittenStruct, Type as WrittenType,
 };
 use pads_resolution::Visible;
-use pads_resolve_expr::{Scope, text};
+use pads_resolve_expr::{NameScope, text};
 use pads_resolve_types::{
-    Site, add_variable, computed_of, earlier, expr_at, literal_of, with_fields,
+    ResolvingSite, add_variable, computed_of, earlier, expr_at, literal_of, with_fields,
 };
 use pads_typed_tree::{Expr, Part, Struct};
 use pads_value::{Items, Memory};
@@ -25,7 +25,7 @@ use std::alloc::Global;
 #[tactic(auto, using(pads_resolve_expr::proofs::ScopeLemmas::scope_rules))]
 fn computed_at(
     alloc: Global,
-    site: &Site<'_>,
+    site: &ResolvingSite<'_>,
     names: &[Visible],
     of: &WrittenType,
     name: &Name,
@@ -33,7 +33,7 @@ fn computed_at(
 ) -> Result<Part, Memory>
     ensures made { IfOk result (λ made. made ≡ part_form.Pcompute (types.computed_of of.now) name.now.text (bodies.expr_at (stands site.now) names.now value.now)) }
 {
-    let value = expr_at(alloc, site, &Scope::Names(names), value)?;
+    let value = expr_at(alloc, site, &NameScope::Names(names), value)?;
     Ok(Part::Pcompute {
         of: computed_of(of),
         name: text(alloc, name.text.as_slice())?,
@@ -45,7 +45,7 @@ fn computed_at(
 #[tactic(auto, unfolding(pads_resolution::specs::Bodies::part_at), using(pads_resolve_types::proofs::Steps::nothing_more))]
 fn part_in(
     alloc: Global,
-    site: &Site<'_>,
+    site: &ResolvingSite<'_>,
     names: &mut Items<Visible>,
     part: &WrittenPart,
 ) -> Result<Part, Memory>
@@ -66,7 +66,7 @@ fn part_in(
 /// The parts of a struct behind some names.
 fn parts_at(
     alloc: Global,
-    site: &Site<'_>,
+    site: &ResolvingSite<'_>,
     params: Items<Visible>,
     parts: &[WrittenPart],
 ) -> Result<Items<Part>, Memory>
@@ -84,7 +84,7 @@ fn parts_at(
 #[tactic(auto, using(pads_resolve_expr::proofs::ScopeLemmas::scope_rules))]
 fn condition_at(
     alloc: Global,
-    site: &Site<'_>,
+    site: &ResolvingSite<'_>,
     params: &[Visible],
     d: &WrittenStruct,
 ) -> Result<Option<Expr>, Memory>
@@ -94,7 +94,7 @@ fn condition_at(
         return Ok(None);
     };
     let names = with_fields(alloc, &earlier(site), params, d.parts.as_slice())?;
-    let scope = Scope::Names(names.as_slice());
+    let scope = NameScope::Names(names.as_slice());
     Ok(Some(expr_at(alloc, site, &scope, condition)?))
 }
 
@@ -102,7 +102,7 @@ fn condition_at(
 #[tactic(auto, unfolding(pads_resolution::specs::Bodies::struct_at))]
 pub(crate) fn struct_at(
     alloc: Global,
-    site: &Site<'_>,
+    site: &ResolvingSite<'_>,
     params: Items<Visible>,
     d: &WrittenStruct,
 ) -> Result<Struct, Memory>

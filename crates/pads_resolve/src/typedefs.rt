@@ -7,8 +7,8 @@ ghost use Rattle.pads_resolution.specs.Bodies as bodies;
 use pads_ast::{Constraint as WrittenConstraint, Typedef as WrittenTypedef};
 use pads_declared::type_sort;
 use pads_resolution::{Stands, Visible};
-use pads_resolve_expr::{Scope, text};
-use pads_resolve_types::{Site, earlier, expr_at, type_at};
+use pads_resolve_expr::{NameScope, text};
+use pads_resolve_types::{ResolvingSite, earlier, expr_at, type_at};
 use pads_typed_tree::{Constraint, Typedef};
 use pads_value::Memory;
 use std::alloc::Global;
@@ -17,7 +17,7 @@ use std::alloc::Global;
 #[tactic(auto, unfolding(pads_resolution::specs::Bodies::constraint_at), using(pads_resolve_expr::proofs::ScopeLemmas::scope_rules))]
 fn constraint_at(
     alloc: Global,
-    site: &Site<'_>,
+    site: &ResolvingSite<'_>,
     params: &[Visible],
     d: &WrittenTypedef,
     c: &WrittenConstraint,
@@ -26,8 +26,8 @@ fn constraint_at(
 {
     let name = c.variable.text.as_slice();
     let sort = type_sort(&earlier(site), &d.of);
-    let outside = Scope::Names(params);
-    let scope = Scope::Hiding(name, Stands::Variable, sort, &outside);
+    let outside = NameScope::Names(params);
+    let scope = NameScope::Hiding(name, Stands::Variable, sort, &outside);
     let condition = expr_at(alloc, site, &scope, &c.condition)?;
     Ok(Constraint {
         variable: text(alloc, name)?,
@@ -38,7 +38,7 @@ fn constraint_at(
 /// The constraint of a typedef, where it has one.
 fn optional_constraint_at(
     alloc: Global,
-    site: &Site<'_>,
+    site: &ResolvingSite<'_>,
     params: &[Visible],
     d: &WrittenTypedef,
 ) -> Result<Option<Constraint>, Memory>
@@ -54,13 +54,13 @@ fn optional_constraint_at(
 #[tactic(auto, unfolding(pads_resolution::specs::Bodies::typedef_at), using(pads_resolve_expr::proofs::ScopeLemmas::scope_rules))]
 pub(crate) fn typedef_at(
     alloc: Global,
-    site: &Site<'_>,
+    site: &ResolvingSite<'_>,
     params: &[Visible],
     d: &WrittenTypedef,
 ) -> Result<Typedef, Memory>
     ensures made { IfOk result (λ made. made ≡ bodies.typedef_at (stands site.now) params.now d.now) }
 {
-    let of = type_at(alloc, site, &Scope::Names(params), &d.of)?;
+    let of = type_at(alloc, site, &NameScope::Names(params), &d.of)?;
     let constraint = optional_constraint_at(alloc, site, params, d)?;
     Ok(Typedef { of, constraint })
 }

@@ -7,8 +7,8 @@ ghost use Rattle.pads_resolution.specs.Bodies as bodies;
 use crate::branches::branch_in;
 use pads_ast::{Branch as WrittenBranch, Case as WrittenCase, Switch as WrittenSwitch, UnionBody};
 use pads_resolution::Visible;
-use pads_resolve_expr::Scope;
-use pads_resolve_types::{Site, const_of, expr_at};
+use pads_resolve_expr::NameScope;
+use pads_resolve_types::{ResolvingSite, const_of, expr_at};
 use pads_typed_tree::{Branch, Case, Switch, Union};
 use pads_value::{Items, Memory};
 use std::alloc::Global;
@@ -17,7 +17,7 @@ use std::alloc::Global;
 #[tactic(auto, using(std::proofs::lemmas::Grind::common_steps, pads_declared::proofs::Lists::popped))]
 fn branch_at(
     alloc: Global,
-    site: &Site<'_>,
+    site: &ResolvingSite<'_>,
     names: &mut Items<Visible>,
     f: &WrittenBranch,
 ) -> Result<Branch, Memory>
@@ -32,7 +32,7 @@ fn branch_at(
 /// The branches of a union.
 fn branches_at(
     alloc: Global,
-    site: &Site<'_>,
+    site: &ResolvingSite<'_>,
     params: Items<Visible>,
     branches: &[WrittenBranch],
 ) -> Result<Items<Branch>, Memory>
@@ -50,7 +50,7 @@ fn branches_at(
 #[tactic(auto, unfolding(pads_resolution::specs::Bodies::case_at))]
 fn case_at(
     alloc: Global,
-    site: &Site<'_>,
+    site: &ResolvingSite<'_>,
     names: &mut Items<Visible>,
     case: &WrittenCase,
 ) -> Result<Case, Memory>
@@ -65,7 +65,7 @@ fn case_at(
 /// The cases of a switch.
 fn cases_at(
     alloc: Global,
-    site: &Site<'_>,
+    site: &ResolvingSite<'_>,
     names: &mut Items<Visible>,
     cases: &[WrittenCase],
 ) -> Result<Items<Case>, Memory>
@@ -82,7 +82,7 @@ fn cases_at(
 /// The branch for all other values, where there is one.
 fn default_at(
     alloc: Global,
-    site: &Site<'_>,
+    site: &ResolvingSite<'_>,
     names: &mut Items<Visible>,
     default: &Option<WrittenBranch>,
 ) -> Result<Option<Branch>, Memory>
@@ -98,14 +98,14 @@ fn default_at(
 #[tactic(auto, unfolding(pads_resolution::specs::Bodies::switch_at), using(pads_resolve_expr::proofs::ScopeLemmas::scope_rules))]
 fn switch_at(
     alloc: Global,
-    site: &Site<'_>,
+    site: &ResolvingSite<'_>,
     params: Items<Visible>,
     switch: &WrittenSwitch,
 ) -> Result<Switch, Memory>
     ensures made { IfOk result (λ made. made ≡ bodies.switch_at (stands site.now) params switch.now) }
 {
     let mut names = params;
-    let scope = Scope::Names(names.as_slice());
+    let scope = NameScope::Names(names.as_slice());
     let value = expr_at(alloc, site, &scope, &switch.value)?;
     let cases = cases_at(alloc, site, &mut names, switch.cases.as_slice())?;
     let default = default_at(alloc, site, &mut names, &switch.default)?;
@@ -120,7 +120,7 @@ fn switch_at(
 #[tactic(auto, unfolding(pads_resolution::specs::Bodies::union_at))]
 pub(crate) fn union_at(
     alloc: Global,
-    site: &Site<'_>,
+    site: &ResolvingSite<'_>,
     params: Items<Visible>,
     body: &UnionBody,
 ) -> Result<Union, Memory>

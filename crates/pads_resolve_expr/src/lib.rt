@@ -16,5 +16,5 @@ pub use names::sort_known;
 pub use numbers::{number_of, short};
 pub use part_table::PartTable;
 pub use resolving::resolve_expr;
-pub use scope::{Scope, Types};
+pub use scope::{NameScope, Types};
 pub use texts::{points, text};

@@ -4,11 +4,11 @@ ghost use Rattle.std.specs.Prelude.{◌≡◌, IfOk};
 ghost use Rattle.pads_resolution.specs.Expressions as expressions;
 ghost use Rattle.pads_resolve_expr.specs.Scopes.{names_in_scope};
 
-use crate::scope::{Scope, known};
+use crate::scope::{NameScope, known};
 use crate::texts::text;
 use pads_resolution::{Known, ResolvedExpr, Stands};
 use pads_rules::{ExprSort, Form, Sort};
-use pads_typed_tree::{Expr, Meaning};
+use pads_typed_tree::{Expr, NameUse};
 use pads_value::Memory;
 use std::alloc::Global;
 
@@ -28,14 +28,14 @@ pub fn sort_known(sort: ExprSort) -> Sort
 }
 
 /// What a name stands for.
-fn meaning(alloc: Global, name: &[u8], stands: Stands) -> Result<Meaning, Memory>
+fn meaning(alloc: Global, name: &[u8], stands: Stands) -> Result<NameUse, Memory>
     ensures meaning { IfOk result (λ made. made ≡ expressions.meaning_of name.now stands) }
 {
     match stands {
-        Stands::Variable => Ok(Meaning::Variable(text(alloc, name)?)),
-        Stands::Elts => Ok(Meaning::Elts),
-        Stands::Length => Ok(Meaning::Length),
-        Stands::Field(number) => Ok(Meaning::Field(number)),
+        Stands::Variable => Ok(NameUse::Variable(text(alloc, name)?)),
+        Stands::Elts => Ok(NameUse::Elts),
+        Stands::Length => Ok(NameUse::Length),
+        Stands::Field(number) => Ok(NameUse::Field(number)),
     }
 }
 
@@ -65,7 +65,7 @@ fn unknown() -> Known
 #[tactic(auto, unfolding(pads_resolution::specs::Expressions::name_in))]
 pub(crate) fn name_in(
     alloc: Global,
-    scope: &Scope<'_, '_>,
+    scope: &NameScope<'_, '_>,
     name: &[u8],
 ) -> Result<ResolvedExpr, Memory>
     ensures made { IfOk result (λ made. made ≡ expressions.name_in (names_in_scope scope.now) name.now) }

@@ -11,7 +11,7 @@ ghost use Rattle.pads_resolve_expr.specs.Scopes.{names_in_scope};
 
 use crate::names::name_in;
 use crate::nodes::{binary, indexed, member_of, number, pforall, pis, plen, truth, unary, word};
-use crate::{Scope, Types};
+use crate::{NameScope, Types};
 use pads_ast::{Expr, Link, Name, Step, UnaryOperator};
 use pads_expr::BinOp;
 use pads_resolution::{ResolvedExpr, Stands};
@@ -26,7 +26,7 @@ pub fn resolve_expr(
     alloc: Global,
     types: &Types<'_>,
     e: &Expr,
-    scope: &Scope<'_, '_>,
+    scope: &NameScope<'_, '_>,
 ) -> Result<ResolvedExpr, Memory>
     ensures resolved { IfOk result (λ made. made ≡ expression types.now.decls.now types.now.env.now e.now (names_in_scope scope.now)) }
 {
@@ -74,7 +74,7 @@ fn chain(
     types: &Types<'_>,
     links: &[Link<Expr>],
     first: ResolvedExpr,
-    scope: &Scope<'_, '_>,
+    scope: &NameScope<'_, '_>,
 ) -> Result<ResolvedExpr, Memory>
     ensures links { IfOk result (λ made. made ≡ fold (linked types.now.decls.now types.now.env.now (names_in_scope scope.now)) first links.now) }
 {
@@ -93,7 +93,7 @@ fn link_behind(
     operator: BinOp,
     operand: &Expr,
     left: ResolvedExpr,
-    scope: &Scope<'_, '_>,
+    scope: &NameScope<'_, '_>,
 ) -> Result<ResolvedExpr, Memory>
     ensures made { IfOk result (λ made. made ≡ expressions.binary operator left (expression types.now.decls.now types.now.env.now operand.now (names_in_scope scope.now))) }
 {
@@ -109,7 +109,7 @@ fn signed(
     types: &Types<'_>,
     operator: UnaryOperator,
     operand: &Expr,
-    scope: &Scope<'_, '_>,
+    scope: &NameScope<'_, '_>,
 ) -> Result<ResolvedExpr, Memory>
     ensures made { IfOk result (λ made. made ≡ expressions.unary operator (expression types.now.decls.now types.now.env.now operand.now (names_in_scope scope.now))) }
 {
@@ -125,7 +125,7 @@ fn post(
     types: &Types<'_>,
     steps: &[Step<Expr>],
     base: ResolvedExpr,
-    scope: &Scope<'_, '_>,
+    scope: &NameScope<'_, '_>,
 ) -> Result<ResolvedExpr, Memory>
     ensures steps { IfOk result (λ made. made ≡ fold (stepped types.now.decls.now types.now.env.now (names_in_scope scope.now)) base steps.now) }
 {
@@ -146,7 +146,7 @@ fn index_behind(
     types: &Types<'_>,
     index: &Expr,
     whole: ResolvedExpr,
-    scope: &Scope<'_, '_>,
+    scope: &NameScope<'_, '_>,
 ) -> Result<ResolvedExpr, Memory>
     ensures made { IfOk result (λ made. made ≡ expressions.indexed types.now.env.now whole (expression types.now.decls.now types.now.env.now index.now (names_in_scope scope.now))) }
 {
@@ -161,7 +161,7 @@ fn choice(
     types: &Types<'_>,
     value: &Expr,
     name: &Name,
-    scope: &Scope<'_, '_>,
+    scope: &NameScope<'_, '_>,
 ) -> Result<ResolvedExpr, Memory>
     ensures made { IfOk result (λ made. made ≡ expressions.pis types.now.env.now (expression types.now.decls.now types.now.env.now value.now (names_in_scope scope.now)) name.now.text) }
 {
@@ -175,7 +175,7 @@ fn length(
     alloc: Global,
     types: &Types<'_>,
     value: &Expr,
-    scope: &Scope<'_, '_>,
+    scope: &NameScope<'_, '_>,
 ) -> Result<ResolvedExpr, Memory>
     ensures made { IfOk result (λ made. made ≡ expressions.plen (expression types.now.decls.now types.now.env.now value.now (names_in_scope scope.now))) }
 {
@@ -191,7 +191,7 @@ fn in_variable(
     types: &Types<'_>,
     variable: &Name,
     body: &Expr,
-    scope: &Scope<'_, '_>,
+    scope: &NameScope<'_, '_>,
 ) -> Result<ResolvedExpr, Memory>
     ensures made { IfOk result (λ made. made ≡ expression types.now.decls.now types.now.env.now body.now (hiding variable.now.text stands_form.Variable sorts.num (names_in_scope scope.now))) }
 {
@@ -201,6 +201,6 @@ fn in_variable(
         alloc,
         types,
         body,
-        &Scope::Hiding(name, Stands::Variable, num, &*scope),
+        &NameScope::Hiding(name, Stands::Variable, num, &*scope),
     )
 }

@@ -16,11 +16,11 @@ pub struct Types<'a> {
 
 /// The names that an expression may use. A name that hides others lives on the stack.
 #[derive(Clone, Copy)]
-pub enum Scope<'s, 'a> {
+pub enum NameScope<'s, 'a> {
     /// Names, of which the first of a text counts.
     Names(&'a [Visible]),
     /// A name that hides others.
-    Hiding(&'a [u8], Stands, ExprSort, &'s Scope<'s, 'a>),
+    Hiding(&'a [u8], Stands, ExprSort, &'s NameScope<'s, 'a>),
 }
 
 /// What is known of a name among some: the first of that text gives it.
@@ -34,12 +34,12 @@ fn known_among(names: &[Visible], text: &[u8]) -> Option<Known>
 }
 
 /// What is known of a name in a scope.
-pub(crate) fn known(scope: &Scope<'_, '_>, text: &[u8]) -> Option<Known>
+pub(crate) fn known(scope: &NameScope<'_, '_>, text: &[u8]) -> Option<Known>
     ensures first { result ≡ known_in (names_in_scope scope.now) text.now }
 {
     match scope {
-        Scope::Names(names) => known_among(names, text),
-        Scope::Hiding(name, stands, sort, outer) => {
+        NameScope::Names(names) => known_among(names, text),
+        NameScope::Hiding(name, stands, sort, outer) => {
             if same_text(name, text) {
                 Some(Known {
                     stands: *stands,

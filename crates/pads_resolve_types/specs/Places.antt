@@ -1,5 +1,5 @@
 -- The places of declarations.
-use Rattle.pads_resolve_types.specs.declared.site.Site.{Site as Placed}
+use Rattle.pads_resolve_types.specs.declared.site.ResolvingSite.{ResolvingSite as Placed}
 use Rattle.pads_rules.specs.Pieces.{Site}
 
 -- The place that a borrowed one stands for.

@@ -5,10 +5,10 @@ ghost use Rattle.pads_resolve_types.specs.Places.{stands};
 ghost use Rattle.pads_resolution.specs.Bodies as bodies;
 ghost use Rattle.pads_resolve_expr.specs.Scopes.{names_in_scope};
 
-use crate::site::Site;
+use crate::site::ResolvingSite;
 use pads_ast::Expr as Tree;
 use pads_resolution::ResolvedExpr;
-use pads_resolve_expr::{Scope, Types, resolve_expr};
+use pads_resolve_expr::{NameScope, Types, resolve_expr};
 use pads_typed_tree::Expr;
 use pads_value::Memory;
 use std::alloc::Global;
@@ -17,8 +17,8 @@ use std::alloc::Global;
 #[tactic(auto, unfolding(pads_resolution::specs::Bodies::expr_at, pads_resolution::specs::Expressions::expr_of))]
 pub fn expr_at(
     alloc: Global,
-    site: &Site<'_>,
-    scope: &Scope<'_, '_>,
+    site: &ResolvingSite<'_>,
+    scope: &NameScope<'_, '_>,
     e: &Tree,
 ) -> Result<Expr, Memory>
     ensures made { IfOk result (λ made. made ≡ bodies.expr_at (stands site.now) (names_in_scope scope.now) e.now) }
@@ -34,8 +34,8 @@ pub fn expr_at(
 /// An expression, where one is written.
 pub fn option_at(
     alloc: Global,
-    site: &Site<'_>,
-    scope: &Scope<'_, '_>,
+    site: &ResolvingSite<'_>,
+    scope: &NameScope<'_, '_>,
     e: &Option<Tree>,
 ) -> Result<Option<Expr>, Memory>
     ensures made { IfOk result (λ made. made ≡ bodies.option_at (stands site.now) (names_in_scope scope.now) e.now) }

@@ -15,5 +15,5 @@ pub use expressions::{expr_at, option_at};
 pub use labels::labels_of;
 pub use literals::{const_of, literal_of};
 pub use scopes::{add_variable, variables, with_fields};
-pub use site::{Site, earlier};
+pub use site::{ResolvingSite, earlier};
 pub use types::{computed_of, params_of, type_at};

@@ -10,7 +10,7 @@ use pads_resolve_expr::PartTable;
 
 /// A declaration where it stands.
 #[derive(Clone, Copy)]
-pub struct Site<'a> {
+pub struct ResolvingSite<'a> {
     /// The declarations of the whole description.
     pub decls: &'a PartTable<'a>,
     /// Its declared types.
@@ -21,7 +21,7 @@ pub struct Site<'a> {
 }
 
 /// The types that are declared before.
-pub fn earlier<'a>(site: &Site<'a>) -> EarlierTypes<'a>
+pub fn earlier<'a>(site: &ResolvingSite<'a>) -> EarlierTypes<'a>
     ensures types { result ≡ pieces.earlier (stands site.now) }
 {
     site.env.before(site.number)

@@ -7,12 +7,12 @@ ghost use Rattle.pads_resolve_expr.specs.Scopes.{names_in_scope};
 ghost use Rattle.pads_rules.specs.Trees as trees;
 
 use crate::expressions::expr_at;
-use crate::site::{Site, earlier};
+use crate::site::{ResolvingSite, earlier};
 use pads_ast::{Arg, Param as WrittenParam, Type as WrittenType};
 use pads_base_names::{BaseName, NamedCoding, base_name};
 use pads_bases::Order;
 use pads_declared::{EarlierTypes, type_sort};
-use pads_resolve_expr::{Scope, short, sort_known, text};
+use pads_resolve_expr::{NameScope, short, sort_known, text};
 use pads_typed_tree::{BaseType, Computed, Expr, Param, Params, Type, TypeName};
 use pads_value::{Items, Memory};
 use std::alloc::Global;
@@ -88,8 +88,8 @@ fn named_type(earlier: &EarlierTypes<'_>, of: &WrittenType) -> TypeName
 #[tactic(auto, unfolding(pads_resolution::specs::Bodies::expr_at), using(crate::proofs::Steps::nothing_more))]
 fn add_arg(
     alloc: Global,
-    site: &Site<'_>,
-    scope: &Scope<'_, '_>,
+    site: &ResolvingSite<'_>,
+    scope: &NameScope<'_, '_>,
     args: &mut Items<Expr>,
     arg: &Arg,
 ) -> Result<(), Memory>
@@ -105,8 +105,8 @@ fn add_arg(
 #[tactic(auto, unfolding(pads_resolution::specs::Types::args))]
 fn args(
     alloc: Global,
-    site: &Site<'_>,
-    scope: &Scope<'_, '_>,
+    site: &ResolvingSite<'_>,
+    scope: &NameScope<'_, '_>,
     written: &[Arg],
 ) -> Result<Items<Expr>, Memory>
     ensures made { IfOk result (λ made. made ≡ types.args (stands site.now).decls (stands site.now).env (names_in_scope scope.now) written.now) }
@@ -122,8 +122,8 @@ fn args(
 #[tactic(auto, unfolding(pads_resolution::specs::Types::type_at))]
 pub fn type_at(
     alloc: Global,
-    site: &Site<'_>,
-    scope: &Scope<'_, '_>,
+    site: &ResolvingSite<'_>,
+    scope: &NameScope<'_, '_>,
     of: &WrittenType,
 ) -> Result<Type, Memory>
     ensures made { IfOk result (λ made. made ≡ types.type_at (stands site.now) (names_in_scope scope.now) of.now) }

@@ -16,7 +16,8 @@ use Rattle.pads_ast.specs.declared.types.Arg.{Arg}
 use Rattle.pads_ast.specs.declared.types.Arg.TheVariants as arg
 use Rattle.pads_ast.specs.declared.types.Literal.TheVariants as literal
 use Rattle.pads_ast.specs.declared.types.Type.{«Type»}
-use Rattle.pads_base_names.specs.Names.{base_name, kind_of, field_of, is_word, behind}
+use Rattle.pads_base_names.specs.Names.{base_name, kind_of, field_of, behind}
+use Rattle.pads_value.specs.Words.{is_word}
 use Rattle.pads_rules.specs.declared.fault.CheckFault.{CheckFault}
 use Rattle.pads_rules.specs.Faults.{breaks, lesser, least}
 use Rattle.pads_rules.specs.Resolving.{meaning, declared}

@@ -9,7 +9,8 @@ use Rattle.pads_grammar.specs.Grammar.{Grammar, Decides}
 use Rattle.pads_grammar.specs.Whole.{Whole, IsFirstFault}
 use Rattle.pads_syntax.specs.declared.fault.SyntaxFault.{SyntaxFault}
 use Rattle.pads_syntax.specs.Trees.{StandsAt}
-use Rattle.pads_syntax.specs.Answers.{Answers, Gives, OnFault}
+use Rattle.pads_syntax.specs.Answers.{Answers}
+use Rattle.pads_value.specs.Refusals.{Gives, OnFault}
 use Rattle.pads_syntax.proofs.TreeLaws.{one, not_both}
 
 module _ {A B : Type 0} (g : Grammar A) (make : A → Token → B) (d : Decides g (is kind.End)) (ts : Tokens) where

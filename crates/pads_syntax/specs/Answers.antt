@@ -10,18 +10,6 @@ use Rattle.pads_grammar.specs.Whole.{Whole, IsFirstFault}
 use Rattle.pads_syntax.specs.declared.fault.SyntaxFault.{SyntaxFault}
 use Rattle.pads_syntax.specs.Trees.{StandsAt}
 
--- The call gives this answer, unless memory runs out.
-abbrev pub Gives : {T : Type 0} → Result T (Refusal SyntaxFault) → Result T SyntaxFault → Type 0
-Gives (Ok tree) answer = answer ≡ Ok tree
-Gives (Err (refusal.Fault fault)) answer = answer ≡ Err fault
-Gives (Err refusal.Memory) answer = Unit {0}
-
--- What holds of the fault, where the call tells one.
-abbrev pub OnFault : {T : Type 0} → Result T (Refusal SyntaxFault) → (SyntaxFault → Type 0) → Type 0
-OnFault (Ok tree) P = Unit {0}
-OnFault (Err (refusal.Fault fault)) P = P fault
-OnFault (Err refusal.Memory) P = Unit {0}
-
 -- The tree that is given is derived; the fault that is told is the first, and stands at its place.
 abbrev pub Answers : {A B : Type 0} → Grammar A → (A → Token → B) → Tokens → Result B (Refusal SyntaxFault) → Type 0
 Answers g make ts (Ok tree) = Whole g make tree ts

@@ -7,7 +7,8 @@ ghost use Rattle.pads_ast.specs.declared.decl.ExprAst.{ExprAst};
 ghost use Rattle.pads_syntax_parts.specs.Types.{expression};
 ghost use Rattle.pads_syntax.specs.Declarations.{decls};
 ghost use Rattle.pads_syntax.specs.Trees.{description, filter, IsTree, IsTreeFault, IsExprTree, IsExprTreeFault, StandsAt};
-ghost use Rattle.pads_syntax.specs.Answers.{Answers, Gives, OnFault};
+ghost use Rattle.pads_syntax.specs.Answers.{Answers};
+ghost use Rattle.pads_value.specs.Refusals.{Gives, OnFault};
 
 use crate::SyntaxFault;
 use crate::declaration::decls;

@@ -1,7 +1,7 @@
 -- Rows of the translation, computed on the definitions. Names are numbered as they stand in `some`, `none`, `y`.
 use Rattle.std.proofs.Common.{◌≡◌, refl, pos, negsuc, List, [], ◌∷◌, true, Some, None}
 use Rattle.pads_calc.specs.declared.term.Term.TheVariants as term
-use Rattle.pads_calc.specs.declared.term.Result2.TheVariants as result2
+use Rattle.pads_calc.specs.declared.term.ComputedForm.TheVariants as result2
 use Rattle.pads_code.specs.CodePage.{byte_of, page_037}
 use Rattle.pads_code.specs.declared.Coding.TheVariants as coding
 use Rattle.pads_dispatch.specs.declared.base.Base.TheVariants as base

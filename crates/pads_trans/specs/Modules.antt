@@ -1,14 +1,10 @@
 -- The translation of a description: its module.
-use Rattle.std.specs.Prelude.{Bool, ◌&&◌, nat_lt, List, [], length, map, Result, Ok, Err}
+use Rattle.std.specs.Prelude.{Bool, ◌&&◌, nat_lt, List, [], length, map}
 use Rattle.pads_calc.specs.Modules.{Contents, made_of, is_formed}
 use Rattle.pads_calc.specs.declared.decl.Shape.{Shape}
-use Rattle.pads_calc.specs.declared.module.IllFormed.{IllFormed}
-use Rattle.pads_calc.specs.declared.module.Module.{Module}
 use Rattle.pads_code.specs.declared.Coding.{Coding}
 use Rattle.pads_typed_tree.specs.declared.decl.Description.{Description}
 use Rattle.pads_typed_tree.specs.declared.decl.Source.{Source}
-use Rattle.pads_value.specs.declared.memory.Refusal.{Refusal}
-use Rattle.pads_value.specs.declared.memory.Refusal.TheVariants as refusal
 use Rattle.pads_trans.specs.Terms.{decl_of}
 use Rattle.pads_trans_expr.specs.Met.{names_of}
 use Rattle.pads_trans_expr.specs.Names.{Name, with_names}
@@ -32,9 +28,3 @@ module_of description ambient = module_by (names_of description) description amb
 -- It is well formed and has fewer than 65,535 names.
 abbrev pub is_module : Contents → Bool
 is_module m = nat_lt (length m.names) 65535 && is_formed m
-
--- What holds where the call refuses.
-abbrev pub OnFault : Result Module (Refusal IllFormed) → Type 0 → Type 0
-OnFault (Ok m) P = Unit {0}
-OnFault (Err (refusal.Fault fault)) P = P
-OnFault (Err refusal.Memory) P = Unit {0}

@@ -23,8 +23,8 @@ use Rattle.pads_calc.specs.declared.term.Case.{Case}
 use Rattle.pads_calc.specs.declared.term.Key.{Key}
 use Rattle.pads_calc.specs.declared.term.Key.TheVariants as key
 use Rattle.pads_calc.specs.declared.term.Part.{Part}
-use Rattle.pads_calc.specs.declared.term.Result2.{Result2}
-use Rattle.pads_calc.specs.declared.term.Result2.TheVariants as result2
+use Rattle.pads_calc.specs.declared.term.ComputedForm.{ComputedForm}
+use Rattle.pads_calc.specs.declared.term.ComputedForm.TheVariants as result2
 use Rattle.pads_calc.specs.declared.term.Seq.{Seq}
 use Rattle.pads_calc.specs.declared.term.Term.{Term}
 use Rattle.pads_calc.specs.declared.term.Term.TheVariants as term
@@ -96,7 +96,7 @@ literal_of ambient (literal.Word points) = text_of ambient points
 literal_of ambient literal.Peor = term.Eor
 
 -- What a `Pcompute` is to give.
-abbrev pub form_of : Computed → Result2
+abbrev pub form_of : Computed → ComputedForm
 form_of (computed.Int kind) = result2.Range (least kind) (greatest kind)
 form_of computed.Text = result2.Text
 

@@ -1,6 +1,7 @@
 ghost use Rattle.std.specs.Prelude.{◌≡◌, true, false, IfOk, OnOk};
 ghost use Rattle.pads_calc.specs.Modules.{contents, is_formed};
-ghost use Rattle.pads_trans.specs.Modules.{OnFault, shape_of, module_by_table, module_of, is_module};
+ghost use Rattle.pads_trans.specs.Modules.{shape_of, module_by_table, module_of, is_module};
+ghost use Rattle.pads_value.specs.Refusals.{OnFault};
 
 use crate::decl::decls;
 use pads_calc::{IllFormed, Module, Shape};
@@ -28,7 +29,7 @@ fn module_by(
 ) -> Result<Module, Refusal<IllFormed>>
     ensures module { IfOk result (λ made. contents made ≡ module_by_table names.now description.now ambient) }
     ensures well_formed { OnOk result (is_formed (module_by_table names.now description.now ambient) ≡ true) }
-    ensures ill_formed { OnFault result (is_formed (module_by_table names.now description.now ambient) ≡ false) }
+    ensures ill_formed { OnFault result (λ _. is_formed (module_by_table names.now description.now ambient) ≡ false) }
 {
     let table = names.table(alloc)?;
     let decls = decls(alloc, names, ambient, description.decls.as_slice())?;
@@ -52,7 +53,7 @@ pub fn translate(
 ) -> Result<Module, Refusal<IllFormed>>
     ensures module { IfOk result (λ made. contents made ≡ module_of description.now ambient) }
     ensures well_formed { OnOk result (is_module (module_of description.now ambient) ≡ true) }
-    ensures ill_formed { OnFault result (is_module (module_of description.now ambient) ≡ false) }
+    ensures ill_formed { OnFault result (λ _. is_module (module_of description.now ambient) ≡ false) }
 {
     let Some(names) = Numbering::of(alloc, description)? else {
         return Err(Refusal::Fault(IllFormed));

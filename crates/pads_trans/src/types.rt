@@ -5,7 +5,7 @@ ghost use Rattle.pads_trans.specs.Terms.{coding_of, base_of, text_of, literal_of
 
 use pads_base_names::NamedCoding;
 use pads_bases::{Label as Spelled, Labels};
-use pads_calc::{Arm, Arms, Base, Exprs, Key, Result2, Term};
+use pads_calc::{Arm, Arms, Base, Exprs, Key, ComputedForm, Term};
 use pads_code::{Coding, encode};
 use pads_trans_expr::{Numbering, translate_expr, translate_exprs};
 use pads_typed_tree::{BaseType, Computed, Const, Expr as Tree, Label, Literal, Type, TypeName};
@@ -67,12 +67,12 @@ pub(crate) fn literal(alloc: Global, ambient: Coding, literal: &Literal) -> Resu
 }
 
 /// What a computed field is to be.
-pub(crate) fn form(computed: Computed) -> Result2
+pub(crate) fn form(computed: Computed) -> ComputedForm
     ensures form { result ≡ form_of computed }
 {
     match computed {
-        Computed::Int(kind) => Result2::Range(kind.least(), kind.greatest()),
-        Computed::Text => Result2::Text,
+        Computed::Int(kind) => ComputedForm::Range(kind.least(), kind.greatest()),
+        Computed::Text => ComputedForm::Text,
     }
 }
 

@@ -4,7 +4,7 @@ use Rattle.pads_rules.specs.declared.sort.Sort.{Sort}
 use Rattle.pads_expr.specs.declared.expr.Expr.{Expr}
 use Rattle.pads_expr.specs.declared.expr.Expr.TheVariants as expr
 use Rattle.pads_expr.specs.declared.expr.BinOp.{BinOp}
-use Rattle.pads_typed_tree.specs.declared.expr.Meaning.{Meaning}
+use Rattle.pads_typed_tree.specs.declared.expr.NameUse.{NameUse}
 use Rattle.pads_typed_tree.specs.declared.expr.Expr.{Expr as Tree, Expr-F as Tree-F, fold-roll-Expr as fold-roll-Tree, roll-Expr as roll-Tree, map-Expr as map-Tree}
 use Rattle.pads_typed_tree.specs.declared.expr.Expr.TheVariants as tree
 use Rattle.pads_trans_expr.specs.Names.{Name, number_of}
@@ -24,7 +24,7 @@ module _ (names : List Name) where
   pub made-Truth : (truth : Bool) → expr_of names (tree.Truth truth) ≡ expr.Truth truth
   made-Truth truth = ap (expr_of names) (sym (tree.rolls-Truth truth)) ∙ expr-roll (Tree-F.Truth truth)
 
-  pub made-Name : (means : Meaning) (sort : Sort) → expr_of names (tree.Name means sort) ≡ meaning_of names means
+  pub made-Name : (means : NameUse) (sort : Sort) → expr_of names (tree.Name means sort) ≡ meaning_of names means
   made-Name means sort = ap (expr_of names) (sym (tree.rolls-Name means sort)) ∙ expr-roll (Tree-F.Name means sort)
 
   pub made-Part : (whole : Tree) (number : ℕ) (sort : Sort) → expr_of names (tree.Part whole number sort) ≡ expr.Part (expr_of names whole) number

@@ -2,7 +2,7 @@
 use Rattle.std.proofs.Common.{◌≡◌, ◌∙◌, sym, ap, ℕ, ℤ, List, [], ◌∷◌, ◌++◌, Bool}
 use Rattle.pads_rules.specs.declared.sort.Sort.{Sort}
 use Rattle.pads_expr.specs.declared.expr.BinOp.{BinOp}
-use Rattle.pads_typed_tree.specs.declared.expr.Meaning.{Meaning}
+use Rattle.pads_typed_tree.specs.declared.expr.NameUse.{NameUse}
 use Rattle.pads_typed_tree.specs.declared.expr.Expr.{Expr, Expr-F, fold-roll-Expr, roll-Expr, map-Expr}
 use Rattle.pads_typed_tree.specs.declared.expr.Expr.TheVariants as expr
 use Rattle.pads_trans_expr.specs.Met.{Met, in_expr, expr_met}
@@ -20,7 +20,7 @@ met-Word text = ap in_expr (sym (expr.rolls-Word text)) ∙ met-roll (Expr-F.Wor
 pub met-Truth : (truth : Bool) → in_expr (expr.Truth truth) ≡ []
 met-Truth truth = ap in_expr (sym (expr.rolls-Truth truth)) ∙ met-roll (Expr-F.Truth truth)
 
-pub met-Name : (means : Meaning) (sort : Sort) → in_expr (expr.Name means sort) ≡ []
+pub met-Name : (means : NameUse) (sort : Sort) → in_expr (expr.Name means sort) ≡ []
 met-Name means sort = ap in_expr (sym (expr.rolls-Name means sort)) ∙ met-roll (Expr-F.Name means sort)
 
 pub met-Part : (whole : Expr) (number : ℕ) (sort : Sort) → in_expr (expr.Part whole number sort) ≡ in_expr whole

@@ -4,7 +4,7 @@ use Rattle.pads_expr.specs.declared.expr.BinOp.TheVariants as bin
 use Rattle.pads_expr.specs.declared.expr.Expr.TheVariants as expr
 use Rattle.pads_rules.specs.declared.sort.Sort.{Sort}
 use Rattle.pads_typed_tree.specs.declared.expr.Expr.TheVariants as tree
-use Rattle.pads_typed_tree.specs.declared.expr.Meaning.TheVariants as meaning
+use Rattle.pads_typed_tree.specs.declared.expr.NameUse.TheVariants as meaning
 use Rattle.pads_trans_expr.specs.Names.{Name, some_name, none_name, number_of, with_name, with_names, at_sign}
 use Rattle.pads_trans_expr.specs.Expressions.{expr_of, meaning_of}
 use Rattle.pads_trans_expr.proofs.ExprRolls.{made-Binary, made-Name, made-Number}

@@ -9,8 +9,8 @@ use Rattle.std.specs.Prelude.{List, Option, option_map}
 use Rattle.pads_expr.specs.declared.expr.Expr.{Expr}
 use Rattle.pads_expr.specs.declared.expr.Expr.TheVariants as expr
 use Rattle.pads_typed_tree.specs.declared.expr.Expr.{Expr as Tree, Expr-F as Tree-F, fold-Expr as fold-Tree}
-use Rattle.pads_typed_tree.specs.declared.expr.Meaning.{Meaning}
-use Rattle.pads_typed_tree.specs.declared.expr.Meaning.TheVariants as meaning
+use Rattle.pads_typed_tree.specs.declared.expr.NameUse.{NameUse}
+use Rattle.pads_typed_tree.specs.declared.expr.NameUse.TheVariants as meaning
 use Rattle.pads_trans_expr.specs.Names.{Name, at_sign, number_of}
 
 -- By the names of the description.
@@ -18,7 +18,7 @@ module _ (names : List Name) where
   abbrev pub variable : Name → Expr
   variable name = expr.Var (number_of names name)
 
-  unfoldable pub meaning_of : Meaning → Expr
+  unfoldable pub meaning_of : NameUse → Expr
   meaning_of (meaning.Variable name) = variable name
   meaning_of meaning.Elts = variable at_sign
   meaning_of meaning.Length = expr.Len (variable at_sign)

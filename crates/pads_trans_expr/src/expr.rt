@@ -5,7 +5,7 @@ ghost use Rattle.pads_trans_expr.specs.Expressions.{variable as variable_of, mea
 
 use crate::numbering::Numbering;
 use pads_expr::Expr;
-use pads_typed_tree::{Expr as Tree, Meaning};
+use pads_typed_tree::{Expr as Tree, NameUse};
 use pads_value::{Boxed, Bytes, Items, Memory};
 use std::alloc::Global;
 
@@ -18,14 +18,14 @@ fn variable(names: &Numbering, name: &[u8]) -> Expr
 
 /// What a name stands for.
 #[tactic(auto, unfolding(crate::specs::Expressions::meaning_of))]
-fn meaning(alloc: Global, names: &Numbering, meaning: &Meaning) -> Result<Expr, Memory>
+fn meaning(alloc: Global, names: &Numbering, meaning: &NameUse) -> Result<Expr, Memory>
     ensures meaning { IfOk result (λ made. made ≡ meaning_of names.now meaning.now) }
 {
     Ok(match meaning {
-        Meaning::Variable(name) => variable(names, name.as_slice()),
-        Meaning::Elts => variable(names, b"@"),
-        Meaning::Length => Expr::Len(Boxed::new(alloc, variable(names, b"@"))?),
-        Meaning::Field(number) => { Expr::Part(Boxed::new(alloc, variable(names, b"@"))?, *number) }
+        NameUse::Variable(name) => variable(names, name.as_slice()),
+        NameUse::Elts => variable(names, b"@"),
+        NameUse::Length => Expr::Len(Boxed::new(alloc, variable(names, b"@"))?),
+        NameUse::Field(number) => { Expr::Part(Boxed::new(alloc, variable(names, b"@"))?, *number) }
     })
 }
 

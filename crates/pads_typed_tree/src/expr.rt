@@ -4,7 +4,7 @@ use pads_value::{Boxed, Bytes};
 
 /// What a name in an expression stands for.
 #[derive(Debug, Drop)]
-pub enum Meaning {
+pub enum NameUse {
     /// A parameter, an earlier field, a field or branch in its own constraint, or the variable of a
     /// `Ptypedef` or a `Pforall`, by its text.
     Variable(Bytes),
@@ -24,7 +24,7 @@ pub enum Expr {
     Word(Bytes),
     Truth(bool),
     Name {
-        meaning: Meaning,
+        meaning: NameUse,
         sort: Sort,
     },
     /// `.name` of a struct, by the field's number among all parts, from 0.

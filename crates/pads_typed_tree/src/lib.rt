@@ -16,5 +16,5 @@ pub use decl::{
     Array, ArrayOption, Case, Computed, Constraint, Decl, DeclBody, Description, Label, Part, Role,
     Source, Struct, Switch, Typedef, Union,
 };
-pub use expr::{Expr, Meaning};
+pub use expr::{Expr, NameUse};
 pub use types::{Branch, Const, Literal, Param, Params, Type, TypeName};

@@ -15,6 +15,7 @@ mod name_table;
 mod reading;
 mod row;
 mod value;
+mod words;
 
 pub use boxed::Boxed;
 pub use cause::Cause;
@@ -26,6 +27,7 @@ pub use name_table::NameTable;
 pub use reading::Read;
 pub use row::{Row, Rows};
 pub use value::{Val, Vals};
+pub use words::is_word;
 
 #[cfg(test)]
 mod tests;

@@ -6,9 +6,9 @@ ghost use Rattle.pads_calc.specs.Places.{EndsWithin};
 ghost use Rattle.pads_calc.specs.Readings.{subject_of};
 ghost use Rattle.pads_dispatch.specs.Labels.{labels_fit};
 ghost use Rattle.pads_expr.specs.Value.{value};
-ghost use Rattle.pads_expr.specs.Worth.{told};
+ghost use Rattle.pads_expr.specs.Worth.{worth_or_none};
 
-use pads_calc::{Base, Exprs, Reading, Record, Result2};
+use pads_calc::{Base, Exprs, Reading, Record, ComputedForm};
 use pads_expr::{Env, Expr};
 use pads_value::Memory;
 use std::alloc::Global;
@@ -37,12 +37,12 @@ pub(crate) fn computed(
     alloc: Global,
     from: &Record,
     e: &Expr,
-    form: &Result2,
+    form: &ComputedForm,
     env: &Env,
     place: u64,
 ) -> Result<Reading, Memory>
     requires { place ≤ length from.now.bytes.now }
-    ensures computed { IfOk result (λ r. r ≡ compute_of from.now.origin form.now (told (value e.now env.now.pairs)) place) }
+    ensures computed { IfOk result (λ r. r ≡ compute_of from.now.origin form.now (worth_or_none (value e.now env.now.pairs)) place) }
     ensures within { IfOk result (λ r. EndsWithin from.now.bytes.now place r) }
 {
     from.computed(alloc, e, form, env, place)

@@ -3,7 +3,7 @@
 use crate::base_text::put_base;
 use crate::expr_text::{put_expr, put_exprs, put_name};
 use crate::line::Line;
-use pads_calc::{Arm, Case, Decl, Key, Part, Result2, Seq, Shape, Term};
+use pads_calc::{Arm, Case, Decl, Key, Part, ComputedForm, Seq, Shape, Term};
 use pads_expr::Expr;
 use pads_value::NameTable;
 
@@ -67,17 +67,17 @@ fn put_condition(out: &mut Line, names: &NameTable, name: u16, e: &Expr) {
     out.put(")");
 }
 
-fn put_computed(out: &mut Line, names: &NameTable, e: &Expr, form: Result2) {
+fn put_computed(out: &mut Line, names: &NameTable, e: &Expr, form: ComputedForm) {
     out.put("Compute(");
     put_expr(out, names, e);
     out.put("; ");
     match form {
-        Result2::Range(low, high) => {
+        ComputedForm::Range(low, high) => {
             out.put_number(low);
             out.put("..");
             out.put_number(high);
         }
-        Result2::Text => out.put("text"),
+        ComputedForm::Text => out.put("text"),
     }
     out.put(")");
 }
