@@ -8,8 +8,13 @@ pub mod SoundRows
 pub mod Accepted
 pub mod SortedArrays
 pub mod Bases
+pub mod ByWorths
+pub mod ByWorthsRolls
+pub mod ByWorthsForms
+pub mod ByWorthsArrays
 pub mod Evaluated
 pub mod Expressions
+pub mod IllSorted
 pub mod SortedForms
 pub mod Layers
 pub mod Made

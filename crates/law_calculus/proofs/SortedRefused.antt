@@ -1,13 +1,10 @@
--- What isn't plain, what isn't sorted, and what an expression that isn't sorted comes to.
-use Rattle.std.proofs.Common.{◌≡◌, ◌∙◌, sym, ap, refl, subst, arith, ℕ, ◌<◌, pos, Bool, true, false, ◌&&◌, List, [], ◌∷◌, Option, None, Some}
+-- What isn't plain, what isn't sorted, and what is evaluated there.
+use Rattle.std.proofs.Common.{◌≡◌, ◌∙◌, sym, ap, refl, subst, arith, ℕ, ◌<◌, pos, true, false, ◌&&◌, List, [], ◌∷◌, Option, None, Some}
 use Rattle.pads_code.specs.declared.Coding.TheVariants as coding
 use Rattle.pads_bases.specs.declared.enums.Label.{Label}
 use Rattle.pads_value.specs.declared.value.Val.TheVariants as val
-use Rattle.pads_expr.specs.declared.expr.BinOp.TheVariants.{Lt, Eq, Add}
+use Rattle.pads_expr.specs.declared.expr.BinOp.TheVariants.{Eq, Add}
 use Rattle.pads_expr.specs.declared.expr.Expr.{Expr, Expr-F, roll-Expr}
-use Rattle.pads_expr.specs.Value.{value}
-use Rattle.pads_expr.specs.Worth.{Ill}
-use Rattle.pads_expr.proofs.Steps.{value-roll}
 use Rattle.pads_dispatch.specs.declared.base.Base.TheVariants as base
 use Rattle.pads_calc.specs.declared.decl.Decl.{Decl}
 use Rattle.pads_calc.specs.declared.term.Case.{Case}
@@ -17,6 +14,7 @@ use Rattle.pads_calc.specs.declared.term.Seq.{Seq}
 use Rattle.pads_calc.specs.declared.term.Term.{Term-F, roll-Term, out-roll-Term}
 use Rattle.law_calculus.specs.Evaluated.{Asks, Evaluates, asks, moment}
 use Rattle.law_calculus.specs.Expressions.{SortScope, sort_in}
+use Rattle.law_calculus.specs.IllSorted.{truths_in_order}
 use Rattle.law_calculus.specs.Plain.{IsPlain, IsMark, IsAbsorb}
 use Rattle.law_calculus.specs.Sorted.{IsSorted, has, chooses, calls, computes}
 use Rattle.law_calculus.specs.Sorts.{Number, Text, Labels, is_number, is_truth}
@@ -57,20 +55,14 @@ one = roll-Expr (Expr-F.Num (pos 1))
 abbrev letter : Expr
 letter = roll-Expr (Expr-F.Text (97 ∷ []))
 
-abbrev truth : Bool → Expr
-truth b = roll-Expr (Expr-F.Truth b)
-
-abbrev compared : Expr
-compared = roll-Expr (Expr-F.Bin Lt (truth true) (truth false))
-
 pub one-number : (scope : SortScope) → sort_in declared one scope ≡ Some Number
 one-number scope = sort_in-roll declared (Expr-F.Num (pos 1)) scope
 
 pub letter-text : (scope : SortScope) → sort_in declared letter scope ≡ Some Text
 letter-text scope = sort_in-roll declared (Expr-F.Text (97 ∷ [])) scope
 
-pub truths_in_order : (scope : SortScope) → sort_in declared compared scope ≡ None
-truths_in_order scope = simp (sort_in-roll) refl
+pub no_order : (scope : SortScope) → sort_in declared truths_in_order scope ≡ None
+no_order scope = simp (sort_in-roll) refl
 
 pub number_and_text : (scope : SortScope) → sort_in declared (roll-Expr (Expr-F.Bin Eq one letter)) scope ≡ None
 number_and_text scope = simp (sort_in-roll) refl
@@ -134,10 +126,7 @@ pub label_beyond : has_sort declared (val.Enum 2) (Labels 2) ≡ false
 label_beyond = has-Enum declared 2 2
 
 -- Where a module isn't sorted, the calculus evaluates what is ill-sorted.
-pub ill-evaluated : (subject : Subject) (decls : List Decl) (depth i : ℕ) → Evaluates subject decls (moment depth (roll-Term (Term-F.Compute compared form.Text)) [] i) compared []
+pub ill-evaluated : (subject : Subject) (decls : List Decl) (depth i : ℕ) → Evaluates subject decls (moment depth (roll-Term (Term-F.Compute truths_in_order form.Text)) [] i) truths_in_order []
 ill-evaluated subject decls depth i =
-    asks (subst (λ layer. Asks subject decls layer (moment depth (roll-Term (Term-F.Compute compared form.Text)) [] i) compared []) (sym (out-roll-Term (Term-F.Compute compared form.Text)))
+    asks (subst (λ layer. Asks subject decls layer (moment depth (roll-Term (Term-F.Compute truths_in_order form.Text)) [] i) truths_in_order []) (sym (out-roll-Term (Term-F.Compute truths_in_order form.Text)))
     ((0, refl), refl))
-
-pub ill : value compared [] ≡ Ill
-ill = simp (value-roll) refl

@@ -1,6 +1,9 @@
 pub mod Soundness
+pub mod Agreement
+pub mod ByWorths
 pub mod Evaluated
 pub mod Expressions
+pub mod IllSorted
 pub mod Plain
 pub mod Sorted
 pub mod Sorts

@@ -14,13 +14,15 @@
 
 mod computed_rows;
 mod descriptor_laws;
+mod evaluation_laws;
 mod sort_laws;
 
-pub use computed_rows::a_pair_reads_by_the_rules;
+pub use computed_rows::{a_pair_reads_by_the_rules, unsorted_readings_need_ill_sorted_worths};
 pub use descriptor_laws::{
     readings_have_sound_descriptors, rows_have_sound_descriptors,
     rows_of_frames_have_sound_descriptors,
 };
+pub use evaluation_laws::{only_these_are_evaluated, sorted_readings_need_nothing_ill_sorted};
 pub use sort_laws::{
     plain_modules_have_sorts, readings_have_their_sorts, sorted_expressions_keep_their_sorts,
     sorted_modules_evaluate_nothing_ill_sorted,
