@@ -1,6 +1,7 @@
 -- Which expressions the calculus evaluates, and in which environments. More is told here than is read: a
 -- union may be read in any of its branches, and elements, separators, terminators and what is searched
--- for at any place.
+-- for at any place. Nothing is missing: a reading depends on the worths of these expressions alone, by the
+-- law `only_these_are_evaluated`.
 use Rattle.std.specs.Prelude.{◌≡◌, ◌⊎◌, ℕ, suc, ⊤, true, List, [], ◌∷◌, Option, Some, None, slice_get}
 use Rattle.pads_value.specs.declared.value.Val.{Val}
 use Rattle.pads_value.specs.declared.value.Val.TheVariants as val

@@ -2,7 +2,7 @@
 ghost use Rattle.std.specs.Prelude.{◌≡◌, pos, true, [], codes};
 ghost use Rattle.pads_expr.specs.Worth.{Worth, Num, Text, Truth};
 ghost use Rattle.law_calculus.specs.Agreement.{ill_worth, AgreesOnSorted};
-ghost use Rattle.law_calculus.specs.IllSorted.{constrained_unit, computed_text, text_so_wide, read_own, read_with, unmet, met, uncomputed, computed, not_wide, two_wide};
+ghost use Rattle.law_calculus.specs.IllSorted.{as_constraint, as_text, as_width, as_chooser, as_size, as_last, as_argument, read_own, read_with, unit_read, unmet, uncomputed, bad_argument, unchosen, unsized, z_read, ab_read, one_chosen, no_units, units_stalled, one_unit};
 ghost use Rattle.law_calculus.specs.Pair.{read_pair, both_there, first_missing, both_out_of_range, all_missing, comma_later};
 
 /// What a struct of a number, a comma that is looked for and a number reads as by the definition: on a record
@@ -16,15 +16,23 @@ pub fn a_pair_reads_by_the_rules()
     ensures skipped { read_pair (codes "3;;,7xyz") ≡ comma_later }
 {}
 
-/// What terms that aren't sorted read as depends on what an ill-sorted expression is worth: a constraint is
-/// met, a text is computed, and a text has a width, where the calculus has none of these. All other
-/// expressions have their own worths.
+/// What a term that isn't sorted reads as depends on what an ill-sorted expression is worth, for each use of
+/// an expression that there is: as a constraint, a computed text, a width, a chooser, a size, the condition of
+/// the last element and an argument. `others`: all other expressions have their own worths.
 pub fn unsorted_readings_need_ill_sorted_worths()
     ensures others { (worth : Worth) → AgreesOnSorted (ill_worth worth) }
-    ensures unmet { read_own constrained_unit ≡ unmet }
-    ensures met { read_with (Truth true) constrained_unit ≡ met }
-    ensures uncomputed { read_own computed_text ≡ uncomputed }
-    ensures computed { read_with (Text (codes "z")) computed_text ≡ computed }
-    ensures not_wide { read_own text_so_wide ≡ not_wide }
-    ensures two_wide { read_with (Num (pos 2)) text_so_wide ≡ two_wide }
+    ensures constraint { read_own as_constraint ≡ unmet }
+    ensures constraint_met { read_with (Truth true) as_constraint ≡ unit_read }
+    ensures text { read_own as_text ≡ uncomputed }
+    ensures text_computed { read_with (Text (codes "z")) as_text ≡ z_read }
+    ensures width { read_own as_width ≡ bad_argument }
+    ensures width_told { read_with (Num (pos 2)) as_width ≡ ab_read }
+    ensures chooser { read_own as_chooser ≡ unchosen }
+    ensures chooser_told { read_with (Num (pos 1)) as_chooser ≡ one_chosen }
+    ensures size { read_own as_size ≡ unsized }
+    ensures size_told { read_with (Num (pos 0)) as_size ≡ no_units }
+    ensures last { read_own as_last ≡ units_stalled }
+    ensures last_met { read_with (Truth true) as_last ≡ one_unit }
+    ensures argument { read_own as_argument ≡ bad_argument }
+    ensures argument_told { read_with (Num (pos 1)) as_argument ≡ unit_read }
 {}

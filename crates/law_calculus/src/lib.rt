@@ -9,7 +9,10 @@
 //! where only literals and the record's end are absorbed, separators are absorbed, no two labels of an enum have one spelling,
 //! and calls name earlier declarations.
 //!
-//! A reading that was worked out by hand is computed on the definition (`computed_rows`).
+//! What is evaluated is all that readings depend on (`evaluation_laws`): where expressions are worth something else than the
+//! calculus takes them to be, a reading stays the same if that concerns none that it evaluates.
+//!
+//! Readings that were worked out by hand are computed on the definitions (`computed_rows`).
 #![tactic(auto)]
 
 mod computed_rows;
