@@ -1,5 +1,5 @@
 -- The rows of frames that follow each other, what is written for them, and for one more.
-use Rattle.std.proofs.Common.{◌≡◌, ℕ, ◌+◌, ◌<◌, true, List, [], ◌∷◌, ◌++◌, length, take, drop, get_or, map, refl, sym, ap, subst, ◌∙◌, append_assoc, append-nil, take-append-drop, length-take, arith}
+use Rattle.std.proofs.Common.{◌≡◌, ℕ, ◌+◌, ◌^◌, ◌<◌, true, List, [], ◌∷◌, ◌++◌, length, take, drop, get_or, map, refl, sym, ap, subst, ◌∙◌, append_assoc, append-nil, take-append-drop, length-append, length-take, arith}
 use Rattle.std.proofs.lemmas.Grind.{flat_map-append}
 use Rattle.std.proofs.lemmas.List.{take_more, map-append, length-map}
 use Rattle.pads_value.specs.Cuts.{Cut, cut_of_kept}
@@ -24,6 +24,15 @@ module _ {Row Tally : Type 0} (work : Work Row Tally) where
   unfolding rows_of
   rows_of-none number = refl
 
+  -- the rows of two stretches
+  pub both-rows : (number next : ℕ) (xs ys : List Cut) → next ≡ number + length xs → rows_of work number (xs ++ ys) ≡ rows_of work number xs ++ rows_of work next ys
+  both-rows number next xs ys e = rows_of-append number xs ys ∙ ap (λ n. rows_of work number xs ++ rows_of work n ys) (sym e)
+
+  -- the rows of two stretches, behind those before them
+  pub behind : (before : List Row) (number next : ℕ) (xs ys : List Cut) → next ≡ number + length xs
+      → (before ++ rows_of work number xs) ++ rows_of work next ys ≡ before ++ rows_of work number (xs ++ ys)
+  behind before number next xs ys e = append_assoc before (rows_of work number xs) (rows_of work next ys) ∙ ap (λ l. before ++ l) (sym (both-rows number next xs ys e))
+
   rows_of-one : (number : ℕ) (cut : Cut) → rows_of work number (cut ∷ []) ≡ work.row number cut ∷ []
   unfolding rows_of
   rows_of-one number cut = refl
@@ -45,11 +54,12 @@ module _ {Row Tally : Type 0} (work : Work Row Tally) where
   front_more : (i : ℕ) (rows : List Row) (row : Row) → i < length rows → row ≡ get_or rows i row → take (i + 1) rows ≡ take i rows ++ row ∷ []
   front_more i rows row within is = take_more rows i row within ∙ ap (λ r. take i rows ++ r ∷ []) (sym is)
 
-  pub output-more : (i : ℕ) (rows : List Row) (row : Row) (old new : Output) → i < length rows → row ≡ get_or rows i row → old ≡ output_of work (take i rows) → new ≡ added work row old
-      → new ≡ output_of work (take (i + 1) rows)
-  output-more i rows row old new within is before e =
-      let front = front_more i rows row within is in
-      rw (e, before, front, flat_map-append work.out (take i rows) (row ∷ []), flat_map-append work.notes (take i rows) (row ∷ []), append-nil (work.out row), append-nil (work.notes row)) refl
+  pub output-more : (i : ℕ) (rows : List Row) (row : Row) (start old new : Output) → i < length rows → row ≡ get_or rows i row
+      → ((before : List Row) → start ≡ output_of work before → old ≡ output_of work (before ++ take i rows)) → new ≡ added work row old
+      → (before : List Row) → start ≡ output_of work before → new ≡ output_of work (before ++ take (i + 1) rows)
+  output-more i rows row start old new within is so_far e before b =
+      let behind : before ++ take (i + 1) rows ≡ (before ++ take i rows) ++ row ∷ [] = ap (λ l. before ++ l) (front_more i rows row within is) ∙ sym (append_assoc before (take i rows) (row ∷ [])) in
+      rw (e, so_far before b, behind, flat_map-append work.out (before ++ take i rows) (row ∷ []), flat_map-append work.notes (before ++ take i rows) (row ∷ []), append-nil (work.out row), append-nil (work.notes row)) refl
 
   -- a row more is counted
   pub tally-more : (i : ℕ) (rows : List Row) (row : Row) (start old new : Tally) → i < length rows → row ≡ get_or rows i row
@@ -73,3 +83,32 @@ module _ {Row Tally : Type 0} (work : Work Row Tally) where
       → ((before : List Row) → Tallies work before old → Refuses work before (row ∷ []) r) → (before : List Row) → Tallies work before start → Refuses work before rows r
   refused-more stays i rows row start old within is so_far (refusal.Fault limit) gives before t = over-more stays i rows row within is before (gives (before ++ take i rows) (so_far before t))
   refused-more stays i rows row start old within is so_far refusal.Memory gives before t = tt
+
+  -- a group of frames behind those that are done was refused, and so are all frames
+  pub refused-group : ((rows more : List Row) → work.is_over rows ≡ true → work.is_over (rows ++ more) ≡ true) → (number next : ℕ) (frames done group more : List Cut) (start old : Tally)
+      → frames ≡ (done ++ group) ++ more → next ≡ number + length done → ((before : List Row) → Tallies work before start → Tallies work (before ++ rows_of work number done) old) → (r : Refusal Limit)
+      → ((before : List Row) → Tallies work before old → Refuses work before (rows_of work next group) r) → (before : List Row) → Tallies work before start → Refuses work before (rows_of work number frames) r
+  refused-group stays number next frames done group more start old whole counted so_far (refusal.Fault limit) gives before t =
+      let last = number + length (done ++ group) in
+      let over = stays _ (rows_of work last more) (gives (before ++ rows_of work number done) (so_far before t)) in
+      let all = ap (λ l. l ++ rows_of work last more) (behind before number next done group counted) ∙ behind before number last (done ++ group) more refl ∙ ap (λ l. before ++ rows_of work number l) (sym whole) in
+      subst (λ l. work.is_over l ≡ true) all over
+  refused-group stays number next frames done group more start old whole counted so_far refusal.Memory gives before t = tt
+
+-- frames behind those that are done are split into a group and others
+pub split-frames : (frames left group more : List Kept) (done : List Cut) → map cut_of_kept frames ≡ done ++ map cut_of_kept left → left ≡ group ++ more
+    → map cut_of_kept frames ≡ (done ++ map cut_of_kept group) ++ map cut_of_kept more
+split-frames frames left group more done whole split =
+    whole ∙ ap (λ l. done ++ map cut_of_kept l) split ∙ ap (λ l. done ++ l) (map-append cut_of_kept group more) ∙ sym (append_assoc done (map cut_of_kept group) (map cut_of_kept more))
+
+-- and all of them have numbers
+pub group-fits : (number next : ℕ) (frames left group more : List Kept) (done : List Cut) → map cut_of_kept frames ≡ done ++ map cut_of_kept left → left ≡ group ++ more → next ≡ number + length done
+    → number + length frames < 2 ^ 64 → next + length group < 2 ^ 64
+group-fits number next frames left group more done whole split counted bound =
+    let count = sym (length-map frames cut_of_kept) ∙ ap length whole ∙ length-append done (map cut_of_kept left) ∙ ap (λ n. length done + n) (length-map left cut_of_kept) in
+    let parts = ap length split ∙ length-append group more in
+    omega (arith, count, parts, counted, bound)
+
+-- a group more is done
+pub counted-more : (number next : ℕ) (done : List Cut) (group : List Kept) → next ≡ number + length done → next + length group ≡ number + length (done ++ map cut_of_kept group)
+counted-more number next done group counted = omega (arith, counted, length-append done (map cut_of_kept group), length-map group cut_of_kept)

@@ -15,7 +15,7 @@ use Rattle.pads_drive.specs.Writing.{Grows, GrowsPrefix}
 use Rattle.pads_drive.specs.Driving.{Collects}
 use Rattle.pads_drive.specs.Progress.{Moment, Progresses, Stops}
 use Rattle.pads_drive.proofs.Growing.{AppendsPrefix-after}
-use Rattle.pads_drive.proofs.Outputs.{rows_of-append, tallies-none}
+use Rattle.pads_drive.proofs.Outputs.{behind, both-rows, tallies-none}
 
 pub at-limit-map : (P Q : Type 0) (s : Stop) → (P → Q) → AtLimit P s → AtLimit Q s
 at-limit-map P Q stop.Limit f p = f p
@@ -36,13 +36,9 @@ at-sink P stop.Limit p = tt
 at-sink P stop.Memory p = tt
 
 module _ {Row Tally : Type 0} (work : Work Row Tally) where
-  -- the rows of two stretches
-  both-rows : (number next : ℕ) (xs ys : List Cut) → next ≡ number + length xs → rows_of work number (xs ++ ys) ≡ rows_of work number xs ++ rows_of work next ys
-  both-rows number next xs ys e = rows_of-append work number xs ys ∙ ap (λ n. rows_of work number xs ++ rows_of work n ys) (sym e)
-
   written : (line : Row → List ℕ) (number next : ℕ) (xs ys : List Cut) → next ≡ number + length xs
       → flat_map line (rows_of work number (xs ++ ys)) ≡ flat_map line (rows_of work number xs) ++ flat_map line (rows_of work next ys)
-  written line number next xs ys e = ap (flat_map line) (both-rows number next xs ys e) ∙ flat_map-append line (rows_of work number xs) (rows_of work next ys)
+  written line number next xs ys e = ap (flat_map line) (both-rows work number next xs ys e) ∙ flat_map-append line (rows_of work number xs) (rows_of work next ys)
 
   grows-trans : (o o' o'' n n' n'' : Option (List ℕ)) (number next : ℕ) (xs ys : List Cut) → next ≡ number + length xs → Grows o o' n n' (output_of work (rows_of work number xs))
       → Grows o' o'' n' n'' (output_of work (rows_of work next ys)) → Grows o o'' n n'' (output_of work (rows_of work number (xs ++ ys)))
@@ -58,11 +54,6 @@ module _ {Row Tally : Type 0} (work : Work Row Tally) where
     notes_grow = rw (written work.notes number next xs ys e) (AppendsPrefix-after n n' n'' _ _ p.notes_grow q.notes_grow);
   }
 
-  -- the rows of two stretches, behind those before them
-  behind : (before : List Row) (number next : ℕ) (xs ys : List Cut) → next ≡ number + length xs
-      → (before ++ rows_of work number xs) ++ rows_of work next ys ≡ before ++ rows_of work number (xs ++ ys)
-  behind before number next xs ys e = append_assoc before (rows_of work number xs) (rows_of work next ys) ∙ ap (λ l. before ++ l) (sym (both-rows number next xs ys e))
-
   pub progresses-trans : (o o' o'' n n' n'' : Option (List ℕ)) (a b c : Moment Tally) (xs ys : List ℕ) → Progresses work o o' n n' a b xs
       → Progresses work o' o'' n' n'' b c ys → Progresses work o o'' n n'' a c (xs ++ ys)
   progresses-trans o o' o'' n n' n'' a b c xs ys p q = record {
@@ -75,7 +66,7 @@ module _ {Row Tally : Type 0} (work : Work Row Tally) where
     later = omega (arith, p.later, q.later, length-append p.frames q.frames);
     grown = grows-trans o o' o'' n n' n'' a.number b.number p.frames q.frames p.counted p.grown q.grown;
     counted = omega (arith, p.counted, q.counted, length-append p.frames q.frames);
-    tallied = λ before t. subst (λ l. Tallies work l c.tally) (behind before a.number b.number p.frames q.frames p.counted) (q.tallied (before ++ rows_of work a.number p.frames) (p.tallied before t));
+    tallied = λ before t. subst (λ l. Tallies work l c.tally) (behind work before a.number b.number p.frames q.frames p.counted) (q.tallied (before ++ rows_of work a.number p.frames) (p.tallied before t));
   }
 
   pub stops-after : (o o' o'' n n' n'' : Option (List ℕ)) (a b : Moment Tally) (xs ys : List ℕ) (MayFollow : Bool → List ℕ → Type 0) (s : Stop)
@@ -89,7 +80,7 @@ module _ {Row Tally : Type 0} (work : Work Row Tally) where
           ∙ ap (λ l. p.frames ++ l) e ∙ sym (append_assoc p.frames q.frames others),
     );
     grown = grows-prefix o o' o'' n n' n'' a.number b.number p.frames q.frames p.counted p.grown q.grown;
-    over = at-limit-map _ _ s (λ over before t. subst (λ l. work.is_over l ≡ true) (behind before a.number b.number p.frames q.frames p.counted) (over (before ++ rows_of work a.number p.frames) (p.tallied before t))) q.over;
+    over = at-limit-map _ _ s (λ over before t. subst (λ l. work.is_over l ≡ true) (behind work before a.number b.number p.frames q.frames p.counted) (over (before ++ rows_of work a.number p.frames) (p.tallied before t))) q.over;
   }
 
   -- the same where less may follow
@@ -155,22 +146,22 @@ module _ {Row Tally : Type 0} (work : Work Row Tally) where
   }
 
   -- nothing was written, and the frames that wait can't be counted
-  pub stops-over : (o n : Option (List ℕ)) (m : Moment Tally) (rows : List Row) → rows ≡ rows_of work m.number m.waiting
-      → ((before : List Row) → Tallies work before m.tally → work.is_over (before ++ rows) ≡ true) → Stops work o o n n m [] (MayCome m.framer) stop.Limit
-  stops-over o n m rows is over = record {
+  pub stops-over : (o n : Option (List ℕ)) (m : Moment Tally)
+      → ((before : List Row) → Tallies work before m.tally → work.is_over (before ++ rows_of work m.number m.waiting) ≡ true) → Stops work o o n n m [] (MayCome m.framer) stop.Limit
+  stops-over o n m over = record {
     frames = m.waiting;
     first = λ ended more may. (rest ended m.framer more, refl);
     grown = record { out_grows = (0, Appends-nil o); notes_grow = (0, Appends-nil n) };
-    over = λ before t. subst (λ l. work.is_over (before ++ l) ≡ true) is (over before t);
+    over = over;
   }
 
   -- a prefix of the output for the frames that wait was written
-  pub stops-waiting : (o o' n n' : Option (List ℕ)) (m : Moment Tally) (rows : List Row) (output : Output) (s : Stop) → rows ≡ rows_of work m.number m.waiting → output ≡ output_of work rows
+  pub stops-waiting : (o o' n n' : Option (List ℕ)) (m : Moment Tally) (output : Output) (s : Stop) → output ≡ output_of work (rows_of work m.number m.waiting)
       → GrowsPrefix o o' n n' output → AtLimit ⊥ s → Stops work o o' n n' m [] (MayCome m.framer) s
-  stops-waiting o o' n n' m rows output s is e p none = record {
+  stops-waiting o o' n n' m output s e p none = record {
     frames = m.waiting;
     first = λ ended more may. (rest ended m.framer more, refl);
-    grown = rw (e, is) at p;
+    grown = rw e at p;
     over = at-limit-map _ _ s (λ no. absurd no) none;
   }
 

@@ -8,8 +8,8 @@ use crate::output::Output;
 use pads_value::{Items, Kept, Memory, Refusal};
 use std::alloc::Global;
 
-/// What is done with the records of an input, in two steps: the rows of a batch are made, and then for
-/// each row it is said what is written on the sinks `out` and notes, and what the row adds to a tally,
+/// What is done with the records of an input, in two steps: the rows of some frames are made, and then
+/// for each row it is said what is written on the sinks `out` and notes, and what the row adds to a tally,
 /// by which a command learns of all rows, as whether each is clean. A row follows from its record's
 /// number, counted from 0, and its frame, whose offsets are bytes in the whole input; what is written
 /// for it follows from the row; and the tally from the list of all rows.
@@ -47,22 +47,79 @@ pub trait Command {
         → (work command).is_over (rows ++ more) ≡ true };
 }
 
-/// What is to be written for these rows, which the tally counts behind the rows before them.
-pub(crate) fn give_batch<C: Command>(
+/// Of so many frames at most the rows are made before they are given. The values of few rows fit where
+/// those of the rows before them stood, which is quicker than to take new memory for each row of a batch.
+const GROUP: usize = 8;
+
+/// Puts what is to be written for these rows behind the output, and counts them behind the rows before
+/// them.
+fn give_rows<C: Command>(
     command: &C,
     alloc: Global,
     rows: &[C::Row],
+    output: &mut Output,
     tally: &mut C::Tally,
-) -> Result<Output, Refusal<Limit>>
-    ensures output { IfOk result (λ output. output ≡ output_of (C.work command.now) rows.now) }
+) -> Result<(), Refusal<Limit>>
+    ensures output { (before : List C.Row) → output.old ≡ output_of (C.work command.now) before
+        → OnOk result (output.new ≡ output_of (C.work command.now) (before ++ rows.now)) }
     ensures tally { (before : List C.Row) → Tallies (C.work command.now) before tally.old
         → Counts (C.work command.now) before rows.now tally.new result }
 {
-    let mut output = Output::new(alloc);
     'rows: for row in rows {
-        if let Err(refusal) = command.give(alloc, row, &mut output, tally) {
+        if let Err(refusal) = command.give(alloc, row, output, tally) {
             return Err(refusal);
         }
+    }
+    Ok(())
+}
+
+/// Makes the rows of these frames, the first of which has this number, and gives them.
+fn give_group<C: Command>(
+    command: &C,
+    alloc: Global,
+    number: u64,
+    frames: &[Kept],
+    output: &mut Output,
+    tally: &mut C::Tally,
+) -> Result<(), Refusal<Limit>>
+    requires numbered { number + length frames.now < 2 ^ 64 }
+    ensures output { (before : List C.Row) → output.old ≡ output_of (C.work command.now) before
+        → OnOk result (output.new ≡ output_of (C.work command.now)
+        (before ++ rows_of (C.work command.now) number (map cut_of_kept frames.now))) }
+    ensures tally { (before : List C.Row) → Tallies (C.work command.now) before tally.old
+        → Counts (C.work command.now) before (rows_of (C.work command.now) number (map cut_of_kept frames.now)) tally.new result }
+{
+    let Ok(rows) = command.read(alloc, number, frames) else {
+        return Err(Refusal::Memory);
+    };
+    give_rows(command, alloc, rows.as_slice(), output, tally)
+}
+
+/// What is to be written for the rows of these frames, the first of which has this number. The tally
+/// counts them behind the rows before them.
+pub(crate) fn give_batch<C: Command>(
+    command: &C,
+    alloc: Global,
+    number: u64,
+    frames: &[Kept],
+    tally: &mut C::Tally,
+) -> Result<Output, Refusal<Limit>>
+    requires numbered { number + length frames.now < 2 ^ 64 }
+    ensures output { IfOk result (λ output. output ≡ output_of (C.work command.now)
+        (rows_of (C.work command.now) number (map cut_of_kept frames.now))) }
+    ensures tally { (before : List C.Row) → Tallies (C.work command.now) before tally.old
+        → Counts (C.work command.now) before (rows_of (C.work command.now) number (map cut_of_kept frames.now)) tally.new result }
+{
+    let mut output = Output::new(alloc);
+    let mut left = frames;
+    let mut next = number;
+    'groups: while !left.is_empty() {
+        let (group, more) = left.split_at(left.len().min(GROUP));
+        if let Err(refusal) = give_group(command, alloc, next, group, &mut output, tally) {
+            return Err(refusal);
+        }
+        next += group.len() as u64;
+        left = more;
     }
     Ok(output)
 }

@@ -40,10 +40,7 @@ pub(crate) fn flush<C: Command, K: Sink, E: Sink>(
         ((row : C.Row) → (C.work command.now).notes row ≡ []) result }
 {
     let frames = reading.batch.frames.as_slice();
-    let Ok(rows) = command.read(alloc, reading.number, frames) else {
-        return Err(Stop::Memory);
-    };
-    let output = match give_batch(command, alloc, rows.as_slice(), &mut reading.tally) {
+    let output = match give_batch(command, alloc, reading.number, frames, &mut reading.tally) {
         Ok(output) => output,
         Err(Refusal::Fault(Limit)) => return Err(Stop::Limit),
         Err(Refusal::Memory) => return Err(Stop::Memory),

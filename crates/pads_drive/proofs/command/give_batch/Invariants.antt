@@ -1,12 +1,19 @@
-use Rattle.std.proofs.Common.{◌≡◌, ◌++◌, List, take}
+use Rattle.std.proofs.Common.{◌≡◌, ◌+◌, ◌++◌, ℕ, List, length, map}
+use Rattle.pads_value.specs.Cuts.{Cut, cut_of_kept}
 use Rattle.pads_drive.specs.declared.output.Output.{Output}
-use Rattle.pads_drive.specs.Outputs.{Work, Tallies, output_of}
+use Rattle.pads_drive.specs.Outputs.{Work, Tallies, output_of, rows_of}
 use Rattle.pads_drive.proofs.command.give_batch.Given as goal
 
--- the rows so far gave the output, and were counted
-pub record GivenSoFar {Row Tally : Type 0} (work : Work Row Tally) (rows : List Row) (output : Output) (old new : Tally) : Type 0 where
-  pub output_is : output ≡ output_of work rows
-  pub tallied : (before : List Row) → Tallies work before old → Tallies work (before ++ rows) new
+-- the rows of the frames so far gave the output, and were counted; the others are left
+pub record GivenSoFar {Row Tally : Type 0} (work : Work Row Tally) (number next : ℕ) (frames left : List Cut) (output : Output) (old new : Tally) : Type 0 where
+  pub done : List Cut
+  pub whole : frames ≡ done ++ left
+  pub counted : next ≡ number + length done
+  pub output_is : output ≡ output_of work (rows_of work number done)
+  pub tallied : (before : List Row) → Tallies work before old → Tallies work (before ++ rows_of work number done) new
 
-abbrev pub invariant-rows : goal.invariant-rows
-invariant-rows g l = GivenSoFar (g.C.Command.work l.command) (take l.row-index l.rows) l.output l.initial.tally l.tally
+abbrev pub invariant-groups : goal.invariant-groups
+invariant-groups g l = GivenSoFar (g.C.Command.work l.command) l.number l.next (map cut_of_kept l.frames) (map cut_of_kept l.left) l.output l.initial.tally l.tally
+
+abbrev pub decreases-groups : goal.decreases-groups
+decreases-groups g l = length l.left
