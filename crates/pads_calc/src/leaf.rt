@@ -12,7 +12,7 @@ ghost use Rattle.pads_expr.specs.Value.{value};
 ghost use Rattle.pads_expr.specs.Worth.{worth_or_none};
 
 use crate::args::arguments_in;
-use crate::{Args, Base, Reading, Record, ComputedForm};
+use crate::{Args, Base, ComputedForm, Reading, Record};
 use pads_dispatch::read_base;
 use pads_expr::{Binding, Env, Expr, Res, eval_in};
 use pads_value::{Cause, Items, Memory, Read, Val};
@@ -187,7 +187,11 @@ impl<'a> Record<'a> {
 }
 
 /// What a computed field's expression is worth, where it has the form that is asked for.
-fn computed_value(alloc: Global, form: ComputedForm, found: Option<Res>) -> Result<Option<Val>, Memory>
+fn computed_value(
+    alloc: Global,
+    form: ComputedForm,
+    found: Option<Res>,
+) -> Result<Option<Val>, Memory>
     ensures value { IfOk result (λ value. value ≡ computed_told form (option_map seen found.entry)) }
 {
     Ok(match (form, found) {
@@ -198,7 +202,9 @@ fn computed_value(alloc: Global, form: ComputedForm, found: Option<Res>) -> Resu
                 None
             }
         }
-        (ComputedForm::Text, Some(Res::Text(text))) => Some(Val::Text(Items::from_slice(alloc, text)?)),
+        (ComputedForm::Text, Some(Res::Text(text))) => Some(Val::Text(Items::from_slice(
+            alloc, text,
+        )?)),
         _ => None,
     })
 }

@@ -4,6 +4,7 @@
 mod args;
 mod checking;
 mod choice;
+mod copies;
 mod counts;
 mod decl;
 mod guard;
@@ -27,5 +28,5 @@ pub use reading::Reading;
 pub use record::Record;
 pub use row::{DEEPEST, row_over, row_without};
 pub use run::Run;
-pub use term::{Arm, Arms, Case, Cases, Exprs, Key, Part, Parts, ComputedForm, Seq, Term};
+pub use term::{Arm, Arms, Case, Cases, ComputedForm, Exprs, Key, Part, Parts, Seq, Term};
 pub use turn::{Ending, Turn, is_full, short_of, size_at, size_in};
