@@ -1,11 +1,12 @@
 -- Rows of the cutting, computed: the bytes of an input, and its frames.
 use Rattle.std.proofs.Common.{◌≡◌, ℕ, None, Some, List, [], ◌∷◌, ◌++◌, refl}
-use Rattle.std.specs.Prelude.{codes}
+use Rattle.std.specs.Prelude.{codes, length}
 use Rattle.pads_value.specs.declared.frame.Mark.{Mark}
 use Rattle.pads_value.specs.declared.frame.Mark.TheVariants.{Plain, Short, Long, Broken}
 use Rattle.pads_value.specs.Cuts.{Cut}
 use Rattle.pads_frame.specs.declared.discipline.Discipline.TheVariants.{Term, Fixed, Rdw, Whole}
 use Rattle.pads_frame.specs.Cutting.{cuts, records, closed}
+use Rattle.pads_frame.specs.Framed.{framed}
 use Rattle.pads_frame.specs.OnlyFrame.{only}
 
 abbrev frame : ℕ → ℕ → List ℕ → Mark → Cut
@@ -125,3 +126,26 @@ not_one_line = refl
 not_any_line : only (records (Term 10) 16 []) ≡ None
 unfolding cuts
 not_any_line = refl
+
+-- ---- a record as an input of its own
+
+a_line : framed (Term 10) (codes "3,7") ≡ Some (codes "3,7" ++ newline)
+unfolding newline
+a_line = refl
+
+a_block : framed (Fixed 4) (codes "0001") ≡ Some (codes "0001")
+a_block = refl
+
+a_whole : framed Whole (codes "3,7") ≡ Some (codes "3,7")
+a_whole = refl
+
+-- 61 0A 62 63 behind the length 0008
+behind_a_word : framed Rdw (97 ∷ 10 ∷ 98 ∷ 99 ∷ []) ≡ Some (0 ∷ 8 ∷ 0 ∷ 0 ∷ 97 ∷ 10 ∷ 98 ∷ 99 ∷ [])
+behind_a_word = refl
+
+-- the longest record behind a word, and one byte more
+longest_behind_word : (bytes : List ℕ) → length bytes ≡ 65531 → framed Rdw bytes ≡ Some (255 ∷ 255 ∷ 0 ∷ 0 ∷ bytes)
+longest_behind_word bytes is = rw is refl
+
+too_long_for_a_word : (bytes : List ℕ) → length bytes ≡ 65532 → framed Rdw bytes ≡ None
+too_long_for_a_word bytes is = rw is refl

@@ -3,6 +3,7 @@ pub mod Placed
 pub mod Extents
 pub mod Feed
 pub mod Fits
+pub mod Framed
 pub mod Cutters
 pub mod Cutting
 pub mod Laws
