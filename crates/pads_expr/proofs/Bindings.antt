@@ -24,3 +24,6 @@ pairs_of-Lent name value outer =
 
 pub pairs_of-Base : (bindings : Bor Pairs) → pairs_of (scope.Base bindings) ≡ reverse bindings.now
 pairs_of-Base bindings = ap pairs_of (sym (scope.rolls-Base bindings)) ∙ fold-roll-Scope Pairs scope_step (Scope-F.Base bindings)
+
+pub pairs_of-Names : (bindings : Bor Pairs) → pairs_of (scope.Names bindings) ≡ reverse bindings.now
+pairs_of-Names bindings = ap pairs_of (sym (scope.rolls-Names bindings)) ∙ fold-roll-Scope Pairs scope_step (Scope-F.Names bindings)

@@ -6,6 +6,7 @@ use Rattle.pads_expr.specs.Value.{Pairs}
 
 abbrev pub scope_step : Scope-F Pairs → Pairs
 scope_step (Scope-F.Base bindings) = reverse bindings.now
+scope_step (Scope-F.Names bindings) = reverse bindings.now
 scope_step (Scope-F.Lent name value outer) = (name, value.now) ∷ outer.now
 scope_step (Scope-F.Bind name number outer) = (name, val.Num number) ∷ outer.now
 

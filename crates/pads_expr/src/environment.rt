@@ -1,5 +1,6 @@
 ghost use Rattle.std.specs.Prelude.{◌≡◌, ◌-◌, ◌<◌, ◌∷◌, ◌↔◌, [], drop, length, reverse, IfOk, IfNone, IfSome, IsTrue, OnOk, OnErr};
 
+use crate::Lent;
 use pads_value::{Memory, Val};
 use std::alloc::Global;
 use std::marker::Model;
@@ -68,6 +69,17 @@ impl Env {
         ensures pairs { reverse result.now ≡ self.now.pairs }
     {
         self.bindings.as_slice()
+    }
+
+    /// The bindings, the latest last, with their values lent.
+    pub fn lend(&self, alloc: Global) -> Result<Vec<Lent<'_>>, Memory>
+        ensures pairs { IfOk result (λ lent. reverse lent.items ≡ self.now.pairs) }
+    {
+        let mut lent = Vec::with_capacity(alloc, self.bindings.len())?;
+        for (name, value) in &self.bindings {
+            lent.push(Lent::new(*name, value))?;
+        }
+        Ok(lent)
     }
 
     /// Binds a name within the room.

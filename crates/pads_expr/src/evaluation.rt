@@ -11,7 +11,8 @@ ghost use Rattle.pads_expr.specs.Worth.{worth_or_none};
 use crate::operators::{apply, is_decided};
 use crate::parts::worth;
 use crate::worth::{is_true, truth_alone};
-use crate::{Binding, Env, Expr, Res};
+use crate::lent::lent_value;
+use crate::{Binding, Env, Expr, Lent, Res};
 use pads_value::Val;
 
 /// An environment with the latest bindings, which live on the stack: a value that is lent, and the
@@ -19,6 +20,7 @@ use pads_value::Val;
 #[derive(Clone, Copy)]
 enum Scope<'s, 'a> {
     Base(&'a [Binding]),
+    Names(&'a [Lent<'a>]),
     Lent(u16, &'a Val, &'s Scope<'s, 'a>),
     Bind(u16, i128, &'s Scope<'s, 'a>),
 }
@@ -37,6 +39,7 @@ fn variable<'a>(scope: &Scope<'_, 'a>, name: u16) -> Option<Res<'a>>
 {
     match scope {
         Scope::Base(bindings) => worth(binding(bindings, name)?),
+        Scope::Names(bindings) => worth(lent_value(bindings, name)?),
         Scope::Lent(bound, value, outer) => {
             if *bound == name {
                 worth(value)
@@ -157,6 +160,13 @@ pub fn eval_with<'a>(
     ensures value { option_map seen result ≡ worth_or_none (value e.now ((name, lent.now) ∷ reverse bindings.now)) }
 {
     evaluate(e, &Scope::Lent(name, lent, &Scope::Base(bindings)))
+}
+
+/// The same where the values of all bindings are lent.
+pub fn eval_lent<'a>(e: &'a Expr, bindings: &'a [Lent<'a>]) -> Option<Res<'a>>
+    ensures value { option_map seen result ≡ worth_or_none (value e.now (reverse bindings.now)) }
+{
+    evaluate(e, &Scope::Names(bindings))
 }
 
 /// The value of an expression in an environment. It takes no memory; texts and parts are lent. `None`
