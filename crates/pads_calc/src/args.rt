@@ -4,7 +4,7 @@ ghost use Rattle.pads_expr.specs.Seen.{seen};
 ghost use Rattle.std.specs.Option.{option_map};
 
 use pads_dispatch::{Arg, Args};
-use pads_expr::{Binding, Env, Expr, Res, eval_in, eval_with};
+use pads_expr::{Binding, Env, Expr, Lent, Res, eval_in, eval_lent, eval_with};
 use pads_value::{Items, Memory, Val};
 use std::alloc::Global;
 
@@ -50,6 +50,24 @@ pub fn arguments(alloc: Global, es: &[Expr], env: &Env) -> Result<Option<Args>, 
     ensures arguments { IfOk result (λ args. args ≡ arguments_of es.now env.now.pairs) }
 {
     arguments_in(alloc, es, env.as_slice())
+}
+
+/// The same over bindings whose values are lent.
+pub fn arguments_lent<'x>(
+    alloc: Global,
+    es: &'x [Expr],
+    bindings: &'x [Lent<'x>],
+) -> Result<Option<Args>, Memory>
+    ensures arguments { IfOk result (λ args. args ≡ arguments_of es.now (reverse bindings.now)) }
+{
+    let mut args = Items::new(alloc);
+    for e in es {
+        let Some(arg) = arg_of(alloc, eval_lent(e, bindings))? else {
+            return Ok(None);
+        };
+        args.push(arg)?;
+    }
+    Ok(Some(args))
 }
 
 /// Whether what an expression is worth is that it is true. Without a value it isn't.

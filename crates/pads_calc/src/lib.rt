@@ -18,7 +18,9 @@ mod scope;
 mod term;
 mod turn;
 
-pub use args::{argument_in, arguments, arguments_in, bound, is_true_in, is_true_of};
+pub use args::{
+    argument_in, arguments, arguments_in, arguments_lent, bound, is_true_in, is_true_of,
+};
 pub use choice::{chosen, chosen_in};
 pub use decl::{Decl, Decls, NameIds, Shape};
 pub use guard::{guarded, guarded_in};
