@@ -38,6 +38,7 @@ use Rattle.pads_rules.specs.Violations.{violations}
 use Rattle.pads_rules.specs.declared.declared.Declared.{Declared}
 use Rattle.pads_rules.specs.declared.expr_sort.ExprSort.{ExprSort}
 use Rattle.pads_rules.specs.declared.expr_sort.ExprSort.TheVariants as expr_sort
+use Rattle.pads_rules.specs.declared.rule.Rule.TheVariants as rule
 use Rattle.law_descriptions.specs.Expressions.{if_read, body_at}
 use Rattle.law_descriptions.specs.Sorts as sorts_of
 use Rattle.law_descriptions.specs.WellSorted.{Each}
@@ -144,29 +145,29 @@ pub used-known : (site : Site) (scope : Judging) (t : «Type») → FreePiece si
 used-known site scope t free =
     let m = meaning (earlier site) t.name.text in
     neither (is_undeclared m) (comes_later site t)
-    (not-when (is_undeclared m && not (comes_later site t)) (breaks 2 t.name.at) free.unknown) (not-when (is_undeclared m && comes_later site t) (breaks 3 t.name.at) free.later)
+    (not-when (is_undeclared m && not (comes_later site t)) (breaks rule.UnknownType t.name.at) free.unknown) (not-when (is_undeclared m && comes_later site t) (breaks rule.LaterType t.name.at) free.later)
 
 pub computed-known : (site : Site) (scope : Judging) (t : «Type») (value : _) → FreePiece site (Computed scope t value) → is_undeclared (meaning (earlier site) t.name.text) ≡ false
 computed-known site scope t value free =
     let m = meaning (earlier site) t.name.text in
     neither (is_undeclared m) (comes_later site t)
-    (not-when (is_undeclared m && not (comes_later site t)) (breaks 2 t.name.at) free.unknown) (not-when (is_undeclared m && comes_later site t) (breaks 3 t.name.at) free.later)
+    (not-when (is_undeclared m && not (comes_later site t)) (breaks rule.UnknownType t.name.at) free.unknown) (not-when (is_undeclared m && comes_later site t) (breaks rule.LaterType t.name.at) free.later)
 
 pub param-known : (site : Site) (t : «Type») → FreePiece site (OfParam t) → is_undeclared (meaning (earlier site) t.name.text) ≡ false
 param-known site t free =
     let m = meaning (earlier site) t.name.text in
     neither (is_undeclared m) (comes_later site t)
-    (not-when (is_undeclared m && not (comes_later site t)) (breaks 2 t.name.at) free.unknown) (not-when (is_undeclared m && comes_later site t) (breaks 3 t.name.at) free.later)
+    (not-when (is_undeclared m && not (comes_later site t)) (breaks rule.UnknownType t.name.at) free.unknown) (not-when (is_undeclared m && comes_later site t) (breaks rule.LaterType t.name.at) free.later)
 
 -- a type that a record's declaration names is no record list
 abbrev no_records : Site → «Type» → Bool
 no_records site t = (is_precord_type (meaning (earlier site) t.name.text) || is_record_list_type (meaning (earlier site) t.name.text)) && not (is_source_shape site)
 
-pub no-list : (site : Site) (t : «Type») → when (no_records site t) (breaks 20 t.name.at) ≡ [] → is_source_shape site ≡ false → is_record_list_type (meaning (earlier site) t.name.text) ≡ false
+pub no-list : (site : Site) (t : «Type») → when (no_records site t) (breaks rule.RecordTypeNamed t.name.at) ≡ [] → is_source_shape site ≡ false → is_record_list_type (meaning (earlier site) t.name.text) ≡ false
 no-list site t none off =
     let m = meaning (earlier site) t.name.text in
     (or_parts (is_precord_type m) (is_record_list_type m)
-    (unless (is_precord_type m || is_record_list_type m) (is_source_shape site) (not-when (no_records site t) (breaks 20 t.name.at) none) off)).1
+    (unless (is_precord_type m || is_record_list_type m) (is_source_shape site) (not-when (no_records site t) (breaks rule.RecordTypeNamed t.name.at) none) off)).1
 
 module _ (tree : Ast) (none : violations tree ≡ []) where
   abbrev pub decls : List WrittenDecl
@@ -190,13 +191,13 @@ module _ (tree : Ast) (none : violations tree ≡ []) where
       leb-false 4096 n
       (or_parts (nat_le 4096 n) (nat_lt 4096 (part_count d.body))
       (or_parts _ (nat_lt 4096 (scope_count d.body))
-      (or_parts _ (nat_lt 65000 (token_count site)) (not-when _ (breaks 24 (decl_name site).at) (free n d there).counted)).0).0).0
+      (or_parts _ (nat_lt 65000 (token_count site)) (not-when _ (breaks rule.Limit (decl_name site).at) (free n d there).counted)).0).0).0
 
   -- a source declaration is the last one
   pub not-last : (k n : ℕ) (d : WrittenDecl) (later : WrittenDecl) → k < n → slice_get decls k ≡ Some d → slice_get decls n ≡ Some later → is_psource d.mark ≡ false
   not-last k n d later less there behind =
       unless (is_psource d.mark) ((suc k == length decls) && is_source_shape (site_of decls k d))
-      (not-when (is_psource d.mark && not ((suc k == length decls) && is_source_shape (site_of decls k d))) (breaks 22 (decl_name (site_of decls k d)).at) (free k d there).misplaced)
+      (not-when (is_psource d.mark && not ((suc k == length decls) && is_source_shape (site_of decls k d))) (breaks rule.MisplacedSource (decl_name (site_of decls k d)).at) (free k d there).misplaced)
       (no-end (suc k == length decls) (is_source_shape (site_of decls k d)) refl)
     where
       no-end : (last shape : Bool) → (suc k == length decls) ≡ last → (last && shape) ≡ false

@@ -25,6 +25,7 @@ use Rattle.pads_rules.specs.Trees.{params_of, param_names, inner_names}
 use Rattle.pads_rules.specs.Violations.{violations}
 use Rattle.pads_rules.specs.declared.declared.Declared.{Declared}
 use Rattle.pads_rules.specs.declared.declared.Named.{Named as RuleNamed}
+use Rattle.pads_rules.specs.declared.rule.Rule.TheVariants as rule
 use Rattle.law_descriptions.specs.Expressions.{if_read}
 use Rattle.law_descriptions.specs.WellSorted.{Each, IfThere, IsParam, IsBody, IsDecl, params_scope}
 use Rattle.law_descriptions.proofs.Lists.{each-left, each-right}
@@ -51,7 +52,7 @@ spelled-params (p ∷ ps) spelled = (
 
 -- parameters are counted among the names in scope
 abbrev AllAgain : List Name → Type 0
-AllAgain xs = again same_name (λ (name : Name). breaks 4 name.at) [] xs ≡ []
+AllAgain xs = again same_name (λ (name : Name). breaks rule.NameAgain name.at) [] xs ≡ []
 
 named-params : (ps : List WrittenParam) (rest : List Name) (more : List (List ℕ)) → AllAgain (map (λ (param : WrittenParam). param.name) ps ++ rest)
     → length ps ≤ count_of_different (texts (map (λ (param : WrittenParam). param.name) ps) ++ more)
@@ -84,10 +85,10 @@ module _ (tree : Ast) (none : violations tree ≡ []) (n : ℕ) (d : WrittenDecl
   few-names =
       ltb-false 4096 (scope_count d.body)
       (or_parts (nat_le 4096 n || nat_lt 4096 (part_count d.body)) (nat_lt 4096 (scope_count d.body))
-      (or_parts _ (nat_lt 65000 (token_count site)) (not-when _ (breaks 24 (decl_name site).at) (free-site tree none n d there).counted)).0).1
+      (or_parts _ (nat_lt 65000 (token_count site)) (not-when _ (breaks rule.Limit (decl_name site).at) (free-site tree none n d there).counted)).0).1
 
   all-names : AllAgain (param_names d.body ++ inner_names d.body)
-  all-names = none-left (again same_name (λ (name : Name). breaks 4 name.at) [] (param_names d.body ++ inner_names d.body)) (again same_option (λ option. breaks 4 (option_place option)) [] (options_of d.body)) (free-site tree none n d there).again
+  all-names = none-left (again same_name (λ (name : Name). breaks rule.NameAgain name.at) [] (param_names d.body ++ inner_names d.body)) (again same_option (λ option. breaks rule.NameAgain (option_place option)) [] (options_of d.body)) (free-site tree none n d there).again
 
   param-pieces : Each Free_here (map (λ (param : WrittenParam). OfParam param.of) (params_of d.body))
   param-pieces = each-left Free_here (map (λ (param : WrittenParam). OfParam param.of) (params_of d.body)) (body_pieces types n (map (param_named types) (params_of d.body)) d.body) (free-site tree none n d there).at_pieces
@@ -134,7 +135,7 @@ module _ (tree : Ast) (none : violations tree ≡ []) (n : ℕ) (d : WrittenDecl
         by (written_body.Enum b) is pieces spelled free =
             let within : length b.labels ≤ 4096 = subst (λ inner. part_count inner ≤ 4096) is (few-parts tree none n d there) in (
               ap (λ count. nat_le count 65535) (length-map b.labels made_label) ∙ few-enough (length b.labels) within,
-              spellings-differ b.labels (λ label. breaks 15 (decl_rules.spelling_of label).1) (subst (λ inner. again same_spelling (λ label. breaks 15 (decl_rules.spelling_of label).1) [] (labels_of inner) ≡ []) is (free-site tree none n d there).spellings),
+              spellings-differ b.labels (λ label. breaks rule.SpellingAgain (decl_rules.spelling_of label).1) (subst (λ inner. again same_spelling (λ label. breaks rule.SpellingAgain (decl_rules.spelling_of label).1) [] (labels_of inner) ≡ []) is (free-site tree none n d there).spellings),
             )
         by (written_body.Typedef b) is pieces spelled free =
             typedef-typed tree none n d there reads (made_params site) (map (param_named types) (params_of d.body)) (params_scope (map (param_of types) (params_of d.body)) []) before params-here.0 b pieces spelled

@@ -17,6 +17,7 @@ use Rattle.pads_rules.specs.NameTokens.{Names as Texts, with_name, with_names}
 use Rattle.pads_rules.specs.Texts.{same_text, is_among}
 use Rattle.pads_rules.specs.Trees.{points_of}
 use Rattle.pads_rules.specs.declared.fault.CheckFault.{CheckFault}
+use Rattle.pads_rules.specs.declared.rule.Rule.TheVariants as rule
 use Rattle.pads_rules.proofs.SameTexts.{is-same}
 use Rattle.pads_trans.specs.Terms as trans
 use Rattle.pads_trans.specs.Terms.{label_of}
@@ -91,10 +92,10 @@ kept-length (name ∷ more) names = let h = kept-one names name (is_among names 
 new-one : (names : Texts) (name : List ℕ) → is_among names name ≡ false → with_name names name ≡ names ++ name ∷ []
 new-one names name h = ap (λ b. if b then names else names ++ name ∷ []) h
 
-pub counted-names : (xs before rest : List Name) (more : Texts) → again same_name (λ (x : Name). breaks 4 x.at) before (xs ++ rest) ≡ [] → length before + length xs ≤ length (with_names (texts_of before) (texts_of xs ++ more))
+pub counted-names : (xs before rest : List Name) (more : Texts) → again same_name (λ (x : Name). breaks rule.NameAgain x.at) before (xs ++ rest) ≡ [] → length before + length xs ≤ length (with_names (texts_of before) (texts_of xs ++ more))
 counted-names [] before rest more free = let h = kept-length more (texts_of before) in omega (arith, h, length-map before (λ (x : Name). x.text))
 counted-names (x ∷ xs) before rest more free =
-    let fault = λ (x : Name). breaks 4 x.at in
+    let fault = λ (x : Name). breaks rule.NameAgain x.at in
     let fresh = not-when (list_any (same_name x) before) (fault x) (none-left (when (list_any (same_name x) before) (fault x)) (again same_name fault (before ++ x ∷ []) (xs ++ rest)) free) in
     let later = none-right (when (list_any (same_name x) before) (fault x)) (again same_name fault (before ++ x ∷ []) (xs ++ rest)) free in
     let one : with_name (texts_of before) x.text ≡ texts_of (before ++ x ∷ []) = new-one (texts_of before) x.text (any-mapped x before ∙ fresh) ∙ sym (map-append (λ (x : Name). x.text) before (x ∷ [])) in

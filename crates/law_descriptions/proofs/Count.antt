@@ -8,6 +8,7 @@ use lib.Pointwise.{pointwise}
 use Rattle.pads_ast.specs.declared.decl.Ast.{Ast}
 use Rattle.pads_ast.specs.declared.decl.Decl.{Decl as WrittenDecl}
 use Rattle.pads_resolution.specs.Resolution.{decl_at, resolved}
+use Rattle.pads_rules.specs.declared.rule.Rule.TheVariants as rule
 use Rattle.pads_rules.specs.DeclRules.{part_count, scope_count, token_count, decl_name}
 use Rattle.pads_rules.specs.Faults.{breaks}
 use Rattle.pads_rules.specs.NameTokens as tokens
@@ -170,7 +171,7 @@ module _ (tree : Ast) (none : violations tree ≡ []) where
           let site = site_of tree.decls m d.0 in
           let few = ltb-false 65000 (token_count site)
           (or_parts (nat_le 4096 m || nat_lt 4096 (part_count (d.0).body) || nat_lt 4096 (scope_count (d.0).body)) (nat_lt 65000 (token_count site))
-          (not-when _ (breaks 24 (decl_name site).at) (free-site tree none m d.0 d.1).counted)).1 in
+          (not-when _ (breaks rule.Limit (decl_name site).at) (free-site tree none m d.0 d.1).counted)).1 in
           subst (λ (decls : List WrittenDecl). count_of_different (flat_map (λ (d : WrittenDecl). names_in_decl d.body) decls) ≤ 65000) (take_all (suc m) tree.decls (omega arith)) few
 
   pub few-names : length (names_of (resolved tree)) < 65535

@@ -43,6 +43,7 @@ use Rattle.pads_rules.specs.declared.declared.Declared.{Declared}
 use Rattle.pads_rules.specs.declared.declared.Named.{Named as RuleNamed}
 use Rattle.pads_rules.specs.declared.expr_sort.ExprSort.{ExprSort}
 use Rattle.pads_rules.specs.declared.expr_sort.ExprSort.TheVariants as expr_sort
+use Rattle.pads_rules.specs.declared.rule.Rule.TheVariants as rule
 use Rattle.pads_trans_expr.specs.Names.{at_sign}
 use Rattle.law_descriptions.specs.Expressions.{SortScope, sort_in, union_branches}
 use Rattle.law_descriptions.specs.Sorts as sorts_of
@@ -160,10 +161,10 @@ module _ (tree : Ast) (none : violations tree ≡ []) (n : ℕ) (d : WrittenDecl
   text-key (written_const.Word word) h = tt
 
   abbrev Agreed : ExprSort → WrittenConst → Type 0
-  Agreed sort c = when (not (agree sort (const_sort c))) (breaks 12 (const_place c)) ≡ []
+  Agreed sort c = when (not (agree sort (const_sort c))) (breaks rule.CaseSort (const_place c)) ≡ []
 
   agreed : (sort : ExprSort) (c : WrittenConst) → Agreed sort c → agree sort (const_sort c) ≡ true
-  agreed sort c h = not-false (agree sort (const_sort c)) (not-when (not (agree sort (const_sort c))) (breaks 12 (const_place c)) h)
+  agreed sort c h = not-false (agree sort (const_sort c)) (not-when (not (agree sort (const_sort c))) (breaks rule.CaseSort (const_place c)) h)
 
   number-keys : (cases : List WrittenCase) (sort : ExprSort) → sort ≡ rules.num → Each (Agreed sort) (map (λ (c : WrittenCase). c.key) cases) → Each (λ case. IsNumberKey case.key) (map (case_at site names) cases)
   unfolding case_at
@@ -181,10 +182,10 @@ module _ (tree : Ast) (none : violations tree ≡ []) (n : ℕ) (d : WrittenDecl
       let e = expr_at site names s.value in
       let keys = map (λ (c : WrittenCase). c.key) s.cases in
       let j = judged (env tree none) s.value (judging_scope names []) in
-      let wrong = when (not (accepts is_num_or_text j.sort)) (breaks 12 j.first) in
-      let others = each (λ constant. when (not (agree j.sort (const_sort constant))) (breaks 12 (const_place constant))) keys in
-      let taken = not-false (accepts is_num_or_text j.sort) (not-when (not (accepts is_num_or_text j.sort)) (breaks 12 j.first) (none-left wrong others piece.cases)) in
-      let all = each-none (λ constant. when (not (agree j.sort (const_sort constant))) (breaks 12 (const_place constant))) keys (none-right wrong others piece.cases) in
+      let wrong = when (not (accepts is_num_or_text j.sort)) (breaks rule.CaseSort j.first) in
+      let others = each (λ constant. when (not (agree j.sort (const_sort constant))) (breaks rule.CaseSort (const_place constant))) keys in
+      let taken = not-false (accepts is_num_or_text j.sort) (not-when (not (accepts is_num_or_text j.sort)) (breaks rule.CaseSort j.first) (none-left wrong others piece.cases)) in
+      let all = each-none (λ constant. when (not (agree j.sort (const_sort constant))) (breaks rule.CaseSort (const_place constant))) keys (none-right wrong others piece.cases) in
       let x = expr-typed tree none n d s.value names [] w state.sees spelled piece.expressions in
       let k = known-operand tree.decls (env tree none) (made tree none) (sorts tree none) (described tree none) is_num_or_text x.0 e w x.2 (ap (accepts is_num_or_text) x.1 ∙ taken) in
       by s j.sort all k.0 (sym x.1 ∙ k.1) k.2 k.5 (is_num_form (k.0).form) (is_text_form (k.0).form) refl refl k.3

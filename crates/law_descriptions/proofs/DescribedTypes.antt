@@ -37,6 +37,7 @@ use Rattle.pads_rules.specs.declared.declared.Declared.{Declared}
 use Rattle.pads_rules.specs.declared.declared.Named.{Named as RuleNamed}
 use Rattle.pads_rules.specs.declared.expr_sort.ExprSort.{ExprSort}
 use Rattle.pads_rules.specs.declared.expr_sort.ExprSort.TheVariants as expr_sort
+use Rattle.pads_rules.specs.declared.rule.Rule.TheVariants as rule
 use Rattle.law_descriptions.specs.Expressions.{if_read}
 use Rattle.law_descriptions.specs.Sorts as sorts_of
 use Rattle.law_descriptions.proofs.Lists.{some-map}
@@ -134,7 +135,7 @@ module _ (tree : Ast) (none : violations tree ≡ []) where
       ltb-false 4096 (part_count d.body)
       (or_parts (nat_le 4096 n) (nat_lt 4096 (part_count d.body))
       (or_parts _ (nat_lt 4096 (scope_count d.body))
-      (or_parts _ (nat_lt 65000 (token_count (site_at n d))) (not-when _ (breaks 24 (decl_name (site_at n d)).at) (free tree none n d there).counted)).0).0).1
+      (or_parts _ (nat_lt 65000 (token_count (site_at n d))) (not-when _ (breaks rule.Limit (decl_name (site_at n d)).at) (free tree none n d there).counted)).0).0).1
 
   -- the type of a field or a branch
   pub used-sort : (n : ℕ) (d : WrittenDecl) (names : Names) (scope : Judging) (t : «Type») → slice_get tree.decls n ≡ Some d → IsReadAt tree.decls n d → FreePiece (site_at n d) (Used scope t)
@@ -168,16 +169,16 @@ module _ (tree : Ast) (none : violations tree ≡ []) where
   computed-rule n d scope t value piece =
       let bare = is_bare is_computable_base (site_at n d) t in
       let same = agree (type_sort (take n env_here) t) (judged env_here value scope).sort in
-      let both = or_parts (not bare) (not same) (not-when (not bare || not same) (breaks 18 t.name.at) piece.computed) in
+      let both = or_parts (not bare) (not same) (not-when (not bare || not same) (breaks rule.ComputedType t.name.at) piece.computed) in
       (not-false bare both.0, not-false same both.1)
 
   pub computed-sort : (n : ℕ) (d : WrittenDecl) (scope : Judging) (t : «Type») (value : Tree) → FreePiece (site_at n d) (Computed scope t value)
       → (type_sort (take n env_here) t ≡ expr_sort.Known (sorts_of.computed_sort (computed_of t))) × (agree (type_sort (take n env_here) t) (judged env_here value scope).sort ≡ true)
   computed-sort n d scope t value piece =
-      let rule = computed-rule n d scope t value piece in (
+      let kept = computed-rule n d scope t value piece in (
         computed-by n t (named-at tree.decls n t.name.text (computed-known (site_at n d) scope t value piece))
-            (and_parts (is_base is_computable_base (plain_meaning (take n env_here) t)) (is_empty (args_of t)) rule.0).0,
-        rule.1,
+            (and_parts (is_base is_computable_base (plain_meaning (take n env_here) t)) (is_empty (args_of t)) kept.0).0,
+        kept.1,
       )
 
   pub computed-proper : (of : MadeComputed) → IsProper env_here made_here (sorts_of.computed_sort of).form

@@ -29,6 +29,7 @@ use Rattle.pads_rules.specs.declared.declared.Declared.{Declared}
 use Rattle.pads_rules.specs.declared.declared.Named.{Named as RuleNamed}
 use Rattle.pads_rules.specs.declared.expr_sort.ExprSort.{ExprSort}
 use Rattle.pads_rules.specs.declared.expr_sort.ExprSort.TheVariants as expr_sort
+use Rattle.pads_rules.specs.declared.rule.Rule.TheVariants as rule
 use Rattle.pads_rules.proofs.SameTexts.{same-is}
 use Rattle.pads_trans_expr.specs.Names.{at_sign}
 use Rattle.law_descriptions.specs.Expressions.{SortScope, meaning_sort}
@@ -162,15 +163,15 @@ module _ (tree : Ast) (none : violations tree ≡ []) where
   start = record { shown = refl; sees = λ text known there. cc; covered = λ text apart. refl; variables = λ text known there. cc }
 
   abbrev pub Again : List Name → List Name → Type 0
-  Again before rest = again same_name (λ (name : Name). breaks 4 name.at) before rest ≡ []
+  Again before rest = again same_name (λ (name : Name). breaks rule.NameAgain name.at) before rest ≡ []
 
   pub fresh-first : (before : List Name) (x : Name) (rest : List Name) → Again before (x ∷ rest) → list_any (same_name x) before ≡ false
-  fresh-first before x rest free = not-when (list_any (same_name x) before) (breaks 4 x.at)
-      (none-left (when (list_any (same_name x) before) (breaks 4 x.at)) (again same_name (λ (name : Name). breaks 4 name.at) (before ++ x ∷ []) rest) free)
+  fresh-first before x rest free = not-when (list_any (same_name x) before) (breaks rule.NameAgain x.at)
+      (none-left (when (list_any (same_name x) before) (breaks rule.NameAgain x.at)) (again same_name (λ (name : Name). breaks rule.NameAgain name.at) (before ++ x ∷ []) rest) free)
 
   pub again-later : (before : List Name) (x : Name) (rest : List Name) → Again before (x ∷ rest) → Again (before ++ x ∷ []) rest
   again-later before x rest free =
-      none-right (when (list_any (same_name x) before) (breaks 4 x.at)) (again same_name (λ (name : Name). breaks 4 name.at) (before ++ x ∷ []) rest) free
+      none-right (when (list_any (same_name x) before) (breaks rule.NameAgain x.at)) (again same_name (λ (name : Name). breaks rule.NameAgain name.at) (before ++ x ∷ []) rest) free
 
   module _ (n : ℕ) (d : WrittenDecl) where
     abbrev types : List Declared

@@ -21,6 +21,7 @@ use Rattle.pads_rules.specs.Sorts as rules
 use Rattle.pads_rules.specs.Trees.{params_of, is_precord, is_psource}
 use Rattle.pads_rules.specs.Violations.{violations}
 use Rattle.pads_rules.specs.declared.declared.Declared.{Declared}
+use Rattle.pads_rules.specs.declared.rule.Rule.TheVariants as rule
 use Rattle.law_descriptions.specs.Sorts as sorts_of
 use Rattle.law_descriptions.specs.WellSorted.{Each, AreSorts}
 use Rattle.law_descriptions.specs.Known.{known_sorts}
@@ -41,7 +42,7 @@ module _ (tree : Ast) (none : violations tree ≡ []) (n : ℕ) (d : WrittenDecl
       let list = and_right (not (is_precord d.mark)) (is_record_list_body types d.body) no_list in
       let shape : is_source_shape site ≡ false = ap (λ b. b || (is_psource d.mark && is_header_shape types d.body)) list ∙ and_right (is_psource d.mark) (is_header_shape types d.body) no_header in
       let marked = unless (is_psource d.mark) ((suc n == length tree.decls) && is_source_shape site)
-      (not-when (is_psource d.mark && not ((suc n == length tree.decls) && is_source_shape site)) (breaks 22 (decl_name site).at) (free tree none n d there).misplaced)
+      (not-when (is_psource d.mark && not ((suc n == length tree.decls) && is_source_shape site)) (breaks rule.MisplacedSource (decl_name site).at) (free tree none n d there).misplaced)
       (and_right (suc n == length tree.decls) (is_source_shape site) shape) in
       reads-at tree.decls n d marked list
 

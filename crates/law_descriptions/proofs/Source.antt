@@ -23,6 +23,7 @@ use Rattle.pads_rules.specs.Texts.{same_text}
 use Rattle.pads_rules.specs.Trees.{is_precord}
 use Rattle.pads_rules.specs.Violations.{violations}
 use Rattle.pads_rules.specs.declared.declared.Declared.{Declared}
+use Rattle.pads_rules.specs.declared.rule.Rule.TheVariants as rule
 use Rattle.law_descriptions.specs.WellSorted.{Each, IfThere}
 use Rattle.law_descriptions.proofs.Environment.{env-length}
 use Rattle.pads_rules.proofs.Faultless.{not-when}
@@ -116,7 +117,7 @@ module _ (tree : Ast) (none : violations tree ≡ []) where
   pub some-decl : 0 < length tree.decls
   some-decl =
       let marked = list_any (λ (d : WrittenDecl). is_precord d.mark) tree.decls in
-      any-there (λ (d : WrittenDecl). is_precord d.mark) tree.decls (not-false marked (not-when (not marked) (breaks 23 tree.end) (some_record_type tree none)))
+      any-there (λ (d : WrittenDecl). is_precord d.mark) tree.decls (not-false marked (not-when (not marked) (breaks rule.NoRecordType tree.end) (some_record_type tree none)))
 
   source-there : IsThere (length tree.decls) some-decl (source_of (sites tree.decls))
   unfolding source_of

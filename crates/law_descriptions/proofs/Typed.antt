@@ -32,6 +32,7 @@ use Rattle.pads_rules.specs.Trees.{points_of}
 use Rattle.pads_rules.specs.declared.declared.Declared.{Declared}
 use Rattle.pads_rules.specs.declared.expr_sort.ExprSort.{ExprSort}
 use Rattle.pads_rules.specs.declared.expr_sort.ExprSort.TheVariants as expr_sort
+use Rattle.pads_rules.specs.declared.rule.Rule.TheVariants as rule
 use Rattle.pads_rules.proofs.Judgements.{judged-roll}
 use Rattle.pads_trans_expr.specs.Names.{at_sign}
 use Rattle.law_descriptions.specs.Expressions.{SortScope, sort_in_scope, plainly, number_alone, truth_alone, length_sort, forall_sort, part_sort, meaning_sort, sort_in}
@@ -156,7 +157,7 @@ module _ (written : List WrittenDecl) (env : List Declared) (decls : List Decl) 
 
     member-whole : (whole : Judged) (name : Name) (found : Option ExprSort) → (judging.member_found whole name found).faults ≡ [] → whole.faults ≡ []
     member-whole whole name (Some sort) none = inner-faults whole.first (suc whole.height) sort whole.faults none
-    member-whole whole name None none = absurd (not-one whole.faults (breaks 16 name.at) (too_high whole.first (suc whole.height)) none)
+    member-whole whole name None none = absurd (not-one whole.faults (breaks rule.UnknownMember name.at) (too_high whole.first (suc whole.height)) none)
 
     indexed-parts : (whole index : Judged) → (judging.indexed env whole index).faults ≡ [] → (whole.faults ≡ []) × (index.faults ≡ [])
     indexed-parts whole index none =

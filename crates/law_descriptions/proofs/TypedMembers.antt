@@ -24,6 +24,7 @@ use Rattle.pads_rules.specs.declared.declared.Declared.{Declared}
 use Rattle.pads_rules.specs.declared.declared.Named.{Named}
 use Rattle.pads_rules.specs.declared.expr_sort.ExprSort.{ExprSort}
 use Rattle.pads_rules.specs.declared.expr_sort.ExprSort.TheVariants as expr_sort
+use Rattle.pads_rules.specs.declared.rule.Rule.TheVariants as rule
 use Rattle.pads_rules.proofs.SameTexts.{same-is}
 use Rattle.law_descriptions.specs.Expressions.{SortScope, plainly, number_alone, length_sort, part_sort, union_branch, branch_sort, plain_choice, choice_sort, of_elements, element_sort, sort_in}
 use Rattle.law_descriptions.specs.Sorts.{num, truth}
@@ -123,7 +124,7 @@ module _ (written : List WrittenDecl) (env : List Declared) (decls : List Decl) 
       → (judging.member_found whole name o).faults ≡ []
       → Fits (member_as (is_struct r.sort) r.expr (member_number written env r.sort name.text) (sort_or_unknown o)) (judging.member_found whole name o) scope
   member-found r whole name scope (Some found) typed there none = (own-sort whole.first (suc whole.height) found whole.faults none, member-typed scope r.expr r.sort name.text found typed there)
-  member-found r whole name scope None typed there none = absurd (not-one whole.faults (breaks 16 name.at) (too_high whole.first (suc whole.height)) none)
+  member-found r whole name scope None typed there none = absurd (not-one whole.faults (breaks rule.UnknownMember name.at) (too_high whole.first (suc whole.height)) none)
 
   pub member-fits : (r : ResolvedExpr) (whole : Judged) (name : Name) (scope : SortScope) → Fits r whole scope → (judging.member_found whole name (member env whole.sort name.text)).faults ≡ []
       → Fits (made.member_of written env r name.text) (judging.member_found whole name (member env whole.sort name.text)) scope
@@ -219,8 +220,8 @@ module _ (written : List WrittenDecl) (env : List Declared) (decls : List Decl) 
       let no_value = not (may_choose value.sort) in
       let no_name = may_choose value.sort && not (has_choice env value.sort name.text) in
       let wrong = none-right value.faults (judging.no_choice env value name) says.1 in
-      let may = not-false (may_choose value.sort) (not-when no_value (breaks 17 value.first) (none-left (when no_value (breaks 17 value.first)) (when no_name (breaks 17 name.at)) wrong)) in
-      let chosen = and-not (may_choose value.sort) (has_choice env value.sort name.text) may (not-when no_name (breaks 17 name.at) (none-right (when no_value (breaks 17 value.first)) (when no_name (breaks 17 name.at)) wrong)) in (
+      let may = not-false (may_choose value.sort) (not-when no_value (breaks rule.UnknownChoice value.first) (none-left (when no_value (breaks rule.UnknownChoice value.first)) (when no_name (breaks rule.UnknownChoice name.at)) wrong)) in
+      let chosen = and-not (may_choose value.sort) (has_choice env value.sort name.text) may (not-when no_name (breaks rule.UnknownChoice name.at) (none-right (when no_value (breaks rule.UnknownChoice value.first)) (when no_name (breaks rule.UnknownChoice name.at)) wrong)) in (
         says.0,
         choice-typed scope r.expr r.sort name.text fits.1 (ap may_choose fits.0 ∙ may) (ap (λ s. has_choice env s name.text) fits.0 ∙ chosen),
       )

@@ -30,6 +30,7 @@ use Rattle.pads_rules.specs.declared.declared.Declared.{Declared}
 use Rattle.pads_rules.specs.declared.expr_sort.ExprSort.{ExprSort}
 use Rattle.pads_rules.specs.declared.expr_sort.ExprSort.TheVariants as expr_sort
 use Rattle.pads_rules.specs.declared.fault.CheckFault.{CheckFault}
+use Rattle.pads_rules.specs.declared.rule.Rule.TheVariants as rule
 use Rattle.law_descriptions.specs.Expressions.{SortScope, if_told, as_told, of_plain, plainly, of_forms, binary_sort, number_alone, truth_alone, sort_in}
 use Rattle.law_descriptions.specs.Sorts.{num, text, truth}
 use Rattle.law_descriptions.specs.Described.{IsProper, Describes, Typed, Sees}
@@ -174,14 +175,14 @@ module _ (written : List WrittenDecl) (env : List Declared) (decls : List Decl) 
   unfolding made.binary
   binary-fits op l r left right scope one other none =
       let different = accepts (takes op) left.sort && accepts (takes op) right.sort && not (agree left.sort right.sort) in
-      let differ = when different (breaks 9 right.first) in
+      let differ = when different (breaks rule.OperandSort right.first) in
       let says = judged-binary op left right none in
       let wrong = none-right (left.faults ++ right.faults) (judging.wrong_operands (takes op) left right) says.1 in
       let sides = none-left (wrong_sort (takes op) left ++ wrong_sort (takes op) right) differ wrong in
       let left_is = is-taken (takes op) left (none-left (wrong_sort (takes op) left) (wrong_sort (takes op) right) sides) in
       let right_is = is-taken (takes op) right (none-right (wrong_sort (takes op) left) (wrong_sort (takes op) right) sides) in
       let together = agreed (accepts (takes op) left.sort) (accepts (takes op) right.sort) (agree left.sort right.sort) left_is right_is
-      (not-when different (breaks 9 right.first) (none-right (wrong_sort (takes op) left ++ wrong_sort (takes op) right) differ wrong)) in
+      (not-when different (breaks rule.OperandSort right.first) (none-right (wrong_sort (takes op) left ++ wrong_sort (takes op) right) differ wrong)) in
       let x = operand (takes op) l left scope one left_is in
       let y = operand (takes op) r right scope other right_is in
       let same : agree (expr_sort.Known x.0) (expr_sort.Known y.0) ≡ true =

@@ -39,6 +39,7 @@ use Rattle.pads_rules.specs.Violations.{violations}
 use Rattle.pads_rules.specs.declared.declared.Declared.{Declared}
 use Rattle.pads_rules.specs.declared.expr_sort.ExprSort.{ExprSort}
 use Rattle.pads_rules.specs.declared.expr_sort.ExprSort.TheVariants as expr_sort
+use Rattle.pads_rules.specs.declared.rule.Rule.TheVariants as rule
 use Rattle.law_descriptions.specs.Expressions.{SortScope, sort_in}
 use Rattle.law_descriptions.specs.Sorts as sorts_of
 use Rattle.law_descriptions.specs.WellSorted.{Takes, HaveSorts, IsCall, IsNamed, IsType, param_sorts}
@@ -127,7 +128,7 @@ module _ (tree : Ast) (none : violations tree ≡ []) where
       let m = meaning types t.name.text in
       let plain : is_base is_param_base (unless_popt t.optional m) ≡ true =
       sym (ap (is_base is_param_base) (plain-is types t))
-      ∙ (and_parts (is_base is_param_base (plain_meaning types t)) (is_empty (args_of t)) (not-false (is_bare is_param_base site t) (not-when (not (is_bare is_param_base site t)) (breaks 19 t.name.at) piece.params))).0 in
+      ∙ (and_parts (is_base is_param_base (plain_meaning types t)) (is_empty (args_of t)) (not-false (is_bare is_param_base site t) (not-when (not (is_bare is_param_base site t)) (breaks rule.ParameterType t.name.at) piece.params))).0 in
       by t m plain (named-at tree.decls n t.name.text (param-known site t piece))
     where
       by : (t : «Type») (m : Meaning) → is_base is_param_base (unless_popt t.optional (meaning (take n (env tree none)) t.name.text)) ≡ true → Named tree.decls n t.name.text
@@ -193,8 +194,8 @@ module _ (tree : Ast) (none : violations tree ≡ []) where
         let j = judged_here e names later in
         let number : i + 0 ≡ i = omega arith in
         let param : slice_get (params_in m) i ≡ Some (expr_sort.Known p) = subst (λ i. slice_get (params_in m) i ≡ Some (expr_sort.Known p)) number (params 0 p refl) in
-        let rule = none-left (argument_sort (env tree none) (judging_scope names later) m count (i, arg.Expr e)) (each (argument_sort (env tree none) (judging_scope names later) m count) (enumerate_from (i + 1) written)) sorted in
-        let agreed = not-false (agrees_with (slice_get (params_in m) i) j.sort) (not-when (not (agrees_with (slice_get (params_in m) i) j.sort)) (breaks 8 j.first) rule) in (
+        let kept = none-left (argument_sort (env tree none) (judging_scope names later) m count (i, arg.Expr e)) (each (argument_sort (env tree none) (judging_scope names later) m count) (enumerate_from (i + 1) written)) sorted in
+        let agreed = not-false (agrees_with (slice_get (params_in m) i) j.sort) (not-when (not (agrees_with (slice_get (params_in m) i) j.sort)) (breaks rule.ArgumentSort j.first) kept) in (
           agreed-typed n d e names later w p sees (each-left IsSpelled (names_in_expr e) (flat_map names_in_arg written) spelled) (none-left j.faults (each (argument_faults site (judging_scope names later)) written) free)
               (sym (ap (λ o. agrees_with o j.sort) param) ∙ agreed),
           arguments-typed m count written (i + 1) wanted no_end (λ k q there. subst (λ m'. slice_get (params_in m) m' ≡ Some (expr_sort.Known q)) (one-on i k) (params (suc k) q there)) (omega arith)
@@ -205,8 +206,8 @@ module _ (tree : Ast) (none : violations tree ≡ []) where
         one-on : (i k : ℕ) → i + suc k ≡ i + 1 + k
         one-on i k = omega arith
     arguments-typed m count (arg.Peor at ∷ written) i (p ∷ wanted) no_end params long spelled free sorted =
-        let rule = none-left (when (not (takes_end m && (count == 1))) (breaks 8 at)) (each (argument_sort (env tree none) (judging_scope names later) m count) (enumerate_from (i + 1) written)) sorted in
-        let ends = (and_parts (takes_end m) (count == 1) (not-false (takes_end m && (count == 1)) (not-when (not (takes_end m && (count == 1))) (breaks 8 at) rule))).0 in
+        let kept = none-left (when (not (takes_end m && (count == 1))) (breaks rule.ArgumentSort at)) (each (argument_sort (env tree none) (judging_scope names later) m count) (enumerate_from (i + 1) written)) sorted in
+        let ends = (and_parts (takes_end m) (count == 1) (not-false (takes_end m && (count == 1)) (not-when (not (takes_end m && (count == 1))) (breaks rule.ArgumentSort at) kept))).0 in
         let never : true ≡ false = sym ends ∙ no_end in cc
 
     one-param : (p : Sort) (k : ℕ) (q : Sort) → slice_get (p ∷ []) k ≡ Some q → slice_get (expr_sort.Known p ∷ []) (0 + k) ≡ Some (expr_sort.Known q)
@@ -242,8 +243,8 @@ module _ (tree : Ast) (none : violations tree ≡ []) where
     stop-typed c (arg.Expr e ∷ []) long spelled free sorted =
         let j = judged_here e names later in
         let m = Base (base.Until c) in
-        let rule = none-left (argument_sort (env tree none) (judging_scope names later) m 1 (0, arg.Expr e)) [] sorted in
-        let agreed = not-false (agree rules.text j.sort) (not-when (not (agree rules.text j.sort)) (breaks 8 j.first) rule) in
+        let kept = none-left (argument_sort (env tree none) (judging_scope names later) m 1 (0, arg.Expr e)) [] sorted in
+        let agreed = not-false (agree rules.text j.sort) (not-when (not (agree rules.text j.sort)) (breaks rule.ArgumentSort j.first) kept) in
         (agreed-typed n d e names later w sorts_of.text sees (each-left IsSpelled (names_in_expr e) [] spelled) (none-left j.faults [] free) agreed, tt)
     stop-typed c (a ∷ b ∷ rest) long spelled free sorted = let e = eqb-true (suc (suc (length rest))) 1 long in absurd (omega arith)
 
@@ -290,7 +291,7 @@ module _ (tree : Ast) (none : violations tree ≡ []) where
 
     count-rule : (t : «Type») → UsedHere t → is_count_of (meaning (take n (env tree none)) t.name.text) (length (args_of t)) ≡ true
     count-rule t piece =
-        let ok = is_count_of (meaning (take n (env tree none)) t.name.text) (length (args_of t)) in not-false ok (not-when (not ok) (breaks 7 t.name.at) piece.counts)
+        let ok = is_count_of (meaning (take n (env tree none)) t.name.text) (length (args_of t)) in not-false ok (not-when (not ok) (breaks rule.ArgumentCount t.name.at) piece.counts)
 
     named-typed : slice_get tree.decls n ≡ Some d → IsReadAt tree.decls n d → (t : «Type») → UsedHere t → Spelled (args_of t) → Named tree.decls n t.name.text
         → IsNamed (made tree none) (sorts tree none) n w (made_args (args_of t)) (named_type (take n (env tree none)) t)

@@ -9,7 +9,7 @@ use crate::in_scope::too_many_in_scope;
 use crate::parts::part_count;
 use pads_declared::name_of;
 use pads_piece_rules::Site;
-use pads_rules::{CheckFault, fault_if};
+use pads_rules::{CheckFault, Rule, fault_if};
 use pads_value::Memory;
 use std::alloc::Global;
 
@@ -24,5 +24,9 @@ pub fn too_much(alloc: Global, site: &Site<'_>, names: u64) -> Result<Option<Che
     let late = 4096 <= site.number;
     let parts = 4096 < part_count(body);
     let many = 65000 < names;
-    Ok(fault_if(late || parts || scope || many, 24, name_of(body).at))
+    Ok(fault_if(
+        late || parts || scope || many,
+        Rule::Limit,
+        name_of(body).at,
+    ))
 }

@@ -5,6 +5,7 @@ use Rattle.pads_grammar.specs.Kinds.{Tokens}
 use Rattle.pads_lex.proofs.CutLaws.{one_cut, one_break, no_cut_breaks}
 use Rattle.pads_lex.specs.declared.fault.LexKind.{LexKind}
 use Rattle.pads_rules.specs.declared.fault.CheckFault.{CheckFault}
+use Rattle.pads_rules.specs.declared.rule.Rule.{Rule}
 use Rattle.pads_rules.specs.Faults.{breaks, least}
 use Rattle.pads_rules.specs.Violations.{violations}
 use Rattle.pads_syntax.specs.Trees.{IsTree, IsTreeFault, StandsAt, description}
@@ -38,16 +39,16 @@ one_syntax text token at other place h k =
     let there = subst (λ (ts : Tokens). StandsAt ts other place) same k.place in
     (number, same_place h.tokens token at place h.place (subst (λ n. StandsAt h.tokens n place) (sym number) there))
 
-same_rule : (first : Option CheckFault) (rule at other place : ℕ) → first ≡ Some (breaks rule at) → first ≡ Some (breaks other place) → (rule ≡ other) × (at ≡ place)
-same_rule first rule at other place h k =
+same_rule : (first : Option CheckFault) (rule other : Rule) (at place : ℕ) → first ≡ Some (breaks rule at) → first ≡ Some (breaks other place) → (rule ≡ other) × (at ≡ place)
+same_rule first rule other at place h k =
     let e : Some (breaks rule at) ≡ Some (breaks other place) = sym h ∙ k in
     let same : breaks rule at ≡ breaks other place = cc in
     (ap (λ (f : CheckFault). f.rule) same, ap (λ (f : CheckFault). f.at) same)
 
-one_rule : (text : List ℕ) (rule at other place : ℕ) → IsRule text rule at → IsRule text other place → (rule ≡ other) × (at ≡ place)
-one_rule text rule at other place h k =
+one_rule : (text : List ℕ) (rule other : Rule) (at place : ℕ) → IsRule text rule at → IsRule text other place → (rule ≡ other) × (at ≡ place)
+one_rule text rule other at place h k =
     let same = one_tree text k.tree h.tree k.has_tree h.has_tree in
-    same_rule (least (violations h.tree)) rule at other place h.first (subst (λ (t : Ast). least (violations t) ≡ Some (breaks other place)) same k.first)
+    same_rule (least (violations h.tree)) rule other at place h.first (subst (λ (t : Ast). least (violations t) ≡ Some (breaks other place)) same k.first)
 
 no_tokens_break : (text : List ℕ) (ts : Tokens) (kind : LexKind) (at : ℕ) → HasTokens text ts → IsLexical text kind at → ⊥
 no_tokens_break text ts kind at h k = no_cut_breaks text ts kind at h.cut k.broken
@@ -63,7 +64,7 @@ same_lexical one other at place e f = cc
 same_syntax : (token other at place : ℕ) → token ≡ other → at ≡ place → verdict.Syntax token at ≡ verdict.Syntax other place
 same_syntax token other at place e f = cc
 
-same_violation : (rule other at place : ℕ) → rule ≡ other → at ≡ place → verdict.Rule rule at ≡ verdict.Rule other place
+same_violation : (rule other : Rule) (at place : ℕ) → rule ≡ other → at ≡ place → verdict.Rule rule at ≡ verdict.Rule other place
 same_violation rule other at place e f = cc
 
 pub one_verdict : (text : List ℕ) (one other : Verdict) → IsRefused text one → IsRefused text other → one ≡ other
@@ -85,7 +86,7 @@ one_verdict text (verdict.Rule rule at) verdict.TooLong h k = absurd (omega (ari
 one_verdict text (verdict.Rule rule at) (verdict.Lexical kind place) h k = absurd (no_tokens_break text h.has_tree.tokens kind place h.has_tree.has_tokens k)
 one_verdict text (verdict.Rule rule at) (verdict.Syntax token place) h k = absurd (no_tree_faults text h.tree token place h.has_tree k)
 one_verdict text (verdict.Rule rule at) (verdict.Rule other place) h k =
-    let same = one_rule text rule at other place h k in same_violation rule other at place same.0 same.1
+    let same = one_rule text rule other at place h k in same_violation rule other at place same.0 same.1
 
 nothing_first : (tree : Ast) (fault : CheckFault) → violations tree ≡ [] → least (violations tree) ≡ Some fault → ⊥
 nothing_first tree fault none first = let e : least [] ≡ Some fault = sym (ap least none) ∙ first in cc

@@ -2,6 +2,7 @@
 use Rattle.std.specs.Prelude.{ℕ, List, [], ◌∷◌, ◌++◌, codes, decimal}
 use Rattle.pads_lex.specs.declared.fault.LexKind.{LexKind}
 use Rattle.pads_lex.specs.declared.fault.LexKind.TheVariants as kind
+use Rattle.pads_rules.specs.Rules.{number}
 use Rattle.pads_describe.specs.declared.verdict.Verdict.{Verdict}
 use Rattle.pads_describe.specs.declared.verdict.Verdict.TheVariants as verdict
 
@@ -23,7 +24,7 @@ abbrev pub reason : Verdict → List ℕ
 reason verdict.TooLong = codes "description too long"
 reason (verdict.Lexical kind at) = (codes "description lexical " ++ kind_words kind) ++ with_number (codes " at byte ") at
 reason (verdict.Syntax token at) = with_number (codes "description syntax at token ") token ++ with_number (codes " byte ") at
-reason (verdict.Rule rule at) = with_number (codes "description rule ") rule ++ with_number (codes " at byte ") at
+reason (verdict.Rule rule at) = with_number (codes "description rule ") (number rule) ++ with_number (codes " at byte ") at
 
 -- the last line of a run that refuses a description
 abbrev pub refusal_line : Verdict → List ℕ

@@ -5,6 +5,7 @@ use Rattle.pads_ast.specs.declared.decl.Ast.{Ast}
 use Rattle.pads_grammar.specs.Kinds.{Tokens}
 use Rattle.pads_lex.specs.Cut.{BreaksAt}
 use Rattle.pads_lex.specs.declared.fault.LexKind.{LexKind}
+use Rattle.pads_rules.specs.declared.rule.Rule.{Rule}
 use Rattle.pads_rules.specs.Faults.{breaks, least}
 use Rattle.pads_rules.specs.Violations.{violations}
 use Rattle.pads_syntax.specs.Trees.{IsTreeFault, StandsAt}
@@ -25,7 +26,7 @@ pub record IsSyntax (text : List ℕ) (token at : ℕ) : Type 0 where
   pub place : StandsAt tokens token at
 
 -- Its tree breaks that rule there, and that is the violation told first.
-pub record IsRule (text : List ℕ) (rule at : ℕ) : Type 0 where
+pub record IsRule (text : List ℕ) (rule : Rule) (at : ℕ) : Type 0 where
   pub tree : Ast
   pub has_tree : HasTree text tree
   pub first : least (violations tree) ≡ Some (breaks rule at)

@@ -23,7 +23,7 @@ fn accepted(alloc: Global, tree: &Ast) -> Result<Checked, Memory>
     Ok(Checked { description })
 }
 
-/// The resolved tree of a description that keeps every rule, or the first violation by place, then by rule.
+/// The resolved tree of a description that keeps every rule, or the first violation by place, then by the rule's number.
 pub fn check(alloc: Global, tree: &Ast) -> Result<Checked, Refusal<CheckFault>>
     ensures accepted { IfOk result (λ checked. Accepts tree.now checked.description) }
     ensures refused { OnFault result (λ fault. least (violations tree.now) ≡ Some fault) }

@@ -1,6 +1,7 @@
 //! Why a description is refused.
 
 use pads_lex::LexKind;
+use pads_rules::Rule;
 
 /// Why a description isn't accepted. Places are bytes of the description, from 0.
 #[derive(Clone, Copy, Debug, PartialEq, Eq)]
@@ -12,5 +13,5 @@ pub enum Verdict {
     /// Its tokens derive no tree: the token of that number, from 0, is the first with which no tree goes on.
     Syntax { token: u64, at: u64 },
     /// Its tree breaks that rule there, and none before.
-    Rule { rule: u8, at: u64 },
+    Rule { rule: Rule, at: u64 },
 }

@@ -77,7 +77,7 @@ fn put_reason(line: &mut Line, verdict: Verdict)
             put_place(line, b" byte ", at);
         }
         Verdict::Rule { rule, at } => {
-            put_place(line, b"description rule ", u64::from(rule));
+            put_place(line, b"description rule ", u64::from(rule.number()));
             put_place(line, b" at byte ", at);
         }
     }

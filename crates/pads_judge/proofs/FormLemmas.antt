@@ -14,6 +14,7 @@ use Rattle.pads_rules.specs.declared.declared.Declared.{Declared}
 use Rattle.pads_rules.specs.declared.expr_sort.ExprSort.{ExprSort}
 use Rattle.pads_rules.specs.declared.expr_sort.ExprSort.TheVariants as expr_sort
 use Rattle.pads_rules.specs.declared.fault.CheckFault.{CheckFault}
+use Rattle.pads_rules.specs.declared.rule.Rule.TheVariants as rule
 use Rattle.pads_rules.specs.Faults.{breaks, when, is_before, lesser, least}
 use Rattle.pads_rules.specs.Judging as judging
 use Rattle.pads_rules.specs.Judging.{Scope, Judged, judged, judge_form, judgement, too_high, hiding, place_of}
@@ -52,7 +53,7 @@ unless-least (x ∷ xs) sort = one-fault x sort (least xs)
 
 least-high : (first h : ℕ) (faults : List CheckFault) → least (faults ++ too_high first h) ≡ lesser (least faults) (least (too_high first (capped h)))
 least-high first h faults =
-    least-append faults (too_high first h) ∙ ap (λ t. lesser (least faults) (least (when t (breaks 24 first)))) (high-capped h)
+    least-append faults (too_high first h) ∙ ap (λ t. lesser (least faults) (least (when t (breaks rule.Limit first)))) (high-capped h)
 
 with_all : (first h : ℕ) (sort : ExprSort) (all : List CheckFault) (fault : Option CheckFault) → least all ≡ fault →
     (let there : Judgement = record { first = first; height = capped h; sort = unless_broken all sort; fault = least all } in there)

@@ -13,6 +13,7 @@ use Rattle.pads_rules.specs.declared.declared.Declared.{Declared}
 use Rattle.pads_rules.specs.declared.expr_sort.ExprSort.{ExprSort}
 use Rattle.pads_rules.specs.declared.expr_sort.ExprSort.TheVariants as expr_sort
 use Rattle.pads_rules.specs.declared.fault.CheckFault.{CheckFault}
+use Rattle.pads_rules.specs.declared.rule.Rule.TheVariants as rule
 use Rattle.pads_rules.specs.Faults.{breaks, when, lesser, least}
 use Rattle.pads_rules.specs.Judging.{Scope, Judged, judged, too_high, takes, result_of, unary_takes, unary_gives, is_text_or_array}
 use Rattle.pads_rules.specs.Members.{member, element, may_choose, has_choice}
@@ -44,17 +45,17 @@ settle first height sort fault = with_fault first height sort (lesser fault (lea
 
 -- An operand of a wrong sort, a condition that isn't a truth value.
 abbrev pub wrong : (Form → Bool) → Judgement → Option CheckFault
-wrong takes j = least (when (not (accepts takes j.sort)) (breaks 9 j.first))
+wrong takes j = least (when (not (accepts takes j.sort)) (breaks rule.OperandSort j.first))
 
 abbrev pub untrue : Judgement → Option CheckFault
-untrue j = least (when (not (accepts is_truth_form j.sort)) (breaks 10 j.first))
+untrue j = least (when (not (accepts is_truth_form j.sort)) (breaks rule.ConditionSort j.first))
 
 abbrev pub leaf : ℕ → ExprSort → Judgement
 leaf at sort = settle at 1 sort None
 
 abbrev pub variable_found : Scope → Name → Option ExprSort → Judgement
 variable_found scope name (Some sort) = leaf name.at sort
-variable_found scope name None = settle name.at 1 expr_sort.Unknown (Some (breaks (if is_among scope.later name.text then 6 else 5) name.at))
+variable_found scope name None = settle name.at 1 expr_sort.Unknown (Some (breaks (if is_among scope.later name.text then rule.LaterField else rule.UnknownName) name.at))
 
 unfoldable pub variable : Scope → Name → Judgement
 variable scope name = variable_found scope name (sort_of scope.visible name.text)
@@ -62,7 +63,7 @@ variable scope name = variable_found scope name (sort_of scope.visible name.text
 abbrev pub wrong_operands : (Form → Bool) → Judgement → Judgement → Option CheckFault
 wrong_operands takes left right =
     lesser (lesser (wrong takes left) (wrong takes right))
-    (least (when (accepts takes left.sort && accepts takes right.sort && not (agree left.sort right.sort)) (breaks 9 right.first)))
+    (least (when (accepts takes left.sort && accepts takes right.sort && not (agree left.sort right.sort)) (breaks rule.OperandSort right.first)))
 
 unfoldable pub binary : BinOp → Judgement → Judgement → Judgement
 binary operator left right =
@@ -75,7 +76,7 @@ unary operator at operand =
 
 abbrev pub member_found : Judgement → Name → Option ExprSort → Judgement
 member_found whole name (Some sort) = settle whole.first (above whole.height) sort whole.fault
-member_found whole name None = settle whole.first (above whole.height) expr_sort.Unknown (lesser whole.fault (Some (breaks 16 name.at)))
+member_found whole name None = settle whole.first (above whole.height) expr_sort.Unknown (lesser whole.fault (Some (breaks rule.UnknownMember name.at)))
 
 unfoldable pub member_of : List Declared → Judgement → Name → Judgement
 member_of env whole name = member_found whole name (member env whole.sort name.text)
@@ -90,8 +91,8 @@ parenthesized at inner = settle at inner.height inner.sort inner.fault
 
 abbrev pub no_choice : List Declared → Judgement → Name → Option CheckFault
 no_choice env value name =
-    lesser (least (when (not (may_choose value.sort)) (breaks 17 value.first)))
-    (least (when (may_choose value.sort && not (has_choice env value.sort name.text)) (breaks 17 name.at)))
+    lesser (least (when (not (may_choose value.sort)) (breaks rule.UnknownChoice value.first)))
+    (least (when (may_choose value.sort && not (has_choice env value.sort name.text)) (breaks rule.UnknownChoice name.at)))
 
 unfoldable pub pis : List Declared → ℕ → Judgement → Name → Judgement
 pis env at value name = settle at (above value.height) truth (lesser value.fault (no_choice env value name))

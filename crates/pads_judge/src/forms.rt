@@ -14,7 +14,7 @@ use crate::{Judgement, Scope};
 use pads_ast::{Name, UnaryOperator, Word};
 use pads_declared::{TypeTable, element, has_choice, may_choose, member};
 use pads_expr::BinOp;
-use pads_rules::{CheckFault, ExprSort, Form, fault_if, lesser, result_of, unary_gives};
+use pads_rules::{CheckFault, ExprSort, Form, Rule, fault_if, lesser, result_of, unary_gives};
 
 /// Whether a sort may be a number or a text.
 fn is_ordered(sort: ExprSort) -> bool
@@ -83,12 +83,16 @@ fn wrong_operands(operator: BinOp, left: Judgement, right: Judgement) -> Option<
     let takes_right = takes(operator, right.sort);
     let agree = left.sort.agrees(right.sort);
     let alone = lesser(
-        fault_if(!takes_left, 9, left.first),
-        fault_if(!takes_right, 9, right.first),
+        fault_if(!takes_left, Rule::OperandSort, left.first),
+        fault_if(!takes_right, Rule::OperandSort, right.first),
     );
     lesser(
         alone,
-        fault_if(takes_left && takes_right && !agree, 9, right.first),
+        fault_if(
+            takes_left && takes_right && !agree,
+            Rule::OperandSort,
+            right.first,
+        ),
     )
 }
 
@@ -117,7 +121,11 @@ fn takes_unary(operator: UnaryOperator, sort: ExprSort) -> bool
 pub(crate) fn unary(operator: UnaryOperator, at: u64, operand: Judgement) -> Judgement
     ensures form { result ≡ judgements.unary operator at operand }
 {
-    let wrong = fault_if(!takes_unary(operator, operand.sort), 9, operand.first);
+    let wrong = fault_if(
+        !takes_unary(operator, operand.sort),
+        Rule::OperandSort,
+        operand.first,
+    );
     settled(
         at,
         above(operand.height),
@@ -136,7 +144,7 @@ pub(crate) fn member_of(env: &TypeTable, whole: Judgement, name: &Name) -> Judge
         None => {
             let fault = CheckFault {
                 at: name.at,
-                rule: 16,
+                rule: Rule::UnknownMember,
             };
             settled(
                 whole.first,
@@ -152,8 +160,8 @@ pub(crate) fn member_of(env: &TypeTable, whole: Judgement, name: &Name) -> Judge
 pub(crate) fn indexed(env: &TypeTable, whole: Judgement, index: Judgement) -> Judgement
     ensures form { result ≡ judgements.indexed env.now whole index }
 {
-    let wrong_whole = fault_if(!is_array(whole.sort), 9, whole.first);
-    let wrong_index = fault_if(!index.sort.is_num(), 9, index.first);
+    let wrong_whole = fault_if(!is_array(whole.sort), Rule::OperandSort, whole.first);
+    let wrong_index = fault_if(!index.sort.is_num(), Rule::OperandSort, index.first);
     let fault = lesser(
         lesser(lesser(whole.fault, index.fault), wrong_whole),
         wrong_index,
@@ -176,8 +184,8 @@ fn no_choice(env: &TypeTable, value: Judgement, name: &Name) -> Option<CheckFaul
     let may = may_choose(value.sort);
     let has = has_choice(env, value.sort, name.text.as_slice());
     lesser(
-        fault_if(!may, 17, value.first),
-        fault_if(may && !has, 17, name.at),
+        fault_if(!may, Rule::UnknownChoice, value.first),
+        fault_if(may && !has, Rule::UnknownChoice, name.at),
     )
 }
 
@@ -193,7 +201,7 @@ pub(crate) fn pis(env: &TypeTable, at: u64, value: Judgement, name: &Name) -> Ju
 pub(crate) fn plen(at: u64, value: Judgement) -> Judgement
     ensures form { result ≡ judgements.plen at value }
 {
-    let wrong = fault_if(!has_length(value.sort), 9, value.first);
+    let wrong = fault_if(!has_length(value.sort), Rule::OperandSort, value.first);
     settled(
         at,
         above(value.height),
@@ -207,9 +215,9 @@ fn wrong_range(low: Judgement, high: Judgement, body: Judgement) -> Option<Check
     ensures wrong { result ≡ judgements.wrong_range low high body }
 {
     let parts = lesser(lesser(low.fault, high.fault), body.fault);
-    let wrong_low = fault_if(!low.sort.is_num(), 9, low.first);
-    let wrong_high = fault_if(!high.sort.is_num(), 9, high.first);
-    let untrue = fault_if(!body.sort.is_truth(), 10, body.first);
+    let wrong_low = fault_if(!low.sort.is_num(), Rule::OperandSort, low.first);
+    let wrong_high = fault_if(!high.sort.is_num(), Rule::OperandSort, high.first);
+    let untrue = fault_if(!body.sort.is_truth(), Rule::ConditionSort, body.first);
     lesser(lesser(lesser(parts, wrong_low), wrong_high), untrue)
 }
 
@@ -240,9 +248,9 @@ pub(crate) fn variable(scope: &Scope<'_, '_>, name: &Name) -> Judgement
         Some(sort) => leaf(name.at, sort),
         None => {
             let rule = if is_later(scope, name.text.as_slice()) {
-                6
+                Rule::LaterField
             } else {
-                5
+                Rule::UnknownName
             };
             let fault = CheckFault { at: name.at, rule };
             settled(name.at, 1, ExprSort::Unknown, Some(fault))

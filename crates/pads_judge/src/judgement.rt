@@ -2,7 +2,7 @@ ghost use Rattle.std.specs.Prelude.{◌≡◌, None};
 ghost use Rattle.pads_judge.specs.Judgements as judgements;
 ghost use Rattle.pads_judge.specs.Judgements.{settle};
 
-use pads_rules::{CheckFault, ExprSort, fault_if, lesser};
+use pads_rules::{CheckFault, ExprSort, Rule, fault_if, lesser};
 
 /// What is known of an expression.
 #[derive(Clone, Copy, Debug, PartialEq, Eq)]
@@ -34,7 +34,7 @@ pub(crate) fn settled(
 ) -> Judgement
     ensures settled { result ≡ settle first height sort fault }
 {
-    let fault = lesser(fault, fault_if(256 < height, 24, first));
+    let fault = lesser(fault, fault_if(256 < height, Rule::Limit, first));
     match fault {
         None => Judgement {
             first,

@@ -5,6 +5,7 @@ use Rattle.pads_base_names.specs.Names.{base_name}
 use Rattle.pads_base_names.specs.declared.meaning.BaseName.{BaseName}
 use Rattle.pads_rules.specs.declared.declared.Declared.{Declared}
 use Rattle.pads_rules.specs.declared.fault.CheckFault.{CheckFault}
+use Rattle.pads_rules.specs.declared.rule.Rule.TheVariants as rule
 use Rattle.pads_rules.specs.Faults.{breaks, when, lesser, least}
 use Rattle.pads_rules.specs.PieceRules.{meaning_at, is_undeclared, comes_later}
 use Rattle.pads_rules.specs.Pieces.{Site, earlier}
@@ -34,17 +35,17 @@ declared-later site t is =
 
 -- what is told of a name that means nothing, by whether it is declared at all
 told-by : ℕ → Bool → Bool → Option CheckFault
-told-by at nothing later = lesser (least (when (nothing && not later) (breaks 2 at))) (least (when (nothing && later) (breaks 3 at)))
+told-by at nothing later = lesser (least (when (nothing && not later) (breaks rule.UnknownType at))) (least (when (nothing && later) (breaks rule.LaterType at)))
 
 told-both : (site : Site) (t : «Type») (declared : Bool) → is_undeclared (meaning_at site t) ≡ true → declared ≡ is_some (declared_as site.env t.name.text) → told-by t.name.at true declared ≡ name_told site t
 unfolding name_told told-by
 told-both site t declared nothing is =
     ap (told-by t.name.at true) (is ∙ declared-later site t nothing) ∙ ap (λ b. told-by t.name.at b (comes_later site t)) (sym nothing)
 
-pub told-later : (site : Site) (t : «Type») → is_undeclared (meaning_at site t) ≡ true → true ≡ is_some (declared_as site.env t.name.text) → Some (breaks 3 t.name.at) ≡ name_told site t
+pub told-later : (site : Site) (t : «Type») → is_undeclared (meaning_at site t) ≡ true → true ≡ is_some (declared_as site.env t.name.text) → Some (breaks rule.LaterType t.name.at) ≡ name_told site t
 unfolding told-by lesser
 told-later site t nothing is = told-both site t true nothing is
 
-pub told-unknown : (site : Site) (t : «Type») → is_undeclared (meaning_at site t) ≡ true → false ≡ is_some (declared_as site.env t.name.text) → Some (breaks 2 t.name.at) ≡ name_told site t
+pub told-unknown : (site : Site) (t : «Type») → is_undeclared (meaning_at site t) ≡ true → false ≡ is_some (declared_as site.env t.name.text) → Some (breaks rule.UnknownType t.name.at) ≡ name_told site t
 unfolding told-by lesser
 told-unknown site t nothing is = told-both site t false nothing is

@@ -10,6 +10,7 @@ use Rattle.pads_ast.specs.declared.types.Arg.{Arg}
 use Rattle.pads_ast.specs.declared.types.Const.{Const}
 use Rattle.pads_ast.specs.declared.types.Type.{«Type»}
 use Rattle.pads_rules.specs.declared.fault.CheckFault.{CheckFault}
+use Rattle.pads_rules.specs.declared.rule.Rule.TheVariants as rule
 use Rattle.pads_rules.specs.Faults.{breaks, when, each, lesser, least}
 use Rattle.pads_rules.specs.Judging.{Scope, judged}
 use Rattle.pads_rules.specs.PieceRules.{meaning_at, argument_sort, argument_faults, is_num_or_text, is_bare, is_computable_base, is_param_base}
@@ -47,33 +48,33 @@ told-Used site scope t =
     (used-order _ _ _ _ _ ∙ ap (λ a. lesser (lesser (lesser (name_told site t) a) (count_told site t)) (record_told site t)) (at-arguments site scope t))
 
 pub told-OfParam : (site : Site) (t : «Type») →
-    piece_told site (OfParam t) ≡ lesser (lesser (name_told site t) (least (when (not (is_bare is_param_base site t)) (breaks 19 t.name.at)))) (record_told site t)
+    piece_told site (OfParam t) ≡ lesser (lesser (name_told site t) (least (when (not (is_bare is_param_base site t)) (breaks rule.ParameterType t.name.at)))) (record_told site t)
 unfolding piece_told name_told record_told
 told-OfParam site t = simp (least-append, lesser-none, none-lesser) refl
 
 pub told-Computed : (site : Site) (scope : Scope) (t : «Type») (value : Expr) →
     piece_told site (Computed scope t value)
     ≡ lesser (lesser (lesser (name_told site t) (least (judged site.env value scope).faults))
-    (least (when (not (is_bare is_computable_base site t) || not (agree (type_sort (earlier site) t) (judged site.env value scope).sort)) (breaks 18 t.name.at)))) (record_told site t)
+    (least (when (not (is_bare is_computable_base site t) || not (agree (type_sort (earlier site) t) (judged site.env value scope).sort)) (breaks rule.ComputedType t.name.at)))) (record_told site t)
 unfolding piece_told name_told record_told
 told-Computed site scope t value = simp (least-append, lesser-none, none-lesser) refl
 
 pub told-Condition : (site : Site) (scope : Scope) (e : Expr) →
     piece_told site (Condition scope e)
-    ≡ lesser (least (judged site.env e scope).faults) (least (when (not (accepts is_truth_form (judged site.env e scope).sort)) (breaks 10 (judged site.env e scope).first)))
+    ≡ lesser (least (judged site.env e scope).faults) (least (when (not (accepts is_truth_form (judged site.env e scope).sort)) (breaks rule.ConditionSort (judged site.env e scope).first)))
 unfolding piece_told
 told-Condition site scope e = simp (least-append, lesser-none, none-lesser) refl
 
 pub told-Size : (site : Site) (scope : Scope) (e : Expr) →
     piece_told site (Size scope e)
-    ≡ lesser (least (judged site.env e scope).faults) (least (when (not (accepts is_num_form (judged site.env e scope).sort)) (breaks 9 (judged site.env e scope).first)))
+    ≡ lesser (least (judged site.env e scope).faults) (least (when (not (accepts is_num_form (judged site.env e scope).sort)) (breaks rule.OperandSort (judged site.env e scope).first)))
 unfolding piece_told
 told-Size site scope e = simp (least-append, lesser-none, none-lesser) refl
 
 pub told-Choice : (site : Site) (scope : Scope) (e : Expr) (constants : List Const) →
     piece_told site (Choice scope e constants)
     ≡ lesser (lesser (least (judged site.env e scope).faults)
-    (lesser (least (when (not (accepts is_num_or_text (judged site.env e scope).sort)) (breaks 12 (judged site.env e scope).first))) (keys_told (judged site.env e scope).sort constants)))
+    (lesser (least (when (not (accepts is_num_or_text (judged site.env e scope).sort)) (breaks rule.CaseSort (judged site.env e scope).first))) (keys_told (judged site.env e scope).sort constants)))
     (again_told constants)
 unfolding piece_told keys_told again_told
 told-Choice site scope e constants = simp (least-append, lesser-none, none-lesser) refl

@@ -10,6 +10,7 @@ use Rattle.pads_ast.specs.declared.types.Type.{«Type»}
 use Rattle.pads_rules.specs.declared.declared.Declared.{Declared}
 use Rattle.pads_rules.specs.declared.expr_sort.ExprSort.{ExprSort}
 use Rattle.pads_rules.specs.declared.fault.CheckFault.{CheckFault}
+use Rattle.pads_rules.specs.declared.rule.Rule.TheVariants as rule
 use Rattle.pads_rules.specs.Faults.{breaks, when, each, again, lesser, least}
 use Rattle.pads_rules.specs.Judging.{Scope, judged, place_of}
 use Rattle.pads_rules.specs.PieceRules.{unknown_type, later_type, is_count_of, meaning_at, argument_sort, argument_faults, agrees_with, params_in, record_type_named, const_sort, const_place, same_const}
@@ -38,7 +39,7 @@ name_told site t = lesser (least (unknown_type site (OfParam t))) (least (later_
 
 -- Rule 7 at a type's name.
 unfoldable pub count_told : pieces.Site → «Type» → Option CheckFault
-count_told site t = least (when (not (is_count_of (meaning_at site t) (length (args_of t)))) (breaks 7 t.name.at))
+count_told site t = least (when (not (is_count_of (meaning_at site t) (length (args_of t)))) (breaks rule.ArgumentCount t.name.at))
 
 -- Rule 20 at a type's name.
 unfoldable pub record_told : pieces.Site → «Type» → Option CheckFault
@@ -48,7 +49,7 @@ record_told site t = least (record_type_named site (OfParam t))
 abbrev pub expression_told : List Declared → Scope → Meaning → ℕ → Expr → Option CheckFault
 expression_told env scope m number e =
     lesser (least (judged env e scope).faults)
-    (least (when (not (agrees_with (slice_get (params_in m) number) (judged env e scope).sort)) (breaks 8 (judged env e scope).first)))
+    (least (when (not (agrees_with (slice_get (params_in m) number) (judged env e scope).sort)) (breaks rule.ArgumentSort (judged env e scope).first)))
 
 -- The rules at one of so many arguments, by its number.
 abbrev pub at_argument : pieces.Site → Scope → Meaning → ℕ → ℕ × Arg → List CheckFault
@@ -62,15 +63,15 @@ arguments_told site scope t = least (each (at_argument site scope (meaning_at si
 
 -- Rule 12 at a constant.
 abbrev pub at_key : ExprSort → Const → List CheckFault
-at_key sort key = when (not (agree sort (const_sort key))) (breaks 12 (const_place key))
+at_key sort key = when (not (agree sort (const_sort key))) (breaks rule.CaseSort (const_place key))
 
 unfoldable pub keys_told : ExprSort → List Const → Option CheckFault
 keys_told sort keys = least (each (at_key sort) keys)
 
 -- Rule 13.
 unfoldable pub again_told : List Const → Option CheckFault
-again_told keys = least (again same_const (λ key. breaks 13 (const_place key)) [] keys)
+again_told keys = least (again same_const (λ key. breaks rule.CaseAgain (const_place key)) [] keys)
 
 -- Rule 14.
 unfoldable pub spelled_told : Word → Option CheckFault
-spelled_told word = least (when (is_empty (points_of word)) (breaks 14 (place_of word)))
+spelled_told word = least (when (is_empty (points_of word)) (breaks rule.EmptyLiteral (place_of word)))

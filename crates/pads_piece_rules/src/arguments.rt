@@ -11,7 +11,7 @@ use crate::site::meaning_at;
 use pads_ast::{Arg, Expr, Type};
 use pads_declared::Meaning;
 use pads_judge::{Scope, judge};
-use pads_rules::{CheckFault, fault_if, lesser};
+use pads_rules::{CheckFault, Rule, fault_if, lesser};
 
 /// An expression as an argument of a number.
 fn expression(
@@ -25,7 +25,10 @@ fn expression(
 {
     let judgement = judge(site.env, e, scope);
     let agrees = agrees_with(param_sort(meaning, number), judgement.sort);
-    lesser(judgement.fault, fault_if(!agrees, 8, judgement.first))
+    lesser(
+        judgement.fault,
+        fault_if(!agrees, Rule::ArgumentSort, judgement.first),
+    )
 }
 
 /// One of so many arguments, by its number.
@@ -44,7 +47,7 @@ fn argument(
         Arg::Expr(e) => expression(site, scope, meaning, number, e),
         Arg::Peor { at } => {
             let end = takes_end(meaning);
-            fault_if(!(end && count == 1), 8, *at)
+            fault_if(!(end && count == 1), Rule::ArgumentSort, *at)
         }
     }
 }

@@ -8,7 +8,7 @@ ghost use Rattle.pads_piece_rules.specs.Told.{keys_of, keys_told, again_told};
 
 use crate::const_set::ConstSet;
 use pads_ast::{Case, Const, Number, Word};
-use pads_rules::{CheckFault, ExprSort, Form, fault_if, lesser};
+use pads_rules::{CheckFault, ExprSort, Form, Rule, fault_if, lesser};
 use pads_value::Memory;
 use std::alloc::Global;
 
@@ -55,7 +55,10 @@ pub(crate) fn keys(sort: ExprSort, cases: &[Case]) -> Option<CheckFault>
     let mut best = None;
     for case in cases {
         let agrees = sort.agrees(const_sort(&case.key));
-        best = lesser(best, fault_if(!agrees, 12, const_place(&case.key)));
+        best = lesser(
+            best,
+            fault_if(!agrees, Rule::CaseSort, const_place(&case.key)),
+        );
     }
     best
 }
@@ -69,7 +72,10 @@ pub(crate) fn keys_again(alloc: Global, cases: &[Case]) -> Result<Option<CheckFa
     let mut best = None;
     for case in cases {
         let again = met.add(&case.key)?;
-        best = lesser(best, fault_if(again, 13, const_place(&case.key)));
+        best = lesser(
+            best,
+            fault_if(again, Rule::CaseAgain, const_place(&case.key)),
+        );
     }
     Ok(best)
 }

@@ -17,7 +17,7 @@ use crate::typed::{argument_count, record_name, type_name};
 use pads_ast::{Case, Expr, Type, Word};
 use pads_declared::type_sort;
 use pads_judge::{Scope, judge};
-use pads_rules::{CheckFault, ExprSort, Form, fault_if, lesser};
+use pads_rules::{CheckFault, ExprSort, Form, Rule, fault_if, lesser};
 use pads_value::Memory;
 use std::alloc::Global;
 
@@ -39,7 +39,7 @@ pub fn of_param(site: &Site<'_>, of: &Type) -> Option<CheckFault>
     ensures told { result ≡ piece_told (stands site.now) (pieces.OfParam of.now) }
 {
     let fits = is_param(site, of);
-    let wrong = fault_if(!fits, 19, of.name.at);
+    let wrong = fault_if(!fits, Rule::ParameterType, of.name.at);
     lesser(lesser(type_name(site, of), wrong), record_name(site, of))
 }
 
@@ -56,7 +56,7 @@ pub fn computed(
     let judgement = judge(site.env, value, scope);
     let computable = is_computable(site, of);
     let agrees = type_sort(&earlier(site), of).agrees(judgement.sort);
-    let wrong = fault_if(!computable || !agrees, 18, of.name.at);
+    let wrong = fault_if(!computable || !agrees, Rule::ComputedType, of.name.at);
     let named = lesser(type_name(site, of), judgement.fault);
     lesser(lesser(named, wrong), record_name(site, of))
 }
@@ -69,7 +69,11 @@ pub fn condition(site: &Site<'_>, scope: &Scope<'_, '_>, e: &Expr) -> Option<Che
     let judgement = judge(site.env, e, scope);
     lesser(
         judgement.fault,
-        fault_if(!judgement.sort.is_truth(), 10, judgement.first),
+        fault_if(
+            !judgement.sort.is_truth(),
+            Rule::ConditionSort,
+            judgement.first,
+        ),
     )
 }
 
@@ -81,7 +85,7 @@ pub fn size(site: &Site<'_>, scope: &Scope<'_, '_>, e: &Expr) -> Option<CheckFau
     let judgement = judge(site.env, e, scope);
     lesser(
         judgement.fault,
-        fault_if(!judgement.sort.is_num(), 9, judgement.first),
+        fault_if(!judgement.sort.is_num(), Rule::OperandSort, judgement.first),
     )
 }
 
@@ -108,7 +112,11 @@ pub fn choice(
     ensures told { IfOk result (λ fault. fault ≡ piece_told (stands site.now) (pieces.Choice (names_in_scope scope.now) e.now (keys_of cases.now))) }
 {
     let judgement = judge(site.env, e, scope);
-    let wrong = fault_if(!is_num_or_text(judgement.sort), 12, judgement.first);
+    let wrong = fault_if(
+        !is_num_or_text(judgement.sort),
+        Rule::CaseSort,
+        judgement.first,
+    );
     let sorts = lesser(wrong, keys(judgement.sort, cases));
     let again = keys_again(alloc, cases)?;
     Ok(lesser(lesser(judgement.fault, sorts), again))
@@ -128,5 +136,5 @@ fn is_empty(word: &Word) -> bool
 pub fn spelled(word: &Word) -> Option<CheckFault>
     ensures told { result ≡ spelled_told word.now }
 {
-    fault_if(is_empty(word), 14, place_of(word))
+    fault_if(is_empty(word), Rule::EmptyLiteral, place_of(word))
 }

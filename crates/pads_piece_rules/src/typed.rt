@@ -9,7 +9,7 @@ use crate::shapes::is_source_shape;
 use crate::site::{is_declared, meaning_at};
 use pads_ast::Type;
 use pads_declared::{is_precord_type, is_record_list_type};
-use pads_rules::{CheckFault, fault_if};
+use pads_rules::{CheckFault, Rule, fault_if};
 
 /// A name that means nothing where it stands: that of this or a later declaration, or none's.
 #[tactic(auto, unfolding(crate::specs::Told::name_told, pads_rules::specs::Faults::lesser))]
@@ -19,7 +19,11 @@ pub(crate) fn type_name(site: &Site<'_>, of: &Type) -> Option<CheckFault>
     if !is_undeclared(meaning_at(site, of)) {
         return None;
     }
-    let rule = if is_declared(site, of) { 3 } else { 2 };
+    let rule = if is_declared(site, of) {
+        Rule::LaterType
+    } else {
+        Rule::UnknownType
+    };
     Some(CheckFault {
         at: of.name.at,
         rule,
@@ -32,7 +36,7 @@ pub(crate) fn argument_count(site: &Site<'_>, of: &Type) -> Option<CheckFault>
     ensures told { result ≡ count_told (stands site.now) of.now }
 {
     let fits = is_count_of(meaning_at(site, of), args_of(of).len());
-    fault_if(!fits, 7, of.name.at)
+    fault_if(!fits, Rule::ArgumentCount, of.name.at)
 }
 
 /// A record type or a record list named outside a source shape.
@@ -46,5 +50,5 @@ pub(crate) fn record_name(site: &Site<'_>, of: &Type) -> Option<CheckFault>
     if !record && !list {
         return None;
     }
-    fault_if(!is_source_shape(site), 20, of.name.at)
+    fault_if(!is_source_shape(site), Rule::RecordTypeNamed, of.name.at)
 }

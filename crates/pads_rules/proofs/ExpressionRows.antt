@@ -18,7 +18,9 @@ use Rattle.pads_ast.specs.declared.types.Type.{«Type»}
 use Rattle.pads_base_names.specs.Names.{base_name, kind_of, field_of, behind}
 use Rattle.pads_value.specs.Words.{is_word}
 use Rattle.pads_rules.specs.declared.fault.CheckFault.{CheckFault}
+use Rattle.pads_rules.specs.declared.rule.Rule.TheVariants as rule
 use Rattle.pads_rules.specs.Faults.{breaks, lesser, least}
+use Rattle.pads_rules.specs.Rules.{number}
 use Rattle.pads_rules.specs.Resolving.{meaning, declared}
 use Rattle.pads_rules.specs.Texts.{same_text}
 use Rattle.pads_rules.specs.Violations.{violations}
@@ -51,41 +53,41 @@ abbrev told : List Decl → Option CheckFault
 told decls = least (violations (record { decls = decls; end = 99 }))
 
 -- Precord Pstruct r { Puint8 a : b; };
-rule_5 : told (constrained (expr.Name (name (codes "b") 31))) ≡ Some (breaks 5 31)
-unfolding violations lesser declared meaning same_text base_name kind_of field_of is_word behind
+rule_5 : told (constrained (expr.Name (name (codes "b") 31))) ≡ Some (breaks rule.UnknownName 31)
+unfolding violations lesser number declared meaning same_text base_name kind_of field_of is_word behind
 rule_5 = simp on_names refl
 
 -- Precord Pstruct r { }; Parray a { Puint8[true]; };
-rule_9 : told (beside (decl.Array (record { name = name (codes "a") 30; params = None; of = bare (codes "Puint8") 34; size = Some (expr.Truth true 41); options = []; condition = None }))) ≡ Some (breaks 9 41)
-unfolding violations lesser declared meaning same_text base_name kind_of field_of is_word behind
+rule_9 : told (beside (decl.Array (record { name = name (codes "a") 30; params = None; of = bare (codes "Puint8") 34; size = Some (expr.Truth true 41); options = []; condition = None }))) ≡ Some (breaks rule.OperandSort 41)
+unfolding violations lesser number declared meaning same_text base_name kind_of field_of is_word behind
 rule_9 = simp small refl
 
 -- Precord Pstruct r { }; Ptypedef Puint8 t : u x => { true };
-rule_11 : told (beside (decl.Typedef (record { of = bare (codes "Puint8") 32; name = name (codes "t") 39; params = None; constraint = Some (record { name = name (codes "u") 43; variable = name (codes "x") 45; condition = expr.Truth true 52 }) }))) ≡ Some (breaks 11 43)
-unfolding violations lesser declared meaning same_text base_name kind_of field_of is_word behind
+rule_11 : told (beside (decl.Typedef (record { of = bare (codes "Puint8") 32; name = name (codes "t") 39; params = None; constraint = Some (record { name = name (codes "u") 43; variable = name (codes "x") 45; condition = expr.Truth true 52 }) }))) ≡ Some (breaks rule.OtherName 43)
+unfolding violations lesser number declared meaning same_text base_name kind_of field_of is_word behind
 rule_11 = simp small refl
 
 -- Precord Pstruct r { }; Punion u { Pswitch (true) { } };
-rule_12 : told (beside (decl.Union (record { name = name (codes "u") 30; params = None; body = union.Switch (record { value = expr.Truth true 43; cases = []; default = None }) }))) ≡ Some (breaks 12 43)
-unfolding violations lesser declared meaning same_text base_name kind_of field_of is_word behind
+rule_12 : told (beside (decl.Union (record { name = name (codes "u") 30; params = None; body = union.Switch (record { value = expr.Truth true 43; cases = []; default = None }) }))) ≡ Some (breaks rule.CaseSort 43)
+unfolding violations lesser number declared meaning same_text base_name kind_of field_of is_word behind
 rule_12 = simp small refl
 
 -- Precord Pstruct r { }; Punion u { Pswitch (1) { Pcase 1: Puint8 a; Pcase 0x1: Puint8 b; } };
-rule_13 : told (beside (decl.Union (record { name = name (codes "u") 30; params = None; body = union.Switch (record { value = expr.Number 1 43; cases = case_of 1 54 (codes "a") 57 64 ∷ case_of 1 73 (codes "b") 78 85 ∷ []; default = None }) }))) ≡ Some (breaks 13 73)
-unfolding violations lesser declared meaning same_text base_name kind_of field_of is_word behind
+rule_13 : told (beside (decl.Union (record { name = name (codes "u") 30; params = None; body = union.Switch (record { value = expr.Number 1 43; cases = case_of 1 54 (codes "a") 57 64 ∷ case_of 1 73 (codes "b") 78 85 ∷ []; default = None }) }))) ≡ Some (breaks rule.CaseAgain 73)
+unfolding violations lesser number declared meaning same_text base_name kind_of field_of is_word behind
 rule_13 = simp small refl
 
 -- Precord Pstruct r { Puint8 a : a.x; };
-rule_16 : told (constrained (expr.Post (expr.Name (name (codes "a") 31)) (step_form.Name (name (codes "x") 33) ∷ []))) ≡ Some (breaks 16 33)
-unfolding violations lesser declared meaning same_text base_name kind_of field_of is_word behind
+rule_16 : told (constrained (expr.Post (expr.Name (name (codes "a") 31)) (step_form.Name (name (codes "x") 33) ∷ []))) ≡ Some (breaks rule.UnknownMember 33)
+unfolding violations lesser number declared meaning same_text base_name kind_of field_of is_word behind
 rule_16 = simp (on_names, small) refl
 
 -- Precord Pstruct r { Puint8 a : Pis(a, x); };
-rule_17 : told (constrained (expr.Pis 31 (expr.Name (name (codes "a") 35)) (name (codes "x") 38))) ≡ Some (breaks 17 35)
-unfolding violations lesser declared meaning same_text base_name kind_of field_of is_word behind
+rule_17 : told (constrained (expr.Pis 31 (expr.Name (name (codes "a") 35)) (name (codes "x") 38))) ≡ Some (breaks rule.UnknownChoice 35)
+unfolding violations lesser number declared meaning same_text base_name kind_of field_of is_word behind
 rule_17 = simp (on_names, small) refl
 
 -- Precord Pstruct r { Pcompute Pip n = 1; };
-rule_18 : told (record_type (part.Pcompute (bare (codes "Pip") 29) (name (codes "n") 33) (expr.Number 1 37) ∷ []) ∷ []) ≡ Some (breaks 18 29)
-unfolding violations lesser declared meaning same_text base_name kind_of field_of is_word behind
+rule_18 : told (record_type (part.Pcompute (bare (codes "Pip") 29) (name (codes "n") 33) (expr.Number 1 37) ∷ []) ∷ []) ≡ Some (breaks rule.ComputedType 29)
+unfolding violations lesser number declared meaning same_text base_name kind_of field_of is_word behind
 rule_18 = simp small refl

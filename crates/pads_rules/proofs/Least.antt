@@ -1,11 +1,23 @@
 -- The least violation of a list does not depend on the order in which the list has them.
-use Rattle.std.proofs.Common.{◌≡◌, ◌∙◌, sym, ap, refl, Bool, true, false, if◌then◌else◌, List, [], ◌∷◌, ◌++◌, Option, Some, None, map, flat_map, append_assoc, arith}
+use Rattle.std.proofs.Common.{◌≡◌, ℕ, ◌∙◌, sym, ap, refl, Bool, true, false, if◌then◌else◌, List, [], ◌∷◌, ◌++◌, Option, Some, None, map, flat_map, append_assoc, arith}
 use Rattle.pads_rules.specs.declared.fault.CheckFault.{CheckFault}
-use Rattle.pads_rules.specs.Faults.{is_before, lesser, least, each}
+use Rattle.pads_rules.specs.declared.rule.Rule.{Rule}
+use Rattle.pads_rules.specs.Faults.{breaks, is_before, lesser, least, each}
+use Rattle.pads_rules.specs.Rules.{number}
+use Rattle.pads_rules.proofs.RuleNumbers.{one-rule}
+
+same-place : (a b : CheckFault) → is_before a b ≡ false → is_before b a ≡ false → a.at ≡ b.at
+same-place a b p q = grind arith
+
+same-number : (a b : CheckFault) → is_before a b ≡ false → is_before b a ≡ false → number a.rule ≡ number b.rule
+same-number a b p q = grind arith
+
+same-parts : (r s : Rule) (at place : ℕ) → r ≡ s → at ≡ place → breaks r at ≡ breaks s place
+same-parts r s at place e f = cc
 
 -- Two violations of which none is told before the other are the same.
-same-place : (a b : CheckFault) → is_before a b ≡ false → is_before b a ≡ false → a ≡ b
-same-place a b p q = grind arith
+same-fault : (a b : CheckFault) → is_before a b ≡ false → is_before b a ≡ false → a ≡ b
+same-fault a b p q = same-parts a.rule b.rule a.at b.at (one-rule a.rule b.rule (same-number a b p q)) (same-place a b p q)
 
 not-both : (a b : CheckFault) → is_before a b ≡ true → is_before b a ≡ false
 not-both a b p = grind arith
@@ -34,14 +46,20 @@ unfolding lesser
 lesser_comm None None = refl
 lesser_comm None (Some b) = refl
 lesser_comm (Some a) None = refl
-lesser_comm (Some a) (Some b) = grind (arith, same-place, not-both)
+lesser_comm (Some a) (Some b) = by_order (is_before b a) (is_before a b) refl refl
+  where
+    by_order : (t u : Bool) → is_before b a ≡ t → is_before a b ≡ u → (if t then Some b else Some a) ≡ (if u then Some a else Some b)
+    by_order true true p q = let never = not-both b a p in cc
+    by_order true false p q = refl
+    by_order false true p q = refl
+    by_order false false p q = ap (λ x. Some x) (same-fault a b q p)
 
 pub lesser_assoc : (a b c : Option CheckFault) → lesser (lesser a b) c ≡ lesser a (lesser b c)
 unfolding lesser
 lesser_assoc None b c = refl
 lesser_assoc (Some a) None c = refl
 lesser_assoc (Some a) (Some b) None = lesser-none (lesser (Some a) (Some b))
-lesser_assoc (Some a) (Some b) (Some c) = grind (arith, same-place, not-both, before-trans, before-or)
+lesser_assoc (Some a) (Some b) (Some c) = grind (arith, same-fault, not-both, before-trans, before-or)
 
 pub least-append : (xs ys : List CheckFault) → least (xs ++ ys) ≡ lesser (least xs) (least ys)
 unfolding lesser

@@ -19,7 +19,9 @@ use Rattle.pads_ast.specs.declared.types.Type.{«Type»}
 use Rattle.pads_base_names.specs.Names.{base_name, kind_of, field_of, behind}
 use Rattle.pads_value.specs.Words.{is_word}
 use Rattle.pads_rules.specs.declared.fault.CheckFault.{CheckFault}
+use Rattle.pads_rules.specs.declared.rule.Rule.TheVariants as rule
 use Rattle.pads_rules.specs.Faults.{breaks, lesser, least}
+use Rattle.pads_rules.specs.Rules.{number}
 use Rattle.pads_rules.specs.Resolving.{meaning, declared}
 use Rattle.pads_rules.specs.Texts.{same_text}
 use Rattle.pads_rules.specs.Violations.{violations}
@@ -47,63 +49,63 @@ abbrev told : List Decl → Option CheckFault
 told decls = least (violations (record { decls = decls; end = 99 }))
 
 -- the empty description has no record type
-empty : least (violations (record { decls = []; end = 0 })) ≡ Some (breaks 23 0)
-unfolding violations lesser declared
+empty : least (violations (record { decls = []; end = 0 })) ≡ Some (breaks rule.NoRecordType 0)
+unfolding violations lesser number declared
 empty = refl
 
 -- Precord Pstruct r { };
 accepted : told (record_type [] ∷ []) ≡ None
-unfolding violations lesser declared meaning same_text base_name kind_of field_of is_word behind
+unfolding violations lesser number declared meaning same_text base_name kind_of field_of is_word behind
 accepted = refl
 
 -- Precord Pstruct r { Puint8 a; Pstring(:Peor:) b; };
 accepted_fields : told (record_type (field (bare (codes "Puint8") 20) (name (codes "a") 27) None ∷ field (of_one (codes "Pstring") 30 (arg.Peor 39)) (name (codes "b") 46) None ∷ []) ∷ []) ≡ None
-unfolding violations lesser declared meaning same_text base_name kind_of field_of is_word behind
+unfolding violations lesser number declared meaning same_text base_name kind_of field_of is_word behind
 accepted_fields = refl
 
 -- Precord Pstruct Puint8 { };
-rule_1 : told (record { mark = Some mark.Precord; body = decl.Struct (record { name = name (codes "Puint8") 16; params = None; parts = []; condition = None }) } ∷ []) ≡ Some (breaks 1 16)
-unfolding violations lesser declared meaning same_text base_name kind_of field_of is_word behind
+rule_1 : told (record { mark = Some mark.Precord; body = decl.Struct (record { name = name (codes "Puint8") 16; params = None; parts = []; condition = None }) } ∷ []) ≡ Some (breaks rule.NameTaken 16)
+unfolding violations lesser number declared meaning same_text base_name kind_of field_of is_word behind
 rule_1 = refl
 
 -- Precord Pstruct r { Pfoo a; Puint8 a; };
-rule_2_before_4 : told (record_type (field (bare (codes "Pfoo") 20) (name (codes "a") 25) None ∷ field (bare (codes "Puint8") 28) (name (codes "a") 35) None ∷ []) ∷ []) ≡ Some (breaks 2 20)
-unfolding violations lesser declared meaning same_text base_name kind_of field_of is_word behind
+rule_2_before_4 : told (record_type (field (bare (codes "Pfoo") 20) (name (codes "a") 25) None ∷ field (bare (codes "Puint8") 28) (name (codes "a") 35) None ∷ []) ∷ []) ≡ Some (breaks rule.UnknownType 20)
+unfolding violations lesser number declared meaning same_text base_name kind_of field_of is_word behind
 rule_2_before_4 = refl
 
 -- Precord Pstruct r { r a; };
-rule_3 : told (record_type (field (bare (codes "r") 20) (name (codes "a") 22) None ∷ []) ∷ []) ≡ Some (breaks 3 20)
-unfolding violations lesser declared meaning same_text base_name kind_of field_of is_word behind
+rule_3 : told (record_type (field (bare (codes "r") 20) (name (codes "a") 22) None ∷ []) ∷ []) ≡ Some (breaks rule.LaterType 20)
+unfolding violations lesser number declared meaning same_text base_name kind_of field_of is_word behind
 rule_3 = refl
 
 -- Precord Pstruct r { Puint8 a; Puint8 a; };
-rule_4 : told (record_type (field (bare (codes "Puint8") 20) (name (codes "a") 27) None ∷ field (bare (codes "Puint8") 30) (name (codes "a") 37) None ∷ []) ∷ []) ≡ Some (breaks 4 37)
-unfolding violations lesser declared meaning same_text base_name kind_of field_of is_word behind
+rule_4 : told (record_type (field (bare (codes "Puint8") 20) (name (codes "a") 27) None ∷ field (bare (codes "Puint8") 30) (name (codes "a") 37) None ∷ []) ∷ []) ≡ Some (breaks rule.NameAgain 37)
+unfolding violations lesser number declared meaning same_text base_name kind_of field_of is_word behind
 rule_4 = refl
 
 -- Precord Pstruct r { Pstring_FW(:n:) s; Puint8 n; };
-rule_6 : told (record_type (field (of_one (codes "Pstring_FW") 20 (arg.Expr (expr.Name (name (codes "n") 32)))) (name (codes "s") 36) None ∷ field (bare (codes "Puint8") 39) (name (codes "n") 46) None ∷ []) ∷ []) ≡ Some (breaks 6 32)
-unfolding violations lesser declared meaning same_text base_name kind_of field_of is_word behind
+rule_6 : told (record_type (field (of_one (codes "Pstring_FW") 20 (arg.Expr (expr.Name (name (codes "n") 32)))) (name (codes "s") 36) None ∷ field (bare (codes "Puint8") 39) (name (codes "n") 46) None ∷ []) ∷ []) ≡ Some (breaks rule.LaterField 32)
+unfolding violations lesser number declared meaning same_text base_name kind_of field_of is_word behind
 rule_6 = simp on_names refl
 
 -- Precord Pstruct r { Pstring a; };
-rule_7 : told (record_type (field (bare (codes "Pstring") 20) (name (codes "a") 28) None ∷ []) ∷ []) ≡ Some (breaks 7 20)
-unfolding violations lesser declared meaning same_text base_name kind_of field_of is_word behind
+rule_7 : told (record_type (field (bare (codes "Pstring") 20) (name (codes "a") 28) None ∷ []) ∷ []) ≡ Some (breaks rule.ArgumentCount 20)
+unfolding violations lesser number declared meaning same_text base_name kind_of field_of is_word behind
 rule_7 = refl
 
 -- Precord Pstruct r { Puint8_FW(:Peor:) a; };
-rule_8 : told (record_type (field (of_one (codes "Puint8_FW") 20 (arg.Peor 31)) (name (codes "a") 38) None ∷ []) ∷ []) ≡ Some (breaks 8 31)
-unfolding violations lesser declared meaning same_text base_name kind_of field_of is_word behind
+rule_8 : told (record_type (field (of_one (codes "Puint8_FW") 20 (arg.Peor 31)) (name (codes "a") 38) None ∷ []) ∷ []) ≡ Some (breaks rule.ArgumentSort 31)
+unfolding violations lesser number declared meaning same_text base_name kind_of field_of is_word behind
 rule_8 = refl
 
 -- Precord Pstruct r { Puint8 a : a; };
-rule_10 : told (record_type (field (bare (codes "Puint8") 20) (name (codes "a") 27) (Some (expr.Name (name (codes "a") 31))) ∷ []) ∷ []) ≡ Some (breaks 10 31)
-unfolding violations lesser declared meaning same_text base_name kind_of field_of is_word behind
+rule_10 : told (record_type (field (bare (codes "Puint8") 20) (name (codes "a") 27) (Some (expr.Name (name (codes "a") 31))) ∷ []) ∷ []) ≡ Some (breaks rule.ConditionSort 31)
+unfolding violations lesser number declared meaning same_text base_name kind_of field_of is_word behind
 rule_10 = simp on_names refl
 
 -- Precord Pstruct r { ""; };
-rule_14 : told (record_type (part.Literal (literal.Word (word.Text [] 20)) ∷ []) ∷ []) ≡ Some (breaks 14 20)
-unfolding violations lesser declared meaning same_text base_name kind_of field_of is_word behind
+rule_14 : told (record_type (part.Literal (literal.Word (word.Text [] 20)) ∷ []) ∷ []) ≡ Some (breaks rule.EmptyLiteral 20)
+unfolding violations lesser number declared meaning same_text base_name kind_of field_of is_word behind
 rule_14 = refl
 
 -- Penum e { A Pfrom("x"), B Pfrom("x") }; Precord Pstruct r { e v; };
@@ -113,44 +115,44 @@ label text at spelled_at = record { name = name text at; spelling = Some (word.T
 rule_15 : told
     (record { mark = None; body = decl.Enum (record { name = name (codes "e") 6; labels = label (codes "A") 10 18 ∷ label (codes "B") 24 32 ∷ [] }) }
     ∷ record { mark = Some mark.Precord; body = decl.Struct (record { name = name (codes "r") 56; params = None; parts = field (bare (codes "e") 60) (name (codes "v") 62) None ∷ []; condition = None }) } ∷ [])
-    ≡ Some (breaks 15 32)
-unfolding violations lesser declared meaning same_text base_name kind_of field_of is_word behind
+    ≡ Some (breaks rule.SpellingAgain 32)
+unfolding violations lesser number declared meaning same_text base_name kind_of field_of is_word behind
 rule_15 = refl
 
 -- Popt Puint8 o (: Pip p :); and then a record type
 rule_19 : told
     (record { mark = None; body = decl.Opt (record { of = bare (codes "Puint8") 5; name = name (codes "o") 12; params = Some (record { of = bare (codes "Pip") 17; name = name (codes "p") 21 } ∷ []) }) }
     ∷ record_type [] ∷ [])
-    ≡ Some (breaks 19 17)
-unfolding violations lesser declared meaning same_text base_name kind_of field_of is_word behind
+    ≡ Some (breaks rule.ParameterType 17)
+unfolding violations lesser number declared meaning same_text base_name kind_of field_of is_word behind
 rule_19 = refl
 
 -- Precord Pstruct r { }; Popt r o;
 rule_20 : told (record_type [] ∷ record { mark = None; body = decl.Opt (record { of = bare (codes "r") 28; name = name (codes "o") 30; params = None }) } ∷ [])
-    ≡ Some (breaks 20 28)
-unfolding violations lesser declared meaning same_text base_name kind_of field_of is_word behind
+    ≡ Some (breaks rule.RecordTypeNamed 28)
+unfolding violations lesser number declared meaning same_text base_name kind_of field_of is_word behind
 rule_20 = refl
 
 -- Precord Pstruct r (: Pchar c :) { };
 rule_21 : told
     (record { mark = Some mark.Precord; body = decl.Struct (record { name = name (codes "r") 16; params = Some (record { of = bare (codes "Pchar") 21; name = name (codes "c") 27 } ∷ []); parts = []; condition = None }) } ∷ [])
-    ≡ Some (breaks 21 16)
-unfolding violations lesser declared meaning same_text base_name kind_of field_of is_word behind
+    ≡ Some (breaks rule.MarkedWithParameters 16)
+unfolding violations lesser number declared meaning same_text base_name kind_of field_of is_word behind
 rule_21 = refl
 
 -- Psource Pstruct s { }; and then a record type: it isn't the last
 rule_22 : told
     (record { mark = Some mark.Psource; body = decl.Struct (record { name = name (codes "s") 16; params = None; parts = []; condition = None }) }
     ∷ record { mark = Some mark.Precord; body = decl.Struct (record { name = name (codes "r") 39; params = None; parts = []; condition = None }) } ∷ [])
-    ≡ Some (breaks 22 16)
-unfolding violations lesser declared meaning same_text base_name kind_of field_of is_word behind
+    ≡ Some (breaks rule.MisplacedSource 16)
+unfolding violations lesser number declared meaning same_text base_name kind_of field_of is_word behind
 rule_22 = refl
 
 -- Precord Pstruct r { }; Psource Parray s { r[]; };
 accepted_source : told
     (record_type [] ∷ record { mark = Some mark.Psource; body = decl.Array (record { name = name (codes "s") 38; params = None; of = bare (codes "r") 42; size = None; options = []; condition = None }) } ∷ [])
     ≡ None
-unfolding violations lesser declared meaning same_text base_name kind_of field_of is_word behind
+unfolding violations lesser number declared meaning same_text base_name kind_of field_of is_word behind
 accepted_source = refl
 
 -- Precord Pstruct r { }; Parray a { Puint8[] : Psep(',') && Psep(';'); };
@@ -166,6 +168,6 @@ rule_4_options : told
         condition = None;
       });
     } ∷ [])
-    ≡ Some (breaks 4 58)
-unfolding violations lesser declared meaning same_text base_name kind_of field_of is_word behind
+    ≡ Some (breaks rule.NameAgain 58)
+unfolding violations lesser number declared meaning same_text base_name kind_of field_of is_word behind
 rule_4_options = refl

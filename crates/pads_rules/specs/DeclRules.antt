@@ -10,6 +10,7 @@ use Rattle.pads_ast.specs.declared.name.Name.{Name}
 use Rattle.pads_ast.specs.declared.name.Word.{Word}
 use Rattle.pads_base_names.specs.Names.{base_name}
 use Rattle.pads_rules.specs.declared.fault.CheckFault.{CheckFault}
+use Rattle.pads_rules.specs.declared.rule.Rule.TheVariants as rule
 use Rattle.pads_rules.specs.Faults.{breaks, when, again}
 use Rattle.pads_rules.specs.Judging.{place_of}
 use Rattle.pads_rules.specs.NameTokens.{Names, names_in_decl, count_of_different}
@@ -25,7 +26,7 @@ decl_name site = name_of site.decl.body
 -- Rule 1: a declaration's name is an earlier declaration's or a base type's.
 abbrev pub name_taken : Site → List CheckFault
 name_taken site =
-    when (is_some (declared_as (earlier site) (decl_name site).text) || is_some (base_name (decl_name site).text)) (breaks 1 (decl_name site).at)
+    when (is_some (declared_as (earlier site) (decl_name site).text) || is_some (base_name (decl_name site).text)) (breaks rule.NameTaken (decl_name site).at)
 
 abbrev pub same_name : Name → Name → Bool
 same_name a b = same_text a.text b.text
@@ -52,8 +53,8 @@ option_place (array_option.Plast at condition) = at
 -- Rule 4: the name of a parameter, field, branch or label comes again, or an array option does.
 abbrev pub name_again : Site → List CheckFault
 name_again site =
-    again same_name (λ name. breaks 4 name.at) [] (param_names site.decl.body ++ inner_names site.decl.body)
-    ++ again same_option (λ option. breaks 4 (option_place option)) [] (options_of site.decl.body)
+    again same_name (λ name. breaks rule.NameAgain name.at) [] (param_names site.decl.body ++ inner_names site.decl.body)
+    ++ again same_option (λ option. breaks rule.NameAgain (option_place option)) [] (options_of site.decl.body)
 
 abbrev pub constraint_of : DeclBody → Option Constraint
 constraint_of (decl.Typedef d) = d.constraint
@@ -69,7 +70,7 @@ other_name site = found (constraint_of site.decl.body)
   where
     found : Option Constraint → List CheckFault
     found None = []
-    found (Some constraint) = when (not (same_name constraint.name (decl_name site))) (breaks 11 constraint.name.at)
+    found (Some constraint) = when (not (same_name constraint.name (decl_name site))) (breaks rule.OtherName constraint.name.at)
 
 abbrev pub labels_of : DeclBody → List Label
 labels_of (decl.Enum d) = d.labels
@@ -92,16 +93,16 @@ same_spelling a b = same_text (spelling_of a).0 (spelling_of b).0
 
 -- Rule 15: an enum spelling comes again.
 abbrev pub spelling_again : Site → List CheckFault
-spelling_again site = again same_spelling (λ label. breaks 15 (spelling_of label).1) [] (labels_of site.decl.body)
+spelling_again site = again same_spelling (λ label. breaks rule.SpellingAgain (spelling_of label).1) [] (labels_of site.decl.body)
 
 -- Rule 21: a `Precord` or `Psource` declaration has parameters.
 abbrev pub marked_with_params : Site → List CheckFault
-marked_with_params site = when (is_some site.decl.mark && not (is_empty (params_of site.decl.body))) (breaks 21 (decl_name site).at)
+marked_with_params site = when (is_some site.decl.mark && not (is_empty (params_of site.decl.body))) (breaks rule.MarkedWithParameters (decl_name site).at)
 
 -- Rule 22: a `Psource` declaration isn't the last, or isn't a source shape.
 abbrev pub misplaced_source : Site → List CheckFault
 misplaced_source site =
-    when (is_psource site.decl.mark && not ((suc site.number == length site.decls) && is_source_shape site)) (breaks 22 (decl_name site).at)
+    when (is_psource site.decl.mark && not ((suc site.number == length site.decls) && is_source_shape site)) (breaks rule.MisplacedSource (decl_name site).at)
 
 -- How many parts, branches or labels a declaration has.
 abbrev pub part_count : DeclBody → ℕ
@@ -143,4 +144,4 @@ token_count site = count_of_different (flat_map (λ d. names_in_decl d.body) (ta
 abbrev pub too_much : Site → List CheckFault
 too_much site =
     when (nat_le 4096 site.number || nat_lt 4096 (part_count site.decl.body) || nat_lt 4096 (scope_count site.decl.body) || nat_lt 65000 (token_count site))
-    (breaks 24 (decl_name site).at)
+    (breaks rule.Limit (decl_name site).at)

@@ -1,11 +1,12 @@
--- Violations of the rules of descriptions: a place and the number of a rule. They are told by place, then
--- by rule.
+-- Violations of the rules of descriptions: a rule and a place. They are told by place, then by the rule's number.
 use Rattle.std.specs.Prelude.{ℕ, ◌==◌, nat_lt, Bool, ◌&&◌, ◌||◌, if◌then◌else◌, List, [], ◌∷◌, ◌++◌, Option, Some, None}
 use Rattle.std.specs.List.{list_any}
 use Rattle.pads_rules.specs.declared.fault.CheckFault.{CheckFault}
+use Rattle.pads_rules.specs.declared.rule.Rule.{Rule}
+use Rattle.pads_rules.specs.Rules.{number}
 
--- The rule of a number, broken at a place.
-abbrev pub breaks : ℕ → ℕ → CheckFault
+-- A rule, broken at a place.
+abbrev pub breaks : Rule → ℕ → CheckFault
 breaks rule at = record { at = at; rule = rule }
 
 -- A violation where something holds.
@@ -24,9 +25,9 @@ again same violation earlier [] = []
 again same violation earlier (x ∷ xs) =
     when (list_any (same x) earlier) (violation x) ++ again same violation (earlier ++ x ∷ []) xs
 
--- The order in which violations are told: by place, then by rule.
+-- The order in which violations are told: by place, then by the rule's number.
 abbrev pub is_before : CheckFault → CheckFault → Bool
-is_before a b = nat_lt a.at b.at || (a.at == b.at && nat_lt a.rule b.rule)
+is_before a b = nat_lt a.at b.at || (a.at == b.at && nat_lt (number a.rule) (number b.rule))
 
 -- The one of two violations that is told first, where there are any.
 unfoldable pub lesser : Option CheckFault → Option CheckFault → Option CheckFault

@@ -17,6 +17,7 @@ use Rattle.pads_rules.specs.declared.declared.Named.{Named}
 use Rattle.pads_rules.specs.declared.expr_sort.ExprSort.{ExprSort}
 use Rattle.pads_rules.specs.declared.expr_sort.ExprSort.TheVariants as expr_sort
 use Rattle.pads_rules.specs.declared.fault.CheckFault.{CheckFault}
+use Rattle.pads_rules.specs.declared.rule.Rule.TheVariants as rule
 use Rattle.pads_rules.specs.Faults.{breaks, when}
 use Rattle.pads_rules.specs.Members.{member, element, may_choose, has_choice}
 use Rattle.pads_rules.specs.Sorts.{num, text, truth, accepts, agree, is_num_form, is_text_form, is_truth_form, is_array_form, unless_broken}
@@ -42,7 +43,7 @@ pub record Judged : Type 0 where
 
 -- Rule 24: an expression's tree is higher than 256.
 abbrev pub too_high : ℕ → ℕ → List CheckFault
-too_high first height = when (nat_lt 256 height) (breaks 24 first)
+too_high first height = when (nat_lt 256 height) (breaks rule.Limit first)
 
 -- An expression, by the place of its first token, the height of its tree, the sort that its form has and the
 -- violations of its parts and its form. One that holds a violation has the unknown sort.
@@ -53,25 +54,25 @@ judgement first height sort faults =
 
 -- Rule 9: an operand, an index or a bound has a sort that what stands around it doesn't take.
 abbrev pub wrong_sort : (Form → Bool) → Judged → List CheckFault
-wrong_sort takes operand = when (not (accepts takes operand.sort)) (breaks 9 operand.first)
+wrong_sort takes operand = when (not (accepts takes operand.sort)) (breaks rule.OperandSort operand.first)
 
 -- Rule 10: a condition isn't a truth value.
 abbrev pub no_truth : Judged → List CheckFault
-no_truth condition = when (not (accepts is_truth_form condition.sort)) (breaks 10 condition.first)
+no_truth condition = when (not (accepts is_truth_form condition.sort)) (breaks rule.ConditionSort condition.first)
 
 -- Rules 5 and 6: a name isn't in scope. It is one of this or a later field of the same struct, or it isn't.
 abbrev pub not_in_scope : Scope → Name → List CheckFault
-not_in_scope scope name = breaks (if is_among scope.later name.text then 6 else 5) name.at ∷ []
+not_in_scope scope name = breaks (if is_among scope.later name.text then rule.LaterField else rule.UnknownName) name.at ∷ []
 
 -- Rule 16: what stands behind a dot is no field or branch.
 abbrev pub no_member : Name → List CheckFault
-no_member name = breaks 16 name.at ∷ []
+no_member name = breaks rule.UnknownMember name.at ∷ []
 
 -- Rule 17: `Pis` on something that has no branches or labels, or naming none of them.
 abbrev pub no_choice : List Declared → Judged → Name → List CheckFault
 no_choice env value name =
-    when (not (may_choose value.sort)) (breaks 17 value.first)
-    ++ when (may_choose value.sort && not (has_choice env value.sort name.text)) (breaks 17 name.at)
+    when (not (may_choose value.sort)) (breaks rule.UnknownChoice value.first)
+    ++ when (may_choose value.sort && not (has_choice env value.sort name.text)) (breaks rule.UnknownChoice name.at)
 
 abbrev pub place_of : Word → ℕ
 place_of (word.Char point at) = at
@@ -124,7 +125,7 @@ result_of binary_form.Rem = num
 abbrev pub wrong_operands : (Form → Bool) → Judged → Judged → List CheckFault
 wrong_operands takes left right =
     wrong_sort takes left ++ wrong_sort takes right
-    ++ when (accepts takes left.sort && accepts takes right.sort && not (agree left.sort right.sort)) (breaks 9 right.first)
+    ++ when (accepts takes left.sort && accepts takes right.sort && not (agree left.sort right.sort)) (breaks rule.OperandSort right.first)
 
 abbrev pub binary : BinOp → Judged → Judged → Judged
 binary operator left right =

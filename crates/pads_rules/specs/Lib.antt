@@ -1,5 +1,6 @@
 pub mod SiteFaults
 pub mod Faults
+pub mod Rules
 pub mod Texts
 pub mod Sorts
 pub mod Members

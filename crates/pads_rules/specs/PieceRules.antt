@@ -22,6 +22,8 @@ use Rattle.pads_base_names.specs.Names.{takes}
 use Rattle.pads_rules.specs.declared.declared.Declared.{Declared}
 use Rattle.pads_rules.specs.declared.expr_sort.ExprSort.{ExprSort}
 use Rattle.pads_rules.specs.declared.fault.CheckFault.{CheckFault}
+use Rattle.pads_rules.specs.declared.rule.Rule.{Rule}
+use Rattle.pads_rules.specs.declared.rule.Rule.TheVariants as rule
 use Rattle.pads_rules.specs.Faults.{breaks, when, each, again}
 use Rattle.pads_rules.specs.Judging.{Scope, Judged, judged, wrong_sort, no_truth, place_of}
 use Rattle.pads_rules.specs.Pieces.{Site, earlier, Piece, Used, OfParam, Computed, Condition, Size, Choice, Spelled}
@@ -45,12 +47,12 @@ abbrev pub meaning_at : Site → «Type» → Meaning
 meaning_at site t = meaning (earlier site) t.name.text
 
 -- A rule about every type name.
-abbrev pub at_type_name : (Site → «Type» → Bool) → ℕ → Site → Piece → List CheckFault
-at_type_name breaks_it rule site piece = found (type_in piece)
+abbrev pub at_type_name : (Site → «Type» → Bool) → Rule → Site → Piece → List CheckFault
+at_type_name breaks_it broken site piece = found (type_in piece)
   where
     found : Option «Type» → List CheckFault
     found None = []
-    found (Some t) = when (breaks_it site t) (breaks rule t.name.at)
+    found (Some t) = when (breaks_it site t) (breaks broken t.name.at)
 
 abbrev pub is_undeclared : Meaning → Bool
 is_undeclared (Base base) = false
@@ -63,11 +65,11 @@ comes_later site t = is_some (declared_as (drop site.number site.env) t.name.tex
 
 -- Rule 2: a type name is neither a base type nor a declaration.
 abbrev pub unknown_type : Site → Piece → List CheckFault
-unknown_type = at_type_name (λ site t. is_undeclared (meaning_at site t) && not (comes_later site t)) 2
+unknown_type = at_type_name (λ site t. is_undeclared (meaning_at site t) && not (comes_later site t)) rule.UnknownType
 
 -- Rule 3: a type name is that of this or a later declaration.
 abbrev pub later_type : Site → Piece → List CheckFault
-later_type = at_type_name (λ site t. is_undeclared (meaning_at site t) && comes_later site t) 3
+later_type = at_type_name (λ site t. is_undeclared (meaning_at site t) && comes_later site t) rule.LaterType
 
 -- The number of arguments that a base type takes.
 abbrev pub takes_so_many : Takes → ℕ → Bool
@@ -85,7 +87,7 @@ is_count_of Undeclared n = true
 
 -- Rule 7: the number of arguments isn't the type's.
 abbrev pub argument_count : Site → Piece → List CheckFault
-argument_count site (Used scope t) = when (not (is_count_of (meaning_at site t) (length (args_of t)))) (breaks 7 t.name.at)
+argument_count site (Used scope t) = when (not (is_count_of (meaning_at site t) (length (args_of t)))) (breaks rule.ArgumentCount t.name.at)
 argument_count site (OfParam t) = []
 argument_count site (Computed scope t value) = []
 argument_count site (Condition scope e) = []
@@ -127,11 +129,11 @@ abbrev pub argument_sort : List Declared → Scope → Meaning → ℕ → ℕ �
 argument_sort env scope m count numbered = by_form numbered.1
   where
     at_sort : Judged → List CheckFault
-    at_sort j = when (not (agrees_with (slice_get (params_in m) numbered.0) j.sort)) (breaks 8 j.first)
+    at_sort j = when (not (agrees_with (slice_get (params_in m) numbered.0) j.sort)) (breaks rule.ArgumentSort j.first)
 
     by_form : Arg → List CheckFault
     by_form (arg.Expr e) = at_sort (judged env e scope)
-    by_form (arg.Peor at) = when (not (takes_end m && (count == 1))) (breaks 8 at)
+    by_form (arg.Peor at) = when (not (takes_end m && (count == 1))) (breaks rule.ArgumentSort at)
 
 -- Rule 8: an argument's sort isn't the parameter's, or `Peor` is other than the one argument of a text up to
 -- a stop.
@@ -182,8 +184,8 @@ case_sorts site (Choice scope e constants) = against (judged site.env e scope)
   where
     against : Judged → List CheckFault
     against j =
-        when (not (accepts is_num_or_text j.sort)) (breaks 12 j.first)
-        ++ each (λ constant. when (not (agree j.sort (const_sort constant))) (breaks 12 (const_place constant))) constants
+        when (not (accepts is_num_or_text j.sort)) (breaks rule.CaseSort j.first)
+        ++ each (λ constant. when (not (agree j.sort (const_sort constant))) (breaks rule.CaseSort (const_place constant))) constants
 case_sorts site (Used scope t) = []
 case_sorts site (OfParam t) = []
 case_sorts site (Computed scope t value) = []
@@ -204,7 +206,7 @@ same_const _ _ = false
 
 -- Rule 13: a case constant comes again.
 abbrev pub case_again : Site → Piece → List CheckFault
-case_again site (Choice scope e constants) = again same_const (λ constant. breaks 13 (const_place constant)) [] constants
+case_again site (Choice scope e constants) = again same_const (λ constant. breaks rule.CaseAgain (const_place constant)) [] constants
 case_again site (Used scope t) = []
 case_again site (OfParam t) = []
 case_again site (Computed scope t value) = []
@@ -214,7 +216,7 @@ case_again site (Spelled word) = []
 
 -- Rule 14: a literal, separator, terminator or enum spelling is empty.
 abbrev pub empty_literal : Site → Piece → List CheckFault
-empty_literal site (Spelled word) = when (is_empty (points_of word)) (breaks 14 (place_of word))
+empty_literal site (Spelled word) = when (is_empty (points_of word)) (breaks rule.EmptyLiteral (place_of word))
 empty_literal site (Used scope t) = []
 empty_literal site (OfParam t) = []
 empty_literal site (Computed scope t value) = []
@@ -247,7 +249,7 @@ is_bare test site t = is_base test (plain_meaning (earlier site) t) && is_empty 
 abbrev pub computed_type : Site → Piece → List CheckFault
 computed_type site (Computed scope t value) =
     when (not (is_bare is_computable_base site t) || not (agree (type_sort (earlier site) t) (judged site.env value scope).sort))
-    (breaks 18 t.name.at)
+    (breaks rule.ComputedType t.name.at)
 computed_type site (Used scope t) = []
 computed_type site (OfParam t) = []
 computed_type site (Condition scope e) = []
@@ -257,7 +259,7 @@ computed_type site (Spelled word) = []
 
 -- Rule 19: a parameter's type isn't one that a parameter may have.
 abbrev pub param_type : Site → Piece → List CheckFault
-param_type site (OfParam t) = when (not (is_bare is_param_base site t)) (breaks 19 t.name.at)
+param_type site (OfParam t) = when (not (is_bare is_param_base site t)) (breaks rule.ParameterType t.name.at)
 param_type site (Used scope t) = []
 param_type site (Computed scope t value) = []
 param_type site (Condition scope e) = []
@@ -292,7 +294,7 @@ is_source_shape site =
 -- Rule 20: a `Precord` type or a record list is named outside a source shape.
 abbrev pub record_type_named : Site → Piece → List CheckFault
 record_type_named =
-    at_type_name (λ site t. (is_precord_type (meaning_at site t) || is_record_list_type (meaning_at site t)) && not (is_source_shape site)) 20
+    at_type_name (λ site t. (is_precord_type (meaning_at site t) || is_record_list_type (meaning_at site t)) && not (is_source_shape site)) rule.RecordTypeNamed
 
 -- The violations that an expression holds.
 abbrev pub faults_of : Site → Scope → Expr → List CheckFault

@@ -3,6 +3,7 @@ use Rattle.std.specs.Prelude.{not, List, ◌++◌}
 use Rattle.std.specs.List.{list_any}
 use Rattle.pads_ast.specs.declared.decl.Ast.{Ast}
 use Rattle.pads_rules.specs.declared.fault.CheckFault.{CheckFault}
+use Rattle.pads_rules.specs.declared.rule.Rule.TheVariants as rule
 use Rattle.pads_rules.specs.DeclRules.{name_taken, name_again, other_name, spelling_again, marked_with_params, misplaced_source, too_much}
 use Rattle.pads_rules.specs.Faults.{breaks, when, each}
 use Rattle.pads_rules.specs.PieceRules.{unknown_type, later_type, argument_count, argument_sorts, size_sort, condition_sort, case_sorts, case_again, empty_literal, computed_type, param_type, record_type_named, in_expressions}
@@ -11,11 +12,11 @@ use Rattle.pads_rules.specs.Trees.{is_precord}
 
 -- A rule about every piece of a declaration.
 abbrev pub in_pieces : (Site → Piece → List CheckFault) → Site → List CheckFault
-in_pieces rule site = each (rule site) (pieces site)
+in_pieces at_piece site = each (at_piece site) (pieces site)
 
 -- Rule 23: no declaration is marked `Precord`. It is told at the end of the text.
 abbrev pub no_record_type : Ast → List CheckFault
-no_record_type tree = when (not (list_any (λ d. is_precord d.mark) tree.decls)) (breaks 23 tree.end)
+no_record_type tree = when (not (list_any (λ d. is_precord d.mark) tree.decls)) (breaks rule.NoRecordType tree.end)
 
 unfoldable pub violations : Ast → List CheckFault
 violations tree =

@@ -11,6 +11,7 @@ mod expr_sort;
 mod fault;
 mod laws;
 mod operators;
+mod rule;
 mod sort;
 #[cfg(test)]
 mod tests;
@@ -20,4 +21,5 @@ pub use expr_sort::ExprSort;
 pub use fault::{CheckFault, fault_if, lesser};
 pub use laws::violations_come_by_parts;
 pub use operators::{result_of, unary_gives};
+pub use rule::Rule;
 pub use sort::{Form, Sort};

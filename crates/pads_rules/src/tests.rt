@@ -2,18 +2,33 @@ use super::*;
 use crate::sort::{Form, Sort};
 use std::test::Fail;
 
-fn fault(at: u64, rule: u8) -> Option<CheckFault> {
+fn fault(at: u64, rule: Rule) -> Option<CheckFault> {
     Some(CheckFault { at, rule })
 }
 
 #[test]
 fn the_first_place_and_then_the_first_rule(rt: HostRuntime) -> Result<(), Fail> {
-    assert_eq!(rt; lesser(fault(7, 2), fault(3, 9)), fault(3, 9));
-    assert_eq!(rt; lesser(fault(7, 2), fault(7, 1)), fault(7, 1));
-    assert_eq!(rt; lesser(None, fault(7, 2)), fault(7, 2));
-    assert_eq!(rt; lesser(fault(7, 2), None), fault(7, 2));
-    assert_eq!(rt; fault_if(true, 4, 5), fault(5, 4));
-    assert_eq!(rt; fault_if(false, 4, 5), None);
+    assert_eq!(rt;
+        lesser(fault(7, Rule::UnknownType), fault(3, Rule::OperandSort)),
+        fault(3, Rule::OperandSort)
+    );
+    assert_eq!(rt;
+        lesser(fault(7, Rule::UnknownType), fault(7, Rule::NameTaken)),
+        fault(7, Rule::NameTaken)
+    );
+    assert_eq!(rt;
+        lesser(None, fault(7, Rule::UnknownType)),
+        fault(7, Rule::UnknownType)
+    );
+    assert_eq!(rt;
+        lesser(fault(7, Rule::UnknownType), None),
+        fault(7, Rule::UnknownType)
+    );
+    assert_eq!(rt;
+        fault_if(true, Rule::NameAgain, 5),
+        fault(5, Rule::NameAgain)
+    );
+    assert_eq!(rt; fault_if(false, Rule::NameAgain, 5), None);
     Ok(())
 }
 

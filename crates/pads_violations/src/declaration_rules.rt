@@ -9,7 +9,7 @@ use pads_ast::DeclBody;
 use pads_base_names::base_name;
 use pads_declared::{is_psource, name_of, params_of, same_text};
 use pads_piece_rules::{Site, earlier, is_source_shape};
-use pads_rules::{CheckFault, fault_if};
+use pads_rules::{CheckFault, Rule, fault_if};
 
 /// The name is an earlier declaration's or a base type's.
 pub(crate) fn name_taken(site: &Site<'_>) -> Option<CheckFault>
@@ -18,7 +18,7 @@ pub(crate) fn name_taken(site: &Site<'_>) -> Option<CheckFault>
     let name = name_of(&site.decl.body);
     let declared = earlier(site).declared_as(name.text.as_slice()).is_some();
     let base = base_name(name.text.as_slice()).is_some();
-    fault_if(declared || base, 1, name.at)
+    fault_if(declared || base, Rule::NameTaken, name.at)
 }
 
 /// The first name behind a typedef's colon isn't its own.
@@ -32,7 +32,7 @@ pub(crate) fn other_name(site: &Site<'_>) -> Option<CheckFault>
         None => None,
         Some(constraint) => {
             let same = same_text(constraint.name.text.as_slice(), d.name.text.as_slice());
-            fault_if(!same, 11, constraint.name.at)
+            fault_if(!same, Rule::OtherName, constraint.name.at)
         }
     }
 }
@@ -43,7 +43,11 @@ pub(crate) fn marked_with_params(site: &Site<'_>) -> Option<CheckFault>
 {
     let bare = params_of(&site.decl.body).is_empty();
     let marked = site.decl.mark.is_some();
-    fault_if(marked && !bare, 21, name_of(&site.decl.body).at)
+    fault_if(
+        marked && !bare,
+        Rule::MarkedWithParameters,
+        name_of(&site.decl.body).at,
+    )
 }
 
 /// A `Psource` declaration isn't the last, or isn't a source shape.
@@ -54,5 +58,9 @@ pub(crate) fn misplaced_source(site: &Site<'_>) -> Option<CheckFault>
     let source = is_psource(site.decl.mark);
     let last = site.number == site.decls.len() - 1;
     let shape = is_source_shape(site);
-    fault_if(source && !(last && shape), 22, name_of(&site.decl.body).at)
+    fault_if(
+        source && !(last && shape),
+        Rule::MisplacedSource,
+        name_of(&site.decl.body).at,
+    )
 }

@@ -14,7 +14,7 @@ use pads_ast::{Ast, Decl};
 use pads_counts::{meet_decl, too_much};
 use pads_declared::{NameSet, declared, is_precord};
 use pads_piece_rules::Site;
-use pads_rules::{CheckFault, fault_if, lesser};
+use pads_rules::{CheckFault, Rule, fault_if, lesser};
 use pads_value::Memory;
 use std::alloc::Global;
 
@@ -67,10 +67,10 @@ fn no_record_type(tree: &Ast) -> Option<CheckFault>
     ensures told { result ≡ record_told tree.now }
 {
     let marked = has_record_type(tree.decls.as_slice());
-    fault_if(!marked, 23, tree.end)
+    fault_if(!marked, Rule::NoRecordType, tree.end)
 }
 
-/// The first violation of a description by place, then by rule; `None` exactly where it keeps every rule.
+/// The first violation of a description by place, then by the rule's number; `None` exactly where it keeps every rule.
 pub fn first_violation(alloc: Global, tree: &Ast) -> Result<Option<CheckFault>, Memory>
     ensures told { IfOk result (λ fault. fault ≡ least (violations tree.now)) }
 {

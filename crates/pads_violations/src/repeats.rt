@@ -9,7 +9,7 @@ ghost use Rattle.pads_violations.specs.OptionKinds.{has_kind, with_kind};
 
 use pads_ast::{ArrayOption, Label, Name, Word};
 use pads_declared::NameSet;
-use pads_rules::{CheckFault, fault_if, lesser};
+use pads_rules::{CheckFault, Rule, fault_if, lesser};
 use pads_value::Memory;
 use std::alloc::Global;
 use std::mem;
@@ -22,7 +22,7 @@ pub(crate) fn names_again(alloc: Global, names: &[&Name]) -> Result<Option<Check
     let mut best = None;
     for name in names {
         let again = met.add(name.text.as_slice())?;
-        best = lesser(best, fault_if(again, 4, name.at));
+        best = lesser(best, fault_if(again, Rule::NameAgain, name.at));
     }
     Ok(best)
 }
@@ -71,7 +71,7 @@ pub(crate) fn options_again(options: &[ArrayOption]) -> Option<CheckFault>
     let mut best = None;
     for option in options {
         let again = met.add(option);
-        best = lesser(best, fault_if(again, 4, option_place(option)));
+        best = lesser(best, fault_if(again, Rule::NameAgain, option_place(option)));
     }
     best
 }
@@ -105,7 +105,10 @@ pub(crate) fn spellings_again(alloc: Global, labels: &[Label]) -> Result<Option<
     let mut best = None;
     for label in labels {
         let again = add_spelling(&mut met, label)?;
-        best = lesser(best, fault_if(again, 15, spelling_place(label)));
+        best = lesser(
+            best,
+            fault_if(again, Rule::SpellingAgain, spelling_place(label)),
+        );
     }
     Ok(best)
 }

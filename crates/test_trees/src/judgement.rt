@@ -35,7 +35,8 @@ fn judgement_text(alloc: Global, said: &Judgement) -> Result<String, AllocError>
     let height = said.height;
     let mut text = format!(in alloc; "{sort}, height {height}")?;
     if let Some(CheckFault { at, rule }) = said.fault {
-        write!(text, ", rule {rule} at byte {at}")?;
+        let number = rule.number();
+        write!(text, ", rule {number} at byte {at}")?;
     }
     Ok(text)
 }

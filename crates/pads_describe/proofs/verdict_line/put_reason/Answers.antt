@@ -1,4 +1,5 @@
 use Rattle.std.proofs.Common.{◌++◌, ◌∙◌, ap, codes}
+use Rattle.pads_rules.specs.Rules.{number}
 use Rattle.pads_describe.specs.VerdictLines.{kind_words, with_number}
 use Rattle.pads_describe.proofs.JoinedWords.{two}
 use Rattle.pads_describe.proofs.verdict_line.put_reason.Goals as goal
@@ -19,6 +20,6 @@ returns-in-Syntax-clause-put c =
 pub returns-in-Rule-clause-put : goal.returns-in-Rule-clause-put
 returns-in-Rule-clause-put c =
     let line = c.args.line.now.items in
-    let rule = c.put_place-in-Rule.ensures.put ∙ ap (λ n. line ++ with_number (codes "description rule ") n) c.from.ensures in
+    let number_put = c.put_place-in-Rule.ensures.put ∙ ap (λ n. line ++ with_number (codes "description rule ") n) (c.from.ensures ∙ c.number.ensures.number) in
     rw c.in-Rule.is
-    (two line _ _ (with_number (codes "description rule ") c.in-Rule.rule) (with_number (codes " at byte ") c.in-Rule.at) rule c.put_place-in-Rule-2.ensures.put)
+    (two line _ _ (with_number (codes "description rule ") (number c.in-Rule.rule)) (with_number (codes " at byte ") c.in-Rule.at) number_put c.put_place-in-Rule-2.ensures.put)

@@ -1,6 +1,7 @@
 use Rattle.std.proofs.Common.{◌≤◌, ◌∙◌, length}
 use Rattle.std.proofs.lemmas.List.{length-map}
 use Rattle.pads_ast.specs.declared.decl.Case.{Case}
+use Rattle.pads_rules.specs.declared.rule.Rule.TheVariants as rule
 use Rattle.pads_rules.specs.Faults.{breaks}
 use Rattle.pads_rules.specs.PieceRules.{same_const, const_place}
 use Rattle.pads_piece_rules.specs.Told.{keys_of, again_told}
@@ -15,7 +16,7 @@ pub loop-case-preserved : goal.loop-case-preserved
 loop-case-preserved c = record {
   told =
       rw (c.lesser-best.ensures.least, c.fault_if.ensures.least, c.in_ok-again.ensures.again, c.const_place.ensures.place, c.loop-case.invariant.met)
-      (again-step same_const (λ key. breaks 13 (const_place key)) (λ (k : Case). k.key) c.args.cases.now c.loop-case.case-index c.case-item.result c.loop-case.best
+      (again-step same_const (λ key. breaks rule.CaseAgain (const_place key)) (λ (k : Case). k.key) c.args.cases.now c.loop-case.case-index c.case-item.result c.loop-case.best
       c.loop-case-test.true c.case-item.is ∙ c.loop-case.invariant.told);
   met = keys-more c.loop-case.met c.add.new.self c.args.cases.now c.loop-case.case-index c.case-item.result c.loop-case-test.true c.case-item.is c.in_ok-again.ensures.added c.loop-case.invariant.met;
 }
@@ -24,4 +25,4 @@ pub returns : goal.returns
 unfolding again_told
 returns c =
     let over : length (keys_of c.args.cases.now) ≤ c.loop-case.case-index = rw (length-map c.args.cases.now (λ (k : Case). k.key)) c.loop-case-test.false in
-    record { told = again-end same_const (λ key. breaks 13 (const_place key)) (keys_of c.args.cases.now) c.loop-case.case-index c.loop-case.best _ over c.loop-case.invariant.told }
+    record { told = again-end same_const (λ key. breaks rule.CaseAgain (const_place key)) (keys_of c.args.cases.now) c.loop-case.case-index c.loop-case.best _ over c.loop-case.invariant.told }

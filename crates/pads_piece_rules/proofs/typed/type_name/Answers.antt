@@ -1,4 +1,5 @@
-use Rattle.std.proofs.Common.{◌≡◌, ◌∙◌, sym, ap, ℕ, true, Some}
+use Rattle.std.proofs.Common.{◌≡◌, ◌∙◌, sym, ap, true, Some}
+use Rattle.pads_rules.specs.declared.rule.Rule.{Rule}
 use Rattle.pads_rules.specs.Faults.{breaks}
 use Rattle.pads_rules.specs.PieceRules.{meaning_at, is_undeclared}
 use Rattle.pads_piece_rules.specs.Told.{stands}
@@ -12,7 +13,7 @@ returns c =
     record {
       told =
           elim c.if-is_declared.branch [
-            | then-is_declared w ↦ ap (λ (rule : ℕ). Some (breaks rule c.args.of.now.name.at)) w.rule-is ∙ told-later (stands c.args.site.now) c.args.of.now nothing w.if-is_declared.ensures.declared
-            | else-is_declared w ↦ ap (λ (rule : ℕ). Some (breaks rule c.args.of.now.name.at)) w.rule-is ∙ told-unknown (stands c.args.site.now) c.args.of.now nothing w.if-is_declared.ensures.declared
+            | then-is_declared w ↦ ap (λ (rule : Rule). Some (breaks rule c.args.of.now.name.at)) w.rule-is ∙ told-later (stands c.args.site.now) c.args.of.now nothing w.if-is_declared.ensures.declared
+            | else-is_declared w ↦ ap (λ (rule : Rule). Some (breaks rule c.args.of.now.name.at)) w.rule-is ∙ told-unknown (stands c.args.site.now) c.args.of.now nothing w.if-is_declared.ensures.declared
           ];
     }

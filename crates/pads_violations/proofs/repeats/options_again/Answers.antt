@@ -1,4 +1,5 @@
 use Rattle.std.proofs.Common.{◌∙◌}
+use Rattle.pads_rules.specs.declared.rule.Rule.TheVariants as rule
 use Rattle.pads_rules.specs.DeclRules.{same_option, option_place}
 use Rattle.pads_rules.specs.Faults.{breaks}
 use Rattle.pads_violations.specs.Repeats.{options_again_told}
@@ -14,11 +15,11 @@ pub loop-option-preserved : goal.loop-option-preserved
 loop-option-preserved c = record {
   told =
       rw (c.lesser-best.ensures.least, c.fault_if.ensures.least, c.add-again.ensures.again, c.option_place.ensures.place, c.loop-option.invariant.met)
-      (plain-step same_option (λ option. breaks 4 (option_place option)) c.args.options.now c.loop-option.option-index c.option-item.result c.loop-option.best c.loop-option-test.true c.option-item.is
+      (plain-step same_option (λ option. breaks rule.NameAgain (option_place option)) c.args.options.now c.loop-option.option-index c.option-item.result c.loop-option.best c.loop-option-test.true c.option-item.is
       ∙ c.loop-option.invariant.told);
   met = kinds-more _ _ c.args.options.now c.loop-option.option-index c.option-item.result c.loop-option-test.true c.option-item.is c.add-again.ensures.met c.loop-option.invariant.met;
 }
 
 pub returns : goal.returns
 unfolding options_again_told
-returns c = record { told = again-end same_option (λ option. breaks 4 (option_place option)) c.args.options.now c.loop-option.option-index c.loop-option.best _ c.loop-option-test.false c.loop-option.invariant.told }
+returns c = record { told = again-end same_option (λ option. breaks rule.NameAgain (option_place option)) c.args.options.now c.loop-option.option-index c.loop-option.best _ c.loop-option-test.false c.loop-option.invariant.told }
