@@ -1,5 +1,5 @@
 -- The names of expressions, form by form.
-use Rattle.std.proofs.Common.{◌≡◌, ◌∙◌, sym, ap, ℕ, Bool, List, [], ◌∷◌, ◌++◌}
+use Rattle.std.proofs.Common.{◌≡◌, ◌∙◌, sym, ap, ℕ, Bool, [], ◌∷◌, ◌++◌}
 use Rattle.pads_ast.specs.declared.expr.Expr.{Expr, Expr-F, fold-roll-Expr, roll-Expr, map-Expr}
 use Rattle.pads_ast.specs.declared.expr.Expr.TheVariants as expr
 use Rattle.pads_ast.specs.declared.expr.UnaryOperator.{UnaryOperator}

@@ -1,5 +1,5 @@
 -- Each rule has a number of its own.
-use Rattle.std.proofs.Common.{◌≡◌, ◌∙◌, sym, ap, refl, ℕ, List, [], ◌∷◌, Some, slice_get}
+use Rattle.std.proofs.Common.{◌≡◌, ◌∙◌, sym, ap, refl, List, [], ◌∷◌, Some, slice_get}
 use Rattle.pads_rules.specs.declared.rule.Rule.{Rule}
 use Rattle.pads_rules.specs.declared.rule.Rule.TheVariants as rule
 use Rattle.pads_rules.specs.Rules.{number}
