@@ -47,9 +47,9 @@ pub trait Command {
         → (work command).is_over (rows ++ more) ≡ true };
 }
 
-/// Of so many frames at most the rows are made before they are given. The values of few rows fit where
-/// those of the rows before them stood, which is quicker than to take new memory for each row of a batch.
-const GROUP: usize = 8;
+/// Of so many frames at most the rows are made before they are given. The values of a few rows take the
+/// memory that the rows before them gave back, where those of a whole batch would take new memory.
+const GROUP: usize = 2;
 
 /// Puts what is to be written for these rows behind the output, and counts them behind the rows before
 /// them.
