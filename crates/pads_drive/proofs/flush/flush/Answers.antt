@@ -1,6 +1,4 @@
-use Rattle.std.proofs.Common.{◌≡◌, map, ap, ◌∙◌}
-use Rattle.pads_value.specs.Cuts.{cut_of_kept}
-use Rattle.pads_drive.specs.Outputs.{output_of, rows_of}
+use Rattle.std.proofs.Common.{ap, ◌∙◌}
 use Rattle.pads_drive.specs.declared.output.Output.{Output}
 use Rattle.pads_drive.proofs.Progress.{at-sink, flat_map-nothing, stops-over, stops-unwritten, stops-waiting}
 use Rattle.pads_drive.proofs.Halting.{halts-hand}
