@@ -33,7 +33,7 @@ use Rattle.pads_rules.specs.Pieces.{Site, sites, Used, Computed, OfParam, body_p
 use Rattle.pads_rules.specs.Resolving.{Base, Earlier, declared_as, of_declared, unless_base, meaning, meaning_sort, behind_popt, type_sort, is_precord_type, is_record_list_type, is_record_list_body, is_record_list, param_named, content_in, sort_in, declare, declared}
 use Rattle.pads_rules.specs.Sorts as rules
 use Rattle.pads_rules.specs.Texts.{same_text}
-use Rattle.pads_rules.specs.Trees.{args_of, params_of, is_precord, is_psource}
+use Rattle.pads_ast.specs.Trees.{args_of, params_of, is_precord, is_psource}
 use Rattle.pads_rules.specs.Violations.{violations}
 use Rattle.pads_rules.specs.declared.declared.Declared.{Declared}
 use Rattle.pads_rules.specs.declared.expr_sort.ExprSort.{ExprSort}

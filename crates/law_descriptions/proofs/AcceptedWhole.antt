@@ -18,10 +18,11 @@ use Rattle.pads_resolution.specs.Types.{param_of}
 use Rattle.pads_rules.specs.DeclRules.{same_name, same_option, option_place, options_of, same_spelling, labels_of, texts, part_count, scope_count, token_count, decl_name}
 use Rattle.pads_rules.specs.DeclRules as decl_rules
 use Rattle.pads_rules.specs.Faults.{breaks, again}
-use Rattle.pads_rules.specs.NameTokens.{names_in_type, names_in_param, names_in_body, names_in_decl, count_of_different}
+use Rattle.pads_ast.specs.NameTokens.{names_in_type, names_in_param, names_in_body, names_in_decl}
+use Rattle.pads_rules.specs.DifferentNames.{count_of_different}
 use Rattle.pads_rules.specs.Pieces.{Site, Piece, OfParam, body_pieces}
 use Rattle.pads_rules.specs.Resolving.{type_sort, param_named}
-use Rattle.pads_rules.specs.Trees.{params_of, param_names, inner_names}
+use Rattle.pads_ast.specs.Trees.{params_of, param_names, inner_names}
 use Rattle.pads_rules.specs.Violations.{violations}
 use Rattle.pads_rules.specs.declared.declared.Declared.{Declared}
 use Rattle.pads_rules.specs.declared.declared.Named.{Named as RuleNamed}
@@ -30,7 +31,8 @@ use Rattle.law_descriptions.specs.Expressions.{if_read}
 use Rattle.law_descriptions.specs.WellSorted.{Each, IfThere, IsParam, IsBody, IsDecl, params_scope}
 use Rattle.law_descriptions.proofs.Lists.{each-left, each-right}
 use Rattle.law_descriptions.specs.Described.{IsSpelled, AreSpelled}
-use Rattle.law_descriptions.specs.Known.{known_sorts, IsSpelledTree}
+use Rattle.law_descriptions.specs.Known.{known_sorts}
+use Rattle.law_descriptions.proofs.NoAtSign.{tree-spelled}
 use Rattle.law_descriptions.proofs.Again.{spellings-differ, counted-names}
 use Rattle.law_descriptions.proofs.Decls.{typedef-typed, array-typed, union-typed, used}
 use Rattle.law_descriptions.proofs.DescribedTypes.{few-parts}
@@ -157,8 +159,8 @@ module _ (tree : Ast) (none : violations tree ≡ []) (n : ℕ) (d : WrittenDecl
         let most = few-names in
         (ap (λ count. nat_le count 65535) long ∙ few-enough (length (params_of d.body)) (omega arith), each-param (params_of d.body) param-pieces, read-typed (role_of site) refl)
 
-pub tree-sorted : (tree : Ast) → violations tree ≡ [] → IsSpelledTree tree → (number : ℕ) (d : Decl) → slice_get (resolved tree).decls number ≡ Some d → IsDecl (resolved tree).decls (known_sorts tree) number d
+pub tree-sorted : (tree : Ast) → violations tree ≡ [] → (number : ℕ) (d : Decl) → slice_get (resolved tree).decls number ≡ Some d → IsDecl (resolved tree).decls (known_sorts tree) number d
 unfolding resolved
-tree-sorted tree none spelled number d there =
+tree-sorted tree none number d there =
     let written = site-back tree.decls number d there in
-    subst (IsDecl (made tree none) (sorts tree none) number) written.2 (decl-typed tree none number written.0 written.1 (spelled number written.0 written.1))
+    subst (IsDecl (made tree none) (sorts tree none) number) written.2 (decl-typed tree none number written.0 written.1 (tree-spelled tree number written.0 written.1))

@@ -13,9 +13,10 @@ use Rattle.pads_typed_tree.specs.declared.decl.Label.{Label}
 use Rattle.pads_resolution.specs.Bodies.{label_of as made_label}
 use Rattle.pads_rules.specs.DeclRules.{same_name, spelling_or, spelling_of, same_spelling}
 use Rattle.pads_rules.specs.Faults.{breaks, when, again}
-use Rattle.pads_rules.specs.NameTokens.{Names as Texts, with_name, with_names}
+use Rattle.pads_ast.specs.NameTokens.{Names as Texts}
+use Rattle.pads_rules.specs.DifferentNames.{with_name, with_names}
 use Rattle.pads_rules.specs.Texts.{same_text, is_among}
-use Rattle.pads_rules.specs.Trees.{points_of}
+use Rattle.pads_ast.specs.Trees.{points_of}
 use Rattle.pads_rules.specs.declared.fault.CheckFault.{CheckFault}
 use Rattle.pads_rules.specs.declared.rule.Rule.TheVariants as rule
 use Rattle.pads_rules.proofs.SameTexts.{is-same}

@@ -18,11 +18,11 @@ use Rattle.pads_resolution.specs.Scopes.{NameScope as Names, variable, names_aft
 use Rattle.pads_resolution.specs.Types.{computed_of, type_at}
 use Rattle.pads_resolution.specs.JudgedNames.{judging_scope}
 use Rattle.pads_rules.specs.Judging.{Scope as Judging, judged}
-use Rattle.pads_rules.specs.NameTokens.{names_in_expr, names_in_option, names_in_type, names_in_branch, names_in_part}
+use Rattle.pads_ast.specs.NameTokens.{names_in_expr, names_in_option, names_in_type, names_in_branch, names_in_part}
 use Rattle.pads_rules.specs.Pieces.{Site, Piece, Used, Computed, conditions, part_pieces, parts_pieces, names_after as rule_names_after, texts_of_parts, branch_pieces}
 use Rattle.pads_rules.specs.Resolving.{type_sort, branch_named}
 use Rattle.pads_rules.specs.Sorts.{agree}
-use Rattle.pads_rules.specs.Trees.{part_names}
+use Rattle.pads_ast.specs.Trees.{part_names}
 use Rattle.pads_rules.specs.DeclRules.{same_name}
 use Rattle.pads_rules.specs.Violations.{violations}
 use Rattle.pads_rules.specs.declared.declared.Declared.{Declared}

@@ -11,8 +11,9 @@ use Rattle.pads_resolution.specs.Resolution.{decl_at, resolved}
 use Rattle.pads_rules.specs.declared.rule.Rule.TheVariants as rule
 use Rattle.pads_rules.specs.DeclRules.{part_count, scope_count, token_count, decl_name}
 use Rattle.pads_rules.specs.Faults.{breaks}
-use Rattle.pads_rules.specs.NameTokens as tokens
-use Rattle.pads_rules.specs.NameTokens.{names_in_decl, count_of_different}
+use Rattle.pads_rules.specs.DifferentNames as tokens
+use Rattle.pads_ast.specs.NameTokens.{names_in_decl}
+use Rattle.pads_rules.specs.DifferentNames.{count_of_different}
 use Rattle.pads_rules.specs.Pieces.{sites}
 use Rattle.pads_rules.specs.Texts as texts
 use Rattle.pads_rules.specs.Texts.{same_text}

@@ -31,13 +31,13 @@ use Rattle.pads_resolution.specs.JudgedNames.{as_named, judging_scope}
 use Rattle.pads_rules.specs.DeclRules.{part_count}
 use Rattle.pads_rules.specs.Faults.{breaks, when, each}
 use Rattle.pads_rules.specs.Judging.{Scope as Judging, judged}
-use Rattle.pads_rules.specs.NameTokens.{names_in_expr, names_in_option, names_in_type, names_in_branch, names_in_array_option, names_in_constraint, names_in_union}
+use Rattle.pads_ast.specs.NameTokens.{names_in_expr, names_in_option, names_in_type, names_in_branch, names_in_array_option, names_in_constraint, names_in_union}
 use Rattle.pads_rules.specs.PieceRules.{is_num_or_text, const_sort, const_place}
 use Rattle.pads_rules.specs.Pieces.{Site, Piece, Used, Choice, conditions, sizes, option_pieces, constraint_pieces, union_body_pieces, array_pieces}
 use Rattle.pads_rules.specs.Resolving.{type_sort, content_in}
 use Rattle.pads_rules.specs.Sorts as rules
 use Rattle.pads_rules.specs.Sorts.{accepts, agree, is_num_form, is_text_form}
-use Rattle.pads_rules.specs.Trees.{listed, branches_of}
+use Rattle.pads_ast.specs.Trees.{listed, branches_of}
 use Rattle.pads_rules.specs.Violations.{violations}
 use Rattle.pads_rules.specs.declared.declared.Declared.{Declared}
 use Rattle.pads_rules.specs.declared.declared.Named.{Named as RuleNamed}

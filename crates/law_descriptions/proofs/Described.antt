@@ -32,7 +32,7 @@ use Rattle.pads_rules.specs.Members.{content_of}
 use Rattle.pads_rules.specs.Pieces.{Site, Piece, part_pieces, parts_pieces, names_after as rule_names_after, texts_of_parts, branch_pieces, union_body_pieces, body_pieces}
 use Rattle.pads_rules.specs.Resolving.{type_sort, named, branch_named, param_named, content_in, declared}
 use Rattle.pads_rules.specs.Texts.{same_text, is_among, sort_of}
-use Rattle.pads_rules.specs.Trees.{listed, params_of, named_part, branches_of}
+use Rattle.pads_ast.specs.Trees.{listed, params_of, named_part, branches_of}
 use Rattle.pads_rules.specs.Violations.{violations}
 use Rattle.pads_rules.specs.declared.declared.Content.{Content}
 use Rattle.pads_rules.specs.declared.declared.Content.TheVariants as content

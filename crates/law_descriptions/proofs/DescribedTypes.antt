@@ -31,7 +31,7 @@ use Rattle.pads_rules.specs.Resolving.{Meaning, Base, Earlier, Undeclared, meani
 use Rattle.pads_rules.specs.Sorts as rules
 use Rattle.pads_rules.specs.Sorts.{agree}
 use Rattle.pads_rules.specs.Texts.{same_text, sort_of}
-use Rattle.pads_rules.specs.Trees.{is_empty, args_of}
+use Rattle.pads_ast.specs.Trees.{is_empty, args_of}
 use Rattle.pads_rules.specs.Violations.{violations}
 use Rattle.pads_rules.specs.declared.declared.Declared.{Declared}
 use Rattle.pads_rules.specs.declared.declared.Named.{Named as RuleNamed}

@@ -45,12 +45,12 @@ use Rattle.pads_resolution.specs.Resolution.{role_of, params_scope, decl_at}
 use Rattle.pads_resolution.specs.Scopes.{NameScope as Names, known_in, hiding, names_after, fields_after, array_scope}
 use Rattle.pads_resolution.specs.Types.{arg_exprs, args, type_at, param_of}
 use Rattle.pads_rules.specs.Members.{member, element}
-use Rattle.pads_rules.specs.NameTokens.{names_in_step, names_in_form, names_in_expr, names_in_option, names_in_arg, names_in_type, names_in_param, names_in_branch, names_in_part, names_in_array_option, names_in_union, names_in_constraint, names_in_body, names_in_decl}
+use Rattle.pads_ast.specs.NameTokens.{names_in_step, names_in_form, names_in_expr, names_in_option, names_in_arg, names_in_type, names_in_param, names_in_branch, names_in_part, names_in_array_option, names_in_union, names_in_constraint, names_in_body, names_in_decl}
 use Rattle.pads_rules.specs.Pieces.{Site, earlier}
 use Rattle.pads_rules.specs.Sorts as rules
-use Rattle.pads_rules.specs.Trees.{args_of, params_of, listed, points_of}
+use Rattle.pads_ast.specs.Trees.{args_of, params_of, listed, points_of}
 use Rattle.pads_rules.specs.declared.declared.Declared.{Declared}
-use Rattle.pads_rules.proofs.ExprNames.{names_in_expr-roll}
+use Rattle.pads_ast.proofs.ExprNames.{names_in_expr-roll}
 use Rattle.pads_trans_expr.specs.Met.{in_expr, in_option, in_type, in_branch, in_part, in_where, in_struct, in_case, in_default, in_switch, in_union, in_array_option, in_array, in_constraint, in_typedef, in_body, in_read_body, in_decl}
 use Rattle.pads_trans_expr.specs.Names.{Name, at_sign, some_name, none_name}
 use Rattle.pads_trans_expr.proofs.MetRolls.{met-Number, met-Word, met-Truth, met-Name, met-Part, met-Branch, met-Index, met-Pis, met-Plen, met-Minus, met-Not, met-Binary, met-Pforall}

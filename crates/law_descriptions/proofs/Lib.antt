@@ -34,14 +34,6 @@ pub mod TypedOperators
 pub mod AcceptedTypes
 pub mod Uses
 pub mod AcceptedWhole
-pub mod SpelledDeclarations
-pub mod SpelledExpressions
-pub mod Keeps
-pub mod SpelledParts
-pub mod SpelledRefused
-pub mod SpelledTokens
-pub mod SpelledTypes
-pub mod SpelledWhole
 pub mod AcceptedLists
-pub mod SpelledLists
 pub mod WrittenTrees
+pub mod NoAtSign

@@ -18,7 +18,7 @@ use Rattle.pads_rules.specs.PieceRules.{is_source_shape, is_header_shape}
 use Rattle.pads_rules.specs.Pieces.{body_pieces}
 use Rattle.pads_rules.specs.Resolving.{is_record_list_body, param_named, sort_in}
 use Rattle.pads_rules.specs.Sorts as rules
-use Rattle.pads_rules.specs.Trees.{params_of, is_precord, is_psource}
+use Rattle.pads_ast.specs.Trees.{params_of, is_precord, is_psource}
 use Rattle.pads_rules.specs.Violations.{violations}
 use Rattle.pads_rules.specs.declared.declared.Declared.{Declared}
 use Rattle.pads_rules.specs.declared.rule.Rule.TheVariants as rule

@@ -20,7 +20,7 @@ use Rattle.pads_rules.specs.Faults.{breaks}
 use Rattle.pads_rules.specs.Pieces.{Site, sites, earlier}
 use Rattle.pads_rules.specs.Resolving.{declared}
 use Rattle.pads_rules.specs.Texts.{same_text}
-use Rattle.pads_rules.specs.Trees.{is_precord}
+use Rattle.pads_ast.specs.Trees.{is_precord}
 use Rattle.pads_rules.specs.Violations.{violations}
 use Rattle.pads_rules.specs.declared.declared.Declared.{Declared}
 use Rattle.pads_rules.specs.declared.rule.Rule.TheVariants as rule

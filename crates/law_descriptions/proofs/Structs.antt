@@ -21,10 +21,10 @@ use Rattle.pads_resolution.specs.Scopes.{NameScope as Names, field, fields_after
 use Rattle.pads_resolution.specs.Types.{computed_of}
 use Rattle.pads_resolution.specs.JudgedNames.{as_named}
 use Rattle.pads_rules.specs.DeclRules.{part_count}
-use Rattle.pads_rules.specs.NameTokens.{names_in_option, names_in_part}
+use Rattle.pads_ast.specs.NameTokens.{names_in_option, names_in_part}
 use Rattle.pads_rules.specs.Pieces.{Site, Piece, conditions, part_pieces, parts_pieces, names_after as rule_names_after, names_after_all, texts_of_parts, struct_pieces, scope_of}
 use Rattle.pads_rules.specs.Resolving.{type_sort, named}
-use Rattle.pads_rules.specs.Trees.{named_part, part_names}
+use Rattle.pads_ast.specs.Trees.{named_part, part_names}
 use Rattle.pads_rules.specs.Violations.{violations}
 use Rattle.pads_rules.specs.declared.declared.Declared.{Declared}
 use Rattle.pads_rules.specs.declared.declared.Named.{Named as RuleNamed}

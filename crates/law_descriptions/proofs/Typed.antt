@@ -24,11 +24,11 @@ use Rattle.pads_rules.specs.Faults.{breaks}
 use Rattle.pads_rules.specs.Judging as judging
 use Rattle.pads_rules.specs.Judging.{Judged, judged, judge_form, too_high, takes, wrong_sort, no_truth, unary_takes, is_text_or_array}
 use Rattle.pads_rules.specs.Members.{member}
-use Rattle.pads_rules.specs.NameTokens.{names_in_expr, names_in_form, names_in_step, Names as Texts}
+use Rattle.pads_ast.specs.NameTokens.{names_in_expr, names_in_form, names_in_step, Names as Texts}
 use Rattle.pads_rules.specs.Sorts as rules
 use Rattle.pads_rules.specs.Sorts.{is_num_form, is_truth_form, is_array_form}
 use Rattle.pads_rules.specs.Texts.{same_text}
-use Rattle.pads_rules.specs.Trees.{points_of}
+use Rattle.pads_ast.specs.Trees.{points_of}
 use Rattle.pads_rules.specs.declared.declared.Declared.{Declared}
 use Rattle.pads_rules.specs.declared.expr_sort.ExprSort.{ExprSort}
 use Rattle.pads_rules.specs.declared.expr_sort.ExprSort.TheVariants as expr_sort
@@ -41,7 +41,7 @@ use Rattle.law_descriptions.specs.WellSorted.{Each}
 use Rattle.law_descriptions.proofs.Lists.{each-left, each-right}
 use Rattle.law_descriptions.specs.Described.{IsSpelled, AreSpelled, IsProper, IsKnown, Describes, Sees}
 use Rattle.pads_rules.proofs.Faultless.{none-left, none-right, not-one, is-taken, is-truth, own-sort, inner-faults}
-use Rattle.pads_rules.proofs.ExprNames.{names_in_expr-roll}
+use Rattle.pads_ast.proofs.ExprNames.{names_in_expr-roll}
 use Rattle.law_descriptions.proofs.Forms.{sort-Number, sort-Word, sort-Truth, sort-Pforall, num-form, truth-form}
 use Rattle.law_descriptions.proofs.WrittenTrees.{InLink, InStep, Inside, all-layers}
 use Rattle.law_descriptions.proofs.TypedOperators as operators

@@ -28,13 +28,13 @@ use Rattle.pads_resolution.specs.Types.{is_end, base_type_of, declared_type, typ
 use Rattle.pads_resolution.specs.JudgedNames.{judging_scope}
 use Rattle.pads_rules.specs.Faults.{breaks, when, each}
 use Rattle.pads_rules.specs.Judging.{Judged, judged, wrong_sort, no_truth}
-use Rattle.pads_rules.specs.NameTokens.{names_in_expr, names_in_arg}
+use Rattle.pads_ast.specs.NameTokens.{names_in_expr, names_in_arg}
 use Rattle.pads_rules.specs.PieceRules.{takes_so_many, is_count_of, params_in, takes_end, agrees_with, argument_sort, argument_faults, is_bare, is_base, is_param_base}
 use Rattle.pads_rules.specs.Pieces.{Site, Used, OfParam}
 use Rattle.pads_rules.specs.Resolving.{Meaning, Base, Earlier, meaning, meaning_sort, behind_popt, type_sort, plain_meaning, declare}
 use Rattle.pads_rules.specs.Sorts as rules
 use Rattle.pads_rules.specs.Sorts.{accepts, agree, is_num_form, is_text_form, is_truth_form}
-use Rattle.pads_rules.specs.Trees.{is_empty, args_of, params_of}
+use Rattle.pads_ast.specs.Trees.{is_empty, args_of, params_of}
 use Rattle.pads_rules.specs.Violations.{violations}
 use Rattle.pads_rules.specs.declared.declared.Declared.{Declared}
 use Rattle.pads_rules.specs.declared.expr_sort.ExprSort.{ExprSort}

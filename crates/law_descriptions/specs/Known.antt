@@ -3,7 +3,7 @@ use Rattle.std.specs.Prelude.{◌≡◌, ℕ, List, map, Some, slice_get}
 use Rattle.pads_ast.specs.declared.decl.Ast.{Ast}
 use Rattle.pads_ast.specs.declared.decl.Decl.{Decl}
 use Rattle.pads_resolution.specs.Expressions.{sort_known}
-use Rattle.pads_rules.specs.NameTokens.{names_in_decl}
+use Rattle.pads_ast.specs.NameTokens.{names_in_decl}
 use Rattle.pads_rules.specs.Resolving.{declared}
 use Rattle.pads_rules.specs.declared.sort.Sort.{Sort}
 use Rattle.law_descriptions.specs.Described.{AreSpelled}

@@ -9,7 +9,7 @@ ghost use Rattle.pads_resolution.specs.Expressions.{expression};
 ghost use Rattle.pads_resolution.specs.Resolution.{resolved};
 ghost use Rattle.pads_resolution.specs.Scopes.{NameScope as Names};
 ghost use Rattle.pads_rules.specs.Judging.{judged};
-ghost use Rattle.pads_rules.specs.NameTokens.{names_in_expr};
+ghost use Rattle.pads_ast.specs.NameTokens.{names_in_expr};
 ghost use Rattle.pads_rules.specs.Resolving.{declared};
 ghost use Rattle.pads_rules.specs.Violations.{violations};
 ghost use Rattle.pads_rules.specs.declared.declared.Declared.{Declared};
@@ -21,7 +21,7 @@ ghost use Rattle.law_descriptions.specs.Expressions.{SortScope};
 ghost use Rattle.law_descriptions.specs.WellSorted.{AreSorts, IsDecl, WellSorted};
 ghost use Rattle.pads_resolution.specs.JudgedNames.{judging_scope};
 ghost use Rattle.law_descriptions.specs.Described.{AreSpelled, Describes, Sees, Typed};
-ghost use Rattle.law_descriptions.specs.Known.{known_sorts, IsSpelledTree};
+ghost use Rattle.law_descriptions.specs.Known.{known_sorts};
 
 /// The law of expressions, among declarations that are what the rules know of them and names that stand for what
 /// has their sorts: an expression that breaks no rule, and in which no name is spelled `@`, resolves to one of the
@@ -44,23 +44,22 @@ pub fn accepted_declarations_are_described()
 {}
 
 /// The law of well-sorted declarations: those that a tree without violations resolves to have the sorts that the
-/// rules know, and each is well-sorted, where no name is spelled `@`.
+/// rules know, and each is well-sorted.
 pub fn accepted_declarations_are_sorted()
     ensures sorts { (tree : Ast) → violations tree ≡ [] → AreSorts (known_sorts tree) (resolved tree).decls }
-    ensures sorted { (tree : Ast) → violations tree ≡ [] → IsSpelledTree tree → (number : ℕ) (d : Decl) → slice_get (resolved tree).decls number ≡ Some d
+    ensures sorted { (tree : Ast) → violations tree ≡ [] → (number : ℕ) (d : Decl) → slice_get (resolved tree).decls number ≡ Some d
         → IsDecl (resolved tree).decls (known_sorts tree) number d }
 {}
 
-/// The law of descriptions: a tree without violations resolves to a well-sorted description, where no name is spelled
-/// `@`.
+/// The law of descriptions: a tree without violations resolves to a well-sorted description.
 pub fn accepted_descriptions_are_sorted()
-    ensures sorted { (tree : Ast) → violations tree ≡ [] → IsSpelledTree tree → WellSorted (resolved tree) }
+    ensures sorted { (tree : Ast) → violations tree ≡ [] → WellSorted (resolved tree) }
 {}
 
-/// The law of modules: in each coding the module of a tree without violations in which no name is spelled `@` is well
-/// formed, so that it is never refused, well-sorted and plain.
+/// The law of modules: in each coding the module of a tree without violations is well formed, so that it is never
+/// refused, well-sorted and plain.
 pub fn accepted_modules_are_formed()
-    ensures formed { (tree : Ast) (ambient : Coding) → violations tree ≡ [] → IsSpelledTree tree → is_module (module_of (resolved tree) ambient) ≡ true }
-    ensures sorted { (tree : Ast) (ambient : Coding) → violations tree ≡ [] → IsSpelledTree tree → Sorted (module_of (resolved tree) ambient).decls }
-    ensures plain { (tree : Ast) (ambient : Coding) → violations tree ≡ [] → IsSpelledTree tree → Plain (module_of (resolved tree) ambient).decls }
+    ensures formed { (tree : Ast) (ambient : Coding) → violations tree ≡ [] → is_module (module_of (resolved tree) ambient) ≡ true }
+    ensures sorted { (tree : Ast) (ambient : Coding) → violations tree ≡ [] → Sorted (module_of (resolved tree) ambient).decls }
+    ensures plain { (tree : Ast) (ambient : Coding) → violations tree ≡ [] → Plain (module_of (resolved tree) ambient).decls }
 {}

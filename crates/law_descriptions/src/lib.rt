@@ -4,9 +4,8 @@
 //! declarations that are what the rules know of them: those of a tree without violations are. Such a tree resolves to
 //! a well-sorted description (`accepted`), and the module of one is well formed, well-sorted and plain (`well_sorted`).
 //!
-//! A name is a token that begins with a letter or `_`. The grammar takes the names of a tree from such tokens and makes
-//! none of its own. So none is spelled `@`, the name that an array's elements so far have, and a whole in its `Pwhere`
-//! (`spelled`).
+//! Each name of a tree is spelled as a name: it begins with a letter or `_`. So none is spelled `@`, the name that an
+//! array's elements so far have, and a whole in its `Pwhere` (`spelled`).
 #![tactic(auto)]
 
 mod accepted;

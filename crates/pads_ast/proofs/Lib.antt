@@ -1,0 +1,2 @@
+pub mod ExprNames
+pub mod SameTrees

@@ -1,2 +1,4 @@
 pub mod Numbers
 pub mod Chains
+pub mod Trees
+pub mod NameTokens

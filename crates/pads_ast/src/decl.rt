@@ -1,3 +1,8 @@
+ghost use Rattle.std.specs.Prelude.{◌≡◌, true};
+ghost use Rattle.std.specs.List.{list_all};
+ghost use Rattle.pads_ast.specs.NameTokens.{names_in};
+ghost use Rattle.pads_lex.specs.Spelling.{is_name};
+
 use crate::{Branch, Const, Expr, Literal, Name, Params, Type, Word};
 use pads_value::Items;
 
@@ -127,6 +132,8 @@ pub struct Ast {
     pub decls: Items<Decl>,
     /// The end of the text.
     pub end: u64,
+    /// Each name in it is spelled as a name.
+    pub ghost spelled: { list_all is_name (names_in decls) ≡ true },
 }
 
 /// The tree of a filter.

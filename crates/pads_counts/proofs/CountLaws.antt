@@ -5,7 +5,7 @@ use Rattle.pads_ast.specs.declared.decl.DeclBody.{DeclBody}
 use Rattle.pads_ast.specs.declared.decl.DeclBody.TheVariants as decl
 use Rattle.pads_ast.specs.declared.name.Name.{Name}
 use Rattle.pads_rules.specs.DeclRules.{scope_count, texts, one_if}
-use Rattle.pads_rules.specs.Trees.{is_empty, param_names, inner_names, branches_of}
+use Rattle.pads_ast.specs.Trees.{is_empty, param_names, inner_names, branches_of}
 use Rattle.pads_counts.specs.Met.{met}
 use Rattle.pads_counts.specs.Counted.{beside_params, one_more}
 use Rattle.pads_declared.proofs.NumberLemmas.{first-less}

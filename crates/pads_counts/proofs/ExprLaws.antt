@@ -7,8 +7,8 @@ use Rattle.pads_ast.specs.declared.expr.Link.{Link}
 use Rattle.pads_ast.specs.declared.expr.Step.{Step}
 use Rattle.pads_ast.specs.declared.expr.Step.TheVariants as step_form
 use Rattle.pads_ast.specs.declared.name.Word.{Word}
-use Rattle.pads_rules.specs.NameTokens.{Names, names_in_expr, names_in_step}
-use Rattle.pads_rules.proofs.ExprNames.{names_as, names_in-Number, names_in-Word, names_in-Truth}
+use Rattle.pads_ast.specs.NameTokens.{Names, names_in_expr, names_in_step}
+use Rattle.pads_ast.proofs.ExprNames.{names_as, names_in-Number, names_in-Word, names_in-Truth}
 use Rattle.pads_counts.specs.Met.{names_behind}
 
 in-links : (links : List (Link Expr)) →

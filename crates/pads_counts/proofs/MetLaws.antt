@@ -5,7 +5,8 @@ use Rattle.std.proofs.lemmas.Result.{on_ok_weaker}
 use Rattle.std.proofs.lemmas.List.Concat.{flat_map-append, flat_map_single}
 use Rattle.pads_ast.specs.declared.name.Name.{Name}
 use Rattle.pads_rules.specs.DeclRules.{texts}
-use Rattle.pads_rules.specs.NameTokens.{Names, with_name, with_names}
+use Rattle.pads_ast.specs.NameTokens.{Names}
+use Rattle.pads_rules.specs.DifferentNames.{with_name, with_names}
 use Rattle.pads_counts.specs.Met.{met_name, met}
 use Rattle.pads_declared.proofs.Lists.{taken}
 

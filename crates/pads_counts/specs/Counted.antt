@@ -3,8 +3,8 @@ use Rattle.std.specs.Prelude.{not, Bool, false, List, [], ◌∷◌, flat_map, c
 use Rattle.pads_ast.specs.declared.decl.DeclBody.{DeclBody}
 use Rattle.pads_ast.specs.declared.decl.DeclBody.TheVariants as decl
 use Rattle.pads_rules.specs.DeclRules.{texts, variable_names}
-use Rattle.pads_rules.specs.NameTokens.{Names}
-use Rattle.pads_rules.specs.Trees.{is_empty, part_names, branches_of}
+use Rattle.pads_ast.specs.NameTokens.{Names}
+use Rattle.pads_ast.specs.Trees.{is_empty, part_names, branches_of}
 
 -- Those beside the parameters: a struct's parts, an array's elements and their number, a typedef's variable.
 abbrev pub beside_params : DeclBody → Names

@@ -3,7 +3,8 @@ use Rattle.std.specs.Prelude.{ℕ, List, [], ◌∷◌}
 use Rattle.pads_ast.specs.declared.expr.Expr.{Expr}
 use Rattle.pads_ast.specs.declared.expr.Step.{Step}
 use Rattle.pads_ast.specs.declared.expr.Step.TheVariants as step_form
-use Rattle.pads_rules.specs.NameTokens.{Names, with_name, with_names, names_in_expr}
+use Rattle.pads_ast.specs.NameTokens.{Names, names_in_expr}
+use Rattle.pads_rules.specs.DifferentNames.{with_name, with_names}
 
 -- The different names so far, behind one more.
 unfoldable pub met_name : Names → List ℕ → Names

@@ -4,8 +4,8 @@
 ghost use Rattle.std.specs.Prelude.{◌≡◌, ◌++◌, map, flat_map, OnOk};
 ghost use Rattle.pads_ast.specs.declared.decl.DeclBody.TheVariants as decl;
 ghost use Rattle.pads_ast.specs.declared.decl.UnionBody.TheVariants as union;
-ghost use Rattle.pads_rules.specs.NameTokens as tokens;
-ghost use Rattle.pads_rules.specs.Trees.{listed};
+ghost use Rattle.pads_ast.specs.NameTokens as tokens;
+ghost use Rattle.pads_ast.specs.Trees.{listed};
 ghost use Rattle.pads_counts.specs.Met.{met};
 
 use crate::in_expr::{meet_expr, meet_name};

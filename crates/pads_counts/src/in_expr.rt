@@ -1,7 +1,7 @@
 //! The names of expressions.
 
 ghost use Rattle.std.specs.Prelude.{◌≡◌, flat_map, OnOk};
-ghost use Rattle.pads_rules.specs.NameTokens as tokens;
+ghost use Rattle.pads_ast.specs.NameTokens as tokens;
 ghost use Rattle.pads_counts.specs.Met.{met, met_name, names_behind};
 
 use pads_ast::{Expr, Link, Name, Step};

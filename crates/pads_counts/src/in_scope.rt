@@ -3,7 +3,7 @@
 
 ghost use Rattle.std.specs.Prelude.{◌≡◌, ◌+◌, ◌++◌, ◌∷◌, [], length, map, flat_map, codes, nat_lt, not, IfOk, OnOk};
 ghost use Rattle.pads_rules.specs.DeclRules as rules;
-ghost use Rattle.pads_rules.specs.Trees as trees;
+ghost use Rattle.pads_ast.specs.Trees as trees;
 ghost use Rattle.pads_counts.specs.Met.{met};
 ghost use Rattle.pads_counts.specs.Counted.{beside_params, one_more};
 

@@ -3,7 +3,7 @@
 ghost use Rattle.std.specs.Prelude.{◌≡◌, length};
 ghost use Rattle.pads_ast.specs.declared.decl.UnionBody.TheVariants as union;
 ghost use Rattle.pads_rules.specs.DeclRules as rules;
-ghost use Rattle.pads_rules.specs.Trees as trees;
+ghost use Rattle.pads_ast.specs.Trees as trees;
 
 use pads_ast::{DeclBody, Switch, UnionBody};
 

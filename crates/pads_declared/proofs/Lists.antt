@@ -9,7 +9,7 @@ use Rattle.pads_rules.specs.declared.declared.Declared.{Declared}
 use Rattle.pads_rules.specs.declared.declared.Named.{Named}
 use Rattle.pads_rules.specs.Pieces.{names_after, names_after_all}
 use Rattle.pads_rules.specs.Resolving.{declare, declared_from, named}
-use Rattle.pads_rules.specs.Trees.{named_part}
+use Rattle.pads_ast.specs.Trees.{named_part}
 
 -- one element more
 pub taken : {X : Type 0} (xs : List X) (i : ℕ) (x : X) → i < length xs → x ≡ get_or xs i x → take (i + 1) xs ≡ take i xs ++ x ∷ []

@@ -6,7 +6,7 @@ use Rattle.std.specs.declared.vec.Vec.{Vec}
 use Rattle.std.specs.declared.alloc.Global.{Global}
 use lib.Pointwise.{pointwise}
 use Rattle.pads_value.specs.Names.{texts}
-use Rattle.pads_rules.specs.NameTokens.{with_name}
+use Rattle.pads_rules.specs.DifferentNames.{with_name}
 use Rattle.pads_rules.specs.Texts.{same_text, is_among}
 
 abbrev Held : Type 0

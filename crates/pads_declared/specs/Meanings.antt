@@ -5,7 +5,7 @@ use Rattle.pads_ast.specs.declared.name.Name.{Name}
 use Rattle.pads_rules.specs.declared.declared.Named.{Named}
 use Rattle.pads_rules.specs.declared.expr_sort.ExprSort.{ExprSort}
 use Rattle.pads_rules.specs.Resolving as resolving
-use Rattle.pads_rules.specs.Trees.{is_empty, written}
+use Rattle.pads_ast.specs.Trees.{is_empty, written}
 use Rattle.pads_declared.specs.declared.types.Meaning.{Meaning}
 use Rattle.pads_declared.specs.declared.types.Meaning.TheVariants as meaning
 

@@ -1,5 +1,5 @@
 ghost use Rattle.std.specs.Prelude.{◌≡◌, [], length, IfOk, OnOk, OnErr};
-ghost use Rattle.pads_rules.specs.NameTokens.{with_name};
+ghost use Rattle.pads_rules.specs.DifferentNames.{with_name};
 ghost use Rattle.pads_rules.specs.Texts.{is_among};
 
 use indexmap::IndexSet;

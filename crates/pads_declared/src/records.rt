@@ -2,7 +2,7 @@
 
 ghost use Rattle.std.specs.Prelude.{◌≡◌};
 ghost use Rattle.pads_rules.specs.Resolving as resolving;
-ghost use Rattle.pads_rules.specs.Trees as trees;
+ghost use Rattle.pads_ast.specs.Trees as trees;
 ghost use Rattle.pads_declared.specs.Meanings.{meant, is_bare_array};
 
 use crate::EarlierTypes;

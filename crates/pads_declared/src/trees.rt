@@ -1,7 +1,7 @@
 //! What the declarations of a tree have in common.
 
 ghost use Rattle.std.specs.Prelude.{◌≡◌, map, IfOk};
-ghost use Rattle.pads_rules.specs.Trees as trees;
+ghost use Rattle.pads_ast.specs.Trees as trees;
 ghost use Rattle.pads_ast.specs.declared.decl.UnionBody.TheVariants as union;
 
 use pads_ast::{Branch, Case, DeclBody, Name, Param, Params, Switch, UnionBody};

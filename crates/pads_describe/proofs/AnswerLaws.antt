@@ -8,10 +8,8 @@ use Rattle.pads_rules.specs.declared.fault.CheckFault.{CheckFault}
 use Rattle.pads_rules.specs.declared.rule.Rule.{Rule}
 use Rattle.pads_rules.specs.Faults.{breaks, least}
 use Rattle.pads_rules.specs.Violations.{violations}
-use Rattle.pads_syntax.specs.Trees.{IsTree, IsTreeFault, StandsAt, description}
-use Rattle.pads_syntax.proofs.TreeLaws as trees
-use Rattle.pads_syntax.specs.Declarations.{decls}
-use Rattle.pads_syntax.proofs.DeclDecides.{decls_ok}
+use Rattle.pads_syntax.specs.Trees.{IsTree, IsTreeFault, StandsAt}
+use Rattle.pads_syntax.proofs.Trees as trees
 use Rattle.pads_describe.specs.declared.verdict.Verdict.{Verdict}
 use Rattle.pads_describe.specs.declared.verdict.Verdict.TheVariants as verdict
 use Rattle.pads_code.specs.declared.Coding.{Coding}
@@ -27,7 +25,7 @@ one_list text ts us h k = one_cut text ts us h.cut k.cut
 pub one_tree : (text : List ℕ) (one other : Ast) → HasTree text one → HasTree text other → one ≡ other
 one_tree text one other h k =
     let same = one_list text k.tokens h.tokens k.has_tokens h.has_tokens in
-    trees.one decls description decls_ok h.tokens one other h.derived (subst (λ (ts : Tokens). IsTree other ts) same k.derived)
+    trees.one_description h.tokens one other h.derived (subst (λ (ts : Tokens). IsTree other ts) same k.derived)
 
 same_place : (ts : Tokens) (token at place : ℕ) → StandsAt ts token at → StandsAt ts token place → at ≡ place
 same_place ts token at place h k = let e : Some at ≡ Some place = sym h ∙ k in cc
@@ -35,7 +33,7 @@ same_place ts token at place h k = let e : Some at ≡ Some place = sym h ∙ k 
 one_syntax : (text : List ℕ) (token at other place : ℕ) → IsSyntax text token at → IsSyntax text other place → (token ≡ other) × (at ≡ place)
 one_syntax text token at other place h k =
     let same = one_list text k.tokens h.tokens k.has_tokens h.has_tokens in
-    let number = trees.one_fault decls description decls_ok h.tokens token other h.fault (subst (λ (ts : Tokens). IsTreeFault ts other) same k.fault) in
+    let number = trees.one_tree_fault h.tokens token other h.fault (subst (λ (ts : Tokens). IsTreeFault ts other) same k.fault) in
     let there = subst (λ (ts : Tokens). StandsAt ts other place) same k.place in
     (number, same_place h.tokens token at place h.place (subst (λ n. StandsAt h.tokens n place) (sym number) there))
 
@@ -56,7 +54,7 @@ no_tokens_break text ts kind at h k = no_cut_breaks text ts kind at h.cut k.brok
 no_tree_faults : (text : List ℕ) (tree : Ast) (token at : ℕ) → HasTree text tree → IsSyntax text token at → ⊥
 no_tree_faults text tree token at h k =
     let same = one_list text k.tokens h.tokens k.has_tokens h.has_tokens in
-    trees.not_both decls description decls_ok h.tokens tree token h.derived (subst (λ (ts : Tokens). IsTreeFault ts token) same k.fault)
+    trees.no_tree_and_fault h.tokens tree token h.derived (subst (λ (ts : Tokens). IsTreeFault ts token) same k.fault)
 
 same_lexical : (one other : LexKind) (at place : ℕ) → one ≡ other → at ≡ place → verdict.Lexical one at ≡ verdict.Lexical other place
 same_lexical one other at place e f = cc

@@ -9,7 +9,3 @@ use Rattle.pads_resolution.specs.Resolution.{resolved}
 pub record Accepts (tree : Ast) (description : Description) : Type 0 where
   pub clean : violations tree ≡ []
   pub resolves : description ≡ resolved tree
-
--- A description is what some accepted tree resolves to.
-abbrev pub HasAcceptedTree : Description → Type 0
-HasAcceptedTree description = (tree : Ast) × Accepts tree description

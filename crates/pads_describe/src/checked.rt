@@ -1,13 +1,21 @@
 //! What the check of a tree gives.
 
-ghost use Rattle.pads_describe.specs.Checked.{HasAcceptedTree};
+ghost use Rattle.std.specs.Prelude.{◌≡◌, []};
+ghost use Rattle.std.specs.Coded.{Coded-set};
+ghost use Rattle.std.proofs.Props.{props};
+ghost use Rattle.pads_resolution.specs.Resolution.{resolved};
+ghost use Rattle.pads_rules.specs.Violations.{violations};
 
+use pads_ast::Ast;
 use pads_typed_tree::Description;
 
-/// The resolved tree of an accepted description.
+/// An accepted tree, and what it resolves to.
 #[derive(Debug, Drop)]
-pub struct Checked {
+pub struct Checked<'a> {
+    pub tree: &'a Ast,
     pub description: Description,
-    /// It is what a tree without violations resolves to.
-    pub ghost accepted: { ∥ HasAcceptedTree description ∥₁ },
+    /// The tree breaks no rule.
+    pub ghost clean: { violations tree.now ≡ [] } by { Prim.hlevel props },
+    /// The description is what the tree resolves to.
+    pub ghost resolves: { description ≡ resolved tree.now } by { Coded-set description-code description (resolved tree.now) },
 }

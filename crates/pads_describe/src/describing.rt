@@ -10,11 +10,11 @@ ghost use Rattle.pads_calc.specs.Modules.{contents};
 
 use crate::reading::tree_in;
 use crate::text_check::checked;
+use crate::translating::translate;
 use crate::verdict::Verdict;
 use pads_calc::Module;
 use pads_code::Coding;
-use pads_trans::translate;
-use pads_value::Refusal;
+use pads_value::{Memory, Refusal};
 use std::alloc::Global;
 
 /// The module of an accepted text whose data is in this coding, well-sorted and plain, or why it is refused. Every
@@ -27,9 +27,8 @@ pub fn describe(alloc: Global, text: &[u8], coding: Coding) -> Result<Module, Re
 {
     let tree = tree_in(alloc, text)?;
     let checked = checked(alloc, text, &tree)?;
-    match translate(alloc, &checked.description, coding) {
+    match translate(alloc, &checked, coding) {
         Ok(made) => Ok(made),
-        Err(Refusal::Fault(_)) => unreachable!(),
-        Err(Refusal::Memory) => Err(Refusal::Memory),
+        Err(Memory) => Err(Refusal::Memory),
     }
 }

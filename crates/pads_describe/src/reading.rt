@@ -1,7 +1,7 @@
 //! From a text to its tree.
 
 ghost use Rattle.std.specs.Prelude.{◌≤◌, IfOk, length};
-ghost use Rattle.pads_lex.specs.Answers.{EndsLast};
+ghost use Rattle.pads_lex.specs.Answers.{EndsLast, HasSpelledNames};
 ghost use Rattle.pads_value.specs.Refusals.{OnFault};
 ghost use Rattle.pads_describe.specs.Trees.{HasTokens, HasTree, longest};
 ghost use Rattle.pads_describe.specs.Verdicts.{IsRefused};
@@ -20,6 +20,7 @@ const LONGEST: usize = 1_048_576;
 fn tokens_in(alloc: Global, text: &[u8]) -> Result<Tokens, Refusal<Verdict>>
     ensures tokens { IfOk result (HasTokens text.now) }
     ensures ends { IfOk result EndsLast }
+    ensures names { IfOk result HasSpelledNames }
     ensures refused { OnFault result (IsRefused text.now) }
 {
     if text.len() > LONGEST {
@@ -39,6 +40,7 @@ fn tokens_in(alloc: Global, text: &[u8]) -> Result<Tokens, Refusal<Verdict>>
 fn tree_of(alloc: Global, text: &[u8], tokens: &Tokens) -> Result<Ast, Refusal<Verdict>>
     requires tokens { HasTokens text.now tokens.now }
     requires ends { EndsLast tokens.now }
+    requires names { HasSpelledNames tokens.now }
     ensures tree { IfOk result (HasTree text.now) }
     ensures refused { OnFault result (IsRefused text.now) }
 {

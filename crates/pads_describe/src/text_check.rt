@@ -16,7 +16,11 @@ use pads_value::Refusal;
 use std::alloc::Global;
 
 /// The tree of a text with its names resolved, where it keeps all rules.
-pub(crate) fn checked(alloc: Global, text: &[u8], tree: &Ast) -> Result<Checked, Refusal<Verdict>>
+pub(crate) fn checked<'a>(
+    alloc: Global,
+    text: &[u8],
+    tree: &'a Ast,
+) -> Result<Checked<'a>, Refusal<Verdict>>
     requires tree { HasTree text.now tree.now }
     ensures accepted { IfOk result (λ checked. IsAccepted text.now tree.now) }
     ensures resolved { IfOk result (λ checked. checked.description ≡ resolved tree.now) }

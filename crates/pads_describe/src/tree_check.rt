@@ -15,16 +15,18 @@ use pads_violations::first_violation;
 use std::alloc::Global;
 
 /// What a tree without violations resolves to.
-fn accepted(alloc: Global, tree: &Ast) -> Result<Checked, Memory>
+fn accepted<'a>(alloc: Global, tree: &'a Ast) -> Result<Checked<'a>, Memory>
     requires clean { violations tree.now ≡ [] }
+    ensures tree { IfOk result (λ checked. checked.tree.now ≡ tree.now) }
     ensures accepted { IfOk result (λ checked. Accepts tree.now checked.description) }
 {
     let description = resolve(alloc, tree)?;
-    Ok(Checked { description })
+    Ok(Checked { tree, description })
 }
 
 /// The resolved tree of a description that keeps every rule, or the first violation by place, then by the rule's number.
-pub fn check(alloc: Global, tree: &Ast) -> Result<Checked, Refusal<CheckFault>>
+pub fn check<'a>(alloc: Global, tree: &'a Ast) -> Result<Checked<'a>, Refusal<CheckFault>>
+    ensures tree { IfOk result (λ checked. checked.tree.now ≡ tree.now) }
     ensures accepted { IfOk result (λ checked. Accepts tree.now checked.description) }
     ensures refused { OnFault result (λ fault. least (violations tree.now) ≡ Some fault) }
 {

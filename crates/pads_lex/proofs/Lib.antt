@@ -14,3 +14,4 @@ pub mod ReadLaws
 pub mod FaultLaws
 pub mod TokensLemmas
 pub mod CutLaws
+pub mod NameLaws

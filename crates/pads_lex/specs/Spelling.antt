@@ -4,7 +4,7 @@
 -- that keyword. A number is `0`, or a digit from 1 to 9 and then digits, or `0x` and at least one digit of base 16.
 -- A character between two single quotes, and any number of them between two double quotes, are literals. The marks
 -- are those of their table.
-use Rattle.std.specs.Prelude.{◌≡◌, ◌≢◌, ℕ, ◌<◌, ◌≤◌, pos, IsTrue, List, [], ◌∷◌, ◌++◌, length, take, Option, Some, None}
+use Rattle.std.specs.Prelude.{◌≡◌, ◌≢◌, ℕ, ◌<◌, ◌≤◌, pos, IsTrue, Bool, false, not, ◌&&◌, List, [], ◌∷◌, ◌++◌, length, take, Option, Some, None, is_some}
 use Rattle.std.specs.List.{list_all}
 use Rattle.pads_lex.specs.Bytes.{is_between, is_letter, is_digit, is_word_byte, is_hex}
 use Rattle.pads_lex.specs.Words.{keyword_of, double_marks, single_marks, or_else}
@@ -29,6 +29,11 @@ AreCharacters quote bytes (point ∷ points) = (word : List ℕ) × (rest : List
 -- What a word of letters, digits and `_` is.
 abbrev pub word_kind : List ℕ → TokenKind
 word_kind word = elim (keyword_of word) [ None ↦ kind.Name word | Some keyword ↦ keyword ]
+
+-- A word is spelled as a name: it begins with a letter or `_`, goes on with letters, digits and `_`, and is no keyword.
+unfoldable pub is_name : List ℕ → Bool
+is_name [] = false
+is_name (first ∷ others) = is_letter first && list_all is_word_byte others && not (is_some (keyword_of (first ∷ others)))
 
 -- A mark's word, by its table.
 abbrev pub mark_of : List ℕ → Option TokenKind

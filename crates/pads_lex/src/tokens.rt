@@ -1,7 +1,7 @@
 //! A whole text as its tokens.
 
 ghost use Rattle.std.specs.Prelude.{◌≡◌, ℕ, List, [], Ok, Err, IfOk};
-ghost use Rattle.pads_lex.specs.Answers.{EndsLast, HasNoNegative};
+ghost use Rattle.pads_lex.specs.Answers.{EndsLast, HasNoNegative, HasSpelledNames};
 ghost use Rattle.pads_value.specs.Refusals.{Gives, OnFault};
 ghost use Rattle.pads_lex.specs.Cut.{IsCut, BreaksAt};
 ghost use Rattle.pads_lex.specs.Reading.{tokens_from};
@@ -61,6 +61,7 @@ pub fn lex(alloc: Global, text: &[u8]) -> Result<Tokens, Refusal<LexFault>>
     // What a parser wants of its tokens.
     ensures ends { IfOk result EndsLast }
     ensures numbers { IfOk result HasNoNegative }
+    ensures names { IfOk result HasSpelledNames }
 {
     tokens_of(alloc, text)
 }

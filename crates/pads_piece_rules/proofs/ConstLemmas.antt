@@ -11,9 +11,9 @@ use Rattle.pads_ast.specs.declared.types.Const.{Const}
 use Rattle.pads_ast.specs.declared.types.Const.TheVariants as const
 use Rattle.pads_ast.specs.declared.name.Word.{Word}
 use Rattle.pads_rules.specs.PieceRules.{signed, same_const}
-use Rattle.pads_rules.specs.NameTokens.{with_name}
+use Rattle.pads_rules.specs.DifferentNames.{with_name}
 use Rattle.pads_rules.specs.Texts.{is_among}
-use Rattle.pads_rules.specs.Trees.{points_of}
+use Rattle.pads_ast.specs.Trees.{points_of}
 use Rattle.pads_piece_rules.specs.declared.const_set.ConstSet.{ConstSet}
 use Rattle.pads_piece_rules.specs.ConstSets.{has_const, AddsConst}
 use Rattle.pads_piece_rules.proofs.MetNames.{with-name}

@@ -3,7 +3,7 @@ use Rattle.std.proofs.Common.{◌≡◌, ◌∙◌, sym, ap, refl, ℕ, ◌+◌,
 use Rattle.std.specs.List.{list_any}
 use Rattle.std.proofs.lemmas.List.Folds.{list_any-append}
 use Rattle.std.proofs.Math.Bool.{or-false}
-use Rattle.pads_rules.specs.NameTokens.{with_name}
+use Rattle.pads_rules.specs.DifferentNames.{with_name}
 use Rattle.pads_rules.specs.Texts.{same_text, is_among}
 use Rattle.pads_rules.proofs.SameTexts.{same-is}
 use Rattle.pads_declared.proofs.Lists.{taken}

@@ -18,7 +18,7 @@ use Rattle.pads_rules.specs.Pieces.{Site, earlier, Used, OfParam, Computed, Cond
 use Rattle.pads_rules.specs.Resolving.{Meaning, type_sort}
 use Rattle.pads_ast.specs.declared.types.Arg.TheVariants as arg
 use Rattle.pads_rules.specs.Sorts.{accepts, agree, is_num_form, is_truth_form}
-use Rattle.pads_rules.specs.Trees.{args_of}
+use Rattle.pads_ast.specs.Trees.{args_of}
 use Rattle.pads_rules.proofs.Least.{lesser_comm, lesser_assoc, lesser-none, least-append, together, each-map}
 use Rattle.pads_piece_rules.proofs.Steps.{none-lesser}
 use Rattle.pads_piece_rules.specs.Told.{keys_of, piece_told, name_told, count_told, record_told, expression_told, argument_told, at_argument, arguments_told, at_key, keys_told, again_told, spelled_told}

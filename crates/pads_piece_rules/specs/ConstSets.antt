@@ -6,7 +6,7 @@ use Rattle.pads_ast.specs.declared.types.Const.{Const}
 use Rattle.pads_ast.specs.declared.types.Const.TheVariants as const
 use Rattle.pads_rules.specs.PieceRules.{signed, same_const}
 use Rattle.pads_rules.specs.Texts.{is_among}
-use Rattle.pads_rules.specs.Trees.{points_of}
+use Rattle.pads_ast.specs.Trees.{points_of}
 use Rattle.pads_piece_rules.specs.declared.const_set.ConstSet.{ConstSet}
 
 -- A constant of that value is in a set.

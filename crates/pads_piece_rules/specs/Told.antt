@@ -18,7 +18,7 @@ use Rattle.pads_rules.specs.Pieces as pieces
 use Rattle.pads_rules.specs.Pieces.{Piece, OfParam}
 use Rattle.pads_rules.specs.Resolving.{Meaning}
 use Rattle.pads_rules.specs.Sorts.{agree}
-use Rattle.pads_rules.specs.Trees.{is_empty, args_of, points_of}
+use Rattle.pads_ast.specs.Trees.{is_empty, args_of, points_of}
 use Rattle.pads_rules.specs.SiteFaults.{piece_faults}
 use Rattle.pads_piece_rules.specs.declared.site.Site.{Site}
 

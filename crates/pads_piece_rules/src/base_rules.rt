@@ -2,7 +2,7 @@
 
 ghost use Rattle.std.specs.Prelude.{◌≡◌, slice_get};
 ghost use Rattle.pads_rules.specs.PieceRules as rules;
-ghost use Rattle.pads_rules.specs.Trees as trees;
+ghost use Rattle.pads_ast.specs.Trees as trees;
 ghost use Rattle.pads_declared.specs.Meanings.{meant};
 ghost use Rattle.pads_piece_rules.specs.Told.{stands};
 

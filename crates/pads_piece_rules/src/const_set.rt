@@ -2,9 +2,9 @@ ghost use Rattle.std.specs.Prelude.{◌≡◌, IfOk, OnOk};
 ghost use Rattle.std.specs.List.{list_any};
 ghost use Rattle.std.specs.Ordering.{int_eq};
 ghost use Rattle.indexmap.specs.IndexSet.{insert_key};
-ghost use Rattle.pads_rules.specs.NameTokens.{with_name};
+ghost use Rattle.pads_rules.specs.DifferentNames.{with_name};
 ghost use Rattle.pads_rules.specs.Texts.{is_among};
-ghost use Rattle.pads_rules.specs.Trees.{points_of};
+ghost use Rattle.pads_ast.specs.Trees.{points_of};
 ghost use Rattle.pads_piece_rules.specs.ConstSets.{NoConst, AddsConst, has_const};
 
 use crate::constants::signed;

@@ -5,7 +5,7 @@ ghost use Rattle.pads_judge.specs.Scopes.{names_in_scope};
 ghost use Rattle.pads_rules.specs.Pieces as pieces;
 ghost use Rattle.pads_rules.specs.PieceRules.{is_num_or_text};
 ghost use Rattle.pads_rules.specs.Sorts.{accepts};
-ghost use Rattle.pads_rules.specs.Trees as trees;
+ghost use Rattle.pads_ast.specs.Trees as trees;
 ghost use Rattle.pads_piece_rules.specs.Told.{stands, keys_of, piece_told, spelled_told};
 
 use crate::Site;

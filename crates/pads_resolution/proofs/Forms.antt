@@ -13,7 +13,7 @@ use Rattle.pads_ast.specs.declared.name.Word.{Word}
 use Rattle.pads_typed_tree.specs.declared.expr.Expr.TheVariants as resolved
 use Rattle.pads_rules.specs.declared.declared.Declared.{Declared}
 use Rattle.pads_rules.specs.Sorts.{num, text, truth}
-use Rattle.pads_rules.specs.Trees.{points_of}
+use Rattle.pads_ast.specs.Trees.{points_of}
 use Rattle.pads_resolution.specs.declared.visible.ResolvedExpr.{ResolvedExpr}
 use Rattle.pads_resolution.specs.declared.visible.Stands.TheVariants as stands
 use Rattle.pads_resolution.specs.Chains.{linked, stepped}

@@ -1,6 +1,11 @@
 -- Rows of resolving, computed: descriptions with what they resolve to, worked out by hand.
-use Rattle.std.proofs.Common.{◌≡◌, refl, ℕ, pos, false, List, [], ◌∷◌, Option, Some, None}
+use Rattle.std.proofs.Common.{◌≡◌, refl, ℕ, pos, true, false, List, [], ◌∷◌, Option, Some, None}
+use Rattle.std.specs.List.{list_all}
 use Rattle.std.specs.Prelude.{codes}
+use Rattle.pads_lex.specs.Bytes.{is_letter, is_digit, is_word_byte}
+use Rattle.pads_lex.specs.Spelling.{is_name}
+use Rattle.pads_lex.specs.Words.{keyword_of}
+use Rattle.pads_ast.specs.NameTokens.{names_in}
 use Rattle.pads_ast.specs.declared.decl.Decl.{Decl}
 use Rattle.pads_ast.specs.declared.decl.DeclBody.TheVariants as decl
 use Rattle.pads_ast.specs.declared.decl.DeclMark.{DeclMark}
@@ -65,10 +70,14 @@ abbrev plain_sort : Sort
 plain_sort = record { optional = 0; form = form.Num }
 
 -- Precord Pstruct r { Puint8 a; Pstring(:Peor:) b; };
-fields : resolved (record {
-  decls = struct (Some mark.Precord) (codes "r") (field (bare (codes "Puint8")) (codes "a") ∷ field (record { optional = None; name = name (codes "Pstring"); args = Some (arg.Peor 0 ∷ []) }) (codes "b") ∷ []) None ∷ [];
-  end = 0;
-})
+abbrev two_fields : List Decl
+two_fields = struct (Some mark.Precord) (codes "r") (field (bare (codes "Puint8")) (codes "a") ∷ field (record { optional = None; name = name (codes "Pstring"); args = Some (arg.Peor 0 ∷ []) }) (codes "b") ∷ []) None ∷ []
+
+two_spelled : list_all is_name (names_in two_fields) ≡ true
+unfolding is_name is_letter is_word_byte is_digit keyword_of is_word
+two_spelled = refl
+
+fields : resolved (record { decls = two_fields; end = 0; spelled = two_spelled })
     ≡ record {
       decls = record {
         role = role.Precord;

@@ -9,7 +9,7 @@ use Rattle.pads_rules.specs.declared.declared.Declared.{Declared}
 use Rattle.pads_rules.specs.Pieces as pieces
 use Rattle.pads_rules.specs.Pieces.{Site, earlier}
 use Rattle.pads_rules.specs.Resolving.{named, param_named}
-use Rattle.pads_rules.specs.Trees.{named_part, params_of}
+use Rattle.pads_ast.specs.Trees.{named_part, params_of}
 use Rattle.pads_resolution.specs.declared.visible.Visible.{Visible}
 use Rattle.pads_resolution.specs.Resolution.{params_scope}
 use Rattle.pads_resolution.specs.Scopes.{NameScope, variable, field, names_after, fields_after}

@@ -36,7 +36,7 @@ use Rattle.pads_typed_tree.specs.declared.expr.Expr.{Expr}
 use Rattle.pads_typed_tree.specs.declared.types.Branch.{Branch}
 use Rattle.pads_rules.specs.Pieces.{Site, earlier}
 use Rattle.pads_rules.specs.Resolving.{branch_named, type_sort}
-use Rattle.pads_rules.specs.Trees.{points_of}
+use Rattle.pads_ast.specs.Trees.{points_of}
 use Rattle.pads_resolution.specs.declared.visible.Stands.TheVariants as stands
 use Rattle.pads_resolution.specs.Expressions.{expr_of}
 use Rattle.pads_resolution.specs.Scopes.{NameScope, hiding, variable, names_after, fields_after, array_scope}

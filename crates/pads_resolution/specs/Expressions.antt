@@ -22,7 +22,7 @@ use Rattle.pads_rules.specs.declared.expr_sort.ExprSort.TheVariants as expr_sort
 use Rattle.pads_rules.specs.Judging.{result_of, unary_gives}
 use Rattle.pads_rules.specs.Members.{member, element}
 use Rattle.pads_rules.specs.Sorts.{num, text, truth}
-use Rattle.pads_rules.specs.Trees.{points_of}
+use Rattle.pads_ast.specs.Trees.{points_of}
 use Rattle.pads_resolution.specs.declared.visible.Known.{Known}
 use Rattle.pads_resolution.specs.declared.visible.ResolvedExpr.{ResolvedExpr}
 use Rattle.pads_resolution.specs.declared.visible.Stands.{Stands}

@@ -17,7 +17,7 @@ use Rattle.pads_typed_tree.specs.declared.decl.Source.{Source}
 use Rattle.pads_rules.specs.declared.declared.Declared.{Declared}
 use Rattle.pads_rules.specs.Pieces.{Site, sites, earlier}
 use Rattle.pads_rules.specs.Resolving.{is_record_list, param_named}
-use Rattle.pads_rules.specs.Trees.{name_of, params_of, is_precord, is_psource}
+use Rattle.pads_ast.specs.Trees.{name_of, params_of, is_precord, is_psource}
 use Rattle.pads_resolution.specs.Bodies.{body_at}
 use Rattle.pads_resolution.specs.Numbers.{short, number_of, declared_number}
 use Rattle.pads_resolution.specs.Scopes.{NameScope, variable}

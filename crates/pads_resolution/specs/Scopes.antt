@@ -10,7 +10,7 @@ use Rattle.pads_rules.specs.declared.expr_sort.ExprSort.{ExprSort}
 use Rattle.pads_rules.specs.Resolving.{named}
 use Rattle.pads_rules.specs.Sorts.{num, plain}
 use Rattle.pads_rules.specs.Texts.{same_text}
-use Rattle.pads_rules.specs.Trees.{named_part}
+use Rattle.pads_ast.specs.Trees.{named_part}
 use Rattle.pads_resolution.specs.declared.visible.Known.{Known}
 use Rattle.pads_resolution.specs.declared.visible.Stands.{Stands}
 use Rattle.pads_resolution.specs.declared.visible.Stands.TheVariants as stands

@@ -33,7 +33,7 @@ use Rattle.pads_rules.specs.declared.declared.Declared.{Declared}
 use Rattle.pads_rules.specs.PieceRules.{signed}
 use Rattle.pads_rules.specs.Pieces.{Site, earlier}
 use Rattle.pads_rules.specs.Resolving.{type_sort}
-use Rattle.pads_rules.specs.Trees.{args_of, points_of}
+use Rattle.pads_ast.specs.Trees.{args_of, points_of}
 use Rattle.pads_resolution.specs.Expressions.{expr_of, sort_known}
 use Rattle.pads_resolution.specs.Numbers.{short, declared_number}
 use Rattle.pads_resolution.specs.Scopes.{NameScope}

@@ -11,7 +11,7 @@ ghost use Rattle.pads_rules.specs.Judging.{judged};
 ghost use Rattle.pads_rules.specs.Pieces as pieces;
 ghost use Rattle.pads_rules.specs.Pieces.{Site, earlier};
 ghost use Rattle.pads_rules.specs.Resolving.{param_named};
-ghost use Rattle.pads_rules.specs.Trees.{params_of};
+ghost use Rattle.pads_ast.specs.Trees.{params_of};
 ghost use Rattle.pads_resolution.specs.Expressions.{expression};
 ghost use Rattle.pads_resolution.specs.Resolution.{params_scope};
 ghost use Rattle.pads_resolution.specs.Scopes as scopes;

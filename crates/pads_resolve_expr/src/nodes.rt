@@ -3,7 +3,7 @@
 ghost use Rattle.std.specs.Prelude.{◌≡◌, IfOk, pos};
 ghost use Rattle.pads_typed_tree.specs.declared.expr.Expr.TheVariants as expr_form;
 ghost use Rattle.pads_rules.specs.Sorts.{num, text as text_sort, truth as truth_sort};
-ghost use Rattle.pads_rules.specs.Trees.{points_of};
+ghost use Rattle.pads_ast.specs.Trees.{points_of};
 ghost use Rattle.pads_resolution.specs.Expressions as expressions;
 ghost use Rattle.pads_resolution.specs.Expressions.{as_sort};
 

@@ -1,7 +1,7 @@
 //! Copies of texts.
 
 ghost use Rattle.std.specs.Prelude.{◌≡◌, ◌∷◌, [], IfOk};
-ghost use Rattle.pads_rules.specs.Trees.{points_of};
+ghost use Rattle.pads_ast.specs.Trees.{points_of};
 
 use pads_ast::Word;
 use pads_value::{Bytes, Memory};

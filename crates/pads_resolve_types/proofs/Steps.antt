@@ -3,7 +3,7 @@ use Rattle.std.proofs.Common.{◌≡◌, ◌∙◌, sym, ap, ℕ, ◌+◌, ◌<�
 use Rattle.std.proofs.lemmas.List.{append-nil, drop_all}
 use Rattle.pads_ast.specs.declared.decl.Part.{Part as WrittenPart}
 use Rattle.pads_rules.specs.declared.declared.Declared.{Declared}
-use Rattle.pads_rules.specs.Trees.{named_part}
+use Rattle.pads_ast.specs.Trees.{named_part}
 use Rattle.pads_resolution.specs.Scopes.{NameScope, field, fields_after}
 use Rattle.pads_declared.proofs.Lists.{left}
 

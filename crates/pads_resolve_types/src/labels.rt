@@ -2,7 +2,7 @@
 
 ghost use Rattle.std.specs.Prelude.{◌≡◌, map, option_map, IfOk};
 ghost use Rattle.pads_resolution.specs.Bodies as bodies;
-ghost use Rattle.pads_rules.specs.Trees.{points_of};
+ghost use Rattle.pads_ast.specs.Trees.{points_of};
 
 use pads_ast::{Label as WrittenLabel, Word};
 use pads_resolve_expr::{points, text};

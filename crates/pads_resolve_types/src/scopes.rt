@@ -3,7 +3,7 @@
 ghost use Rattle.std.specs.Prelude.{◌≡◌, ◌++◌, ◌∷◌, [], map, IfOk, OnOk};
 ghost use Rattle.pads_resolution.specs.Scopes as scopes;
 ghost use Rattle.pads_rules.specs.Resolving.{named, param_named};
-ghost use Rattle.pads_rules.specs.Trees.{named_part};
+ghost use Rattle.pads_ast.specs.Trees.{named_part};
 
 use pads_ast::{Name, Param, Part, Type};
 use pads_declared::{EarlierTypes, type_sort};

@@ -4,7 +4,7 @@ ghost use Rattle.std.specs.Prelude.{◌≡◌, ◌++◌, map, IfOk, OnOk};
 ghost use Rattle.pads_resolve_types.specs.Places.{stands};
 ghost use Rattle.pads_resolution.specs.Types as types;
 ghost use Rattle.pads_resolve_expr.specs.Scopes.{names_in_scope};
-ghost use Rattle.pads_rules.specs.Trees as trees;
+ghost use Rattle.pads_ast.specs.Trees as trees;
 
 use crate::expressions::expr_at;
 use crate::site::{ResolvingSite, earlier};

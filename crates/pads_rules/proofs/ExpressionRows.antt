@@ -1,6 +1,9 @@
 -- Rows of the rules in expressions, computed: descriptions with their least violation, worked out by hand.
 use Rattle.std.proofs.Common.{◌≡◌, refl, ℕ, true, false, List, [], ◌∷◌, Option, Some, None}
+use Rattle.std.specs.List.{list_all}
 use Rattle.std.specs.Prelude.{codes}
+use Rattle.pads_lex.specs.Spelling.{is_name}
+use Rattle.pads_ast.specs.NameTokens.{names_in}
 use Rattle.pads_ast.specs.declared.decl.Case.{Case}
 use Rattle.pads_ast.specs.declared.decl.Decl.{Decl}
 use Rattle.pads_ast.specs.declared.decl.DeclBody.{DeclBody}
@@ -49,45 +52,46 @@ beside body = record_type [] ∷ record { mark = None; body = body } ∷ []
 abbrev case_of : ℕ → ℕ → List ℕ → ℕ → ℕ → Case
 case_of value at text type_at name_at = record { key = const.Number false value at; branch = record { of = bare (codes "Puint8") type_at; name = name text name_at; constraint = None } }
 
-abbrev told : List Decl → Option CheckFault
-told decls = least (violations (record { decls = decls; end = 99 }))
+-- what is told first of a tree of these declarations, whose names are spelled as names
+abbrev Told : List Decl → Option CheckFault → Type 0
+Told decls first = (spelled : list_all is_name (names_in decls) ≡ true) → least (violations (record { decls = decls; end = 99; spelled = spelled })) ≡ first
 
 -- Precord Pstruct r { Puint8 a : b; };
-rule_5 : told (constrained (expr.Name (name (codes "b") 31))) ≡ Some (breaks rule.UnknownName 31)
-unfolding violations lesser number declared meaning same_text base_name kind_of field_of is_word behind
-rule_5 = simp on_names refl
+rule_5 : Told (constrained (expr.Name (name (codes "b") 31))) (Some (breaks rule.UnknownName 31))
+unfolding violations lesser declared meaning same_text base_name kind_of field_of is_word behind
+rule_5 = λ spelled. simp on_names refl
 
 -- Precord Pstruct r { }; Parray a { Puint8[true]; };
-rule_9 : told (beside (decl.Array (record { name = name (codes "a") 30; params = None; of = bare (codes "Puint8") 34; size = Some (expr.Truth true 41); options = []; condition = None }))) ≡ Some (breaks rule.OperandSort 41)
-unfolding violations lesser number declared meaning same_text base_name kind_of field_of is_word behind
-rule_9 = simp small refl
+rule_9 : Told (beside (decl.Array (record { name = name (codes "a") 30; params = None; of = bare (codes "Puint8") 34; size = Some (expr.Truth true 41); options = []; condition = None }))) (Some (breaks rule.OperandSort 41))
+unfolding violations lesser declared meaning same_text base_name kind_of field_of is_word behind
+rule_9 = λ spelled. simp small refl
 
 -- Precord Pstruct r { }; Ptypedef Puint8 t : u x => { true };
-rule_11 : told (beside (decl.Typedef (record { of = bare (codes "Puint8") 32; name = name (codes "t") 39; params = None; constraint = Some (record { name = name (codes "u") 43; variable = name (codes "x") 45; condition = expr.Truth true 52 }) }))) ≡ Some (breaks rule.OtherName 43)
-unfolding violations lesser number declared meaning same_text base_name kind_of field_of is_word behind
-rule_11 = simp small refl
+rule_11 : Told (beside (decl.Typedef (record { of = bare (codes "Puint8") 32; name = name (codes "t") 39; params = None; constraint = Some (record { name = name (codes "u") 43; variable = name (codes "x") 45; condition = expr.Truth true 52 }) }))) (Some (breaks rule.OtherName 43))
+unfolding violations lesser declared meaning same_text base_name kind_of field_of is_word behind
+rule_11 = λ spelled. simp small refl
 
 -- Precord Pstruct r { }; Punion u { Pswitch (true) { } };
-rule_12 : told (beside (decl.Union (record { name = name (codes "u") 30; params = None; body = union.Switch (record { value = expr.Truth true 43; cases = []; default = None }) }))) ≡ Some (breaks rule.CaseSort 43)
-unfolding violations lesser number declared meaning same_text base_name kind_of field_of is_word behind
-rule_12 = simp small refl
+rule_12 : Told (beside (decl.Union (record { name = name (codes "u") 30; params = None; body = union.Switch (record { value = expr.Truth true 43; cases = []; default = None }) }))) (Some (breaks rule.CaseSort 43))
+unfolding violations lesser declared meaning same_text base_name kind_of field_of is_word behind
+rule_12 = λ spelled. simp small refl
 
 -- Precord Pstruct r { }; Punion u { Pswitch (1) { Pcase 1: Puint8 a; Pcase 0x1: Puint8 b; } };
-rule_13 : told (beside (decl.Union (record { name = name (codes "u") 30; params = None; body = union.Switch (record { value = expr.Number 1 43; cases = case_of 1 54 (codes "a") 57 64 ∷ case_of 1 73 (codes "b") 78 85 ∷ []; default = None }) }))) ≡ Some (breaks rule.CaseAgain 73)
-unfolding violations lesser number declared meaning same_text base_name kind_of field_of is_word behind
-rule_13 = simp small refl
+rule_13 : Told (beside (decl.Union (record { name = name (codes "u") 30; params = None; body = union.Switch (record { value = expr.Number 1 43; cases = case_of 1 54 (codes "a") 57 64 ∷ case_of 1 73 (codes "b") 78 85 ∷ []; default = None }) }))) (Some (breaks rule.CaseAgain 73))
+unfolding violations lesser declared meaning same_text base_name kind_of field_of is_word behind
+rule_13 = λ spelled. simp small refl
 
 -- Precord Pstruct r { Puint8 a : a.x; };
-rule_16 : told (constrained (expr.Post (expr.Name (name (codes "a") 31)) (step_form.Name (name (codes "x") 33) ∷ []))) ≡ Some (breaks rule.UnknownMember 33)
-unfolding violations lesser number declared meaning same_text base_name kind_of field_of is_word behind
-rule_16 = simp (on_names, small) refl
+rule_16 : Told (constrained (expr.Post (expr.Name (name (codes "a") 31)) (step_form.Name (name (codes "x") 33) ∷ []))) (Some (breaks rule.UnknownMember 33))
+unfolding violations lesser declared meaning same_text base_name kind_of field_of is_word behind
+rule_16 = λ spelled. simp (on_names, small) refl
 
 -- Precord Pstruct r { Puint8 a : Pis(a, x); };
-rule_17 : told (constrained (expr.Pis 31 (expr.Name (name (codes "a") 35)) (name (codes "x") 38))) ≡ Some (breaks rule.UnknownChoice 35)
-unfolding violations lesser number declared meaning same_text base_name kind_of field_of is_word behind
-rule_17 = simp (on_names, small) refl
+rule_17 : Told (constrained (expr.Pis 31 (expr.Name (name (codes "a") 35)) (name (codes "x") 38))) (Some (breaks rule.UnknownChoice 35))
+unfolding violations lesser declared meaning same_text base_name kind_of field_of is_word behind
+rule_17 = λ spelled. simp (on_names, small) refl
 
 -- Precord Pstruct r { Pcompute Pip n = 1; };
-rule_18 : told (record_type (part.Pcompute (bare (codes "Pip") 29) (name (codes "n") 33) (expr.Number 1 37) ∷ []) ∷ []) ≡ Some (breaks rule.ComputedType 29)
-unfolding violations lesser number declared meaning same_text base_name kind_of field_of is_word behind
-rule_18 = simp small refl
+rule_18 : Told (record_type (part.Pcompute (bare (codes "Pip") 29) (name (codes "n") 33) (expr.Number 1 37) ∷ []) ∷ []) (Some (breaks rule.ComputedType 29))
+unfolding violations lesser declared meaning same_text base_name kind_of field_of is_word behind
+rule_18 = λ spelled. simp small refl

@@ -5,7 +5,7 @@ use Rattle.pads_ast.specs.declared.expr.Expr.TheVariants as expr
 use Rattle.pads_ast.specs.declared.name.Name.{Name}
 use Rattle.pads_rules.specs.declared.declared.Declared.{Declared}
 use Rattle.pads_rules.specs.Judging.{Scope, Judged, judged, judge_form, variable}
-use Rattle.pads_rules.proofs.ExprNames.{names_in-Name}
+use Rattle.pads_ast.proofs.ExprNames.{names_in-Name}
 
 -- one layer at a time
 pub judged-roll : (env : List Declared) (layer : Expr-F Expr) (scope : Scope) →

@@ -7,4 +7,3 @@ pub mod Judgements
 pub mod Rows
 pub mod SameTexts
 pub mod Faultless
-pub mod ExprNames

@@ -1,6 +1,9 @@
 -- Rows of the rules, computed: descriptions with their least violation, worked out by hand.
-use Rattle.std.proofs.Common.{◌≡◌, refl, ℕ, List, [], ◌∷◌, Option, Some, None}
+use Rattle.std.proofs.Common.{◌≡◌, refl, ℕ, true, List, [], ◌∷◌, Option, Some, None}
+use Rattle.std.specs.List.{list_all}
 use Rattle.std.specs.Prelude.{codes}
+use Rattle.pads_lex.specs.Spelling.{is_name}
+use Rattle.pads_ast.specs.NameTokens.{names_in}
 use Rattle.pads_ast.specs.declared.decl.ArrayOption.TheVariants as array_option
 use Rattle.pads_ast.specs.declared.decl.Decl.{Decl}
 use Rattle.pads_ast.specs.declared.decl.DeclBody.TheVariants as decl
@@ -45,118 +48,119 @@ field of own constraint = part.Field (record { of = of; name = own; constraint =
 abbrev record_type : List Part → Decl
 record_type parts = record { mark = Some mark.Precord; body = decl.Struct (record { name = name (codes "r") 16; params = None; parts = parts; condition = None }) }
 
-abbrev told : List Decl → Option CheckFault
-told decls = least (violations (record { decls = decls; end = 99 }))
+-- what is told first of a tree of these declarations, whose names are spelled as names
+abbrev Told : List Decl → Option CheckFault → Type 0
+Told decls first = (spelled : list_all is_name (names_in decls) ≡ true) → least (violations (record { decls = decls; end = 99; spelled = spelled })) ≡ first
 
 -- the empty description has no record type
-empty : least (violations (record { decls = []; end = 0 })) ≡ Some (breaks rule.NoRecordType 0)
-unfolding violations lesser number declared
+empty : least (violations (record { decls = []; end = 0; spelled = refl })) ≡ Some (breaks rule.NoRecordType 0)
+unfolding violations lesser declared
 empty = refl
 
 -- Precord Pstruct r { };
-accepted : told (record_type [] ∷ []) ≡ None
-unfolding violations lesser number declared meaning same_text base_name kind_of field_of is_word behind
-accepted = refl
+accepted : Told (record_type [] ∷ []) None
+unfolding violations lesser declared meaning same_text base_name kind_of field_of is_word behind
+accepted = λ spelled. refl
 
 -- Precord Pstruct r { Puint8 a; Pstring(:Peor:) b; };
-accepted_fields : told (record_type (field (bare (codes "Puint8") 20) (name (codes "a") 27) None ∷ field (of_one (codes "Pstring") 30 (arg.Peor 39)) (name (codes "b") 46) None ∷ []) ∷ []) ≡ None
-unfolding violations lesser number declared meaning same_text base_name kind_of field_of is_word behind
-accepted_fields = refl
+accepted_fields : Told (record_type (field (bare (codes "Puint8") 20) (name (codes "a") 27) None ∷ field (of_one (codes "Pstring") 30 (arg.Peor 39)) (name (codes "b") 46) None ∷ []) ∷ []) None
+unfolding violations lesser declared meaning same_text base_name kind_of field_of is_word behind
+accepted_fields = λ spelled. refl
 
 -- Precord Pstruct Puint8 { };
-rule_1 : told (record { mark = Some mark.Precord; body = decl.Struct (record { name = name (codes "Puint8") 16; params = None; parts = []; condition = None }) } ∷ []) ≡ Some (breaks rule.NameTaken 16)
-unfolding violations lesser number declared meaning same_text base_name kind_of field_of is_word behind
-rule_1 = refl
+rule_1 : Told (record { mark = Some mark.Precord; body = decl.Struct (record { name = name (codes "Puint8") 16; params = None; parts = []; condition = None }) } ∷ []) (Some (breaks rule.NameTaken 16))
+unfolding violations lesser declared meaning same_text base_name kind_of field_of is_word behind
+rule_1 = λ spelled. refl
 
 -- Precord Pstruct r { Pfoo a; Puint8 a; };
-rule_2_before_4 : told (record_type (field (bare (codes "Pfoo") 20) (name (codes "a") 25) None ∷ field (bare (codes "Puint8") 28) (name (codes "a") 35) None ∷ []) ∷ []) ≡ Some (breaks rule.UnknownType 20)
-unfolding violations lesser number declared meaning same_text base_name kind_of field_of is_word behind
-rule_2_before_4 = refl
+rule_2_before_4 : Told (record_type (field (bare (codes "Pfoo") 20) (name (codes "a") 25) None ∷ field (bare (codes "Puint8") 28) (name (codes "a") 35) None ∷ []) ∷ []) (Some (breaks rule.UnknownType 20))
+unfolding violations lesser declared meaning same_text base_name kind_of field_of is_word behind
+rule_2_before_4 = λ spelled. refl
 
 -- Precord Pstruct r { r a; };
-rule_3 : told (record_type (field (bare (codes "r") 20) (name (codes "a") 22) None ∷ []) ∷ []) ≡ Some (breaks rule.LaterType 20)
-unfolding violations lesser number declared meaning same_text base_name kind_of field_of is_word behind
-rule_3 = refl
+rule_3 : Told (record_type (field (bare (codes "r") 20) (name (codes "a") 22) None ∷ []) ∷ []) (Some (breaks rule.LaterType 20))
+unfolding violations lesser declared meaning same_text base_name kind_of field_of is_word behind
+rule_3 = λ spelled. refl
 
 -- Precord Pstruct r { Puint8 a; Puint8 a; };
-rule_4 : told (record_type (field (bare (codes "Puint8") 20) (name (codes "a") 27) None ∷ field (bare (codes "Puint8") 30) (name (codes "a") 37) None ∷ []) ∷ []) ≡ Some (breaks rule.NameAgain 37)
-unfolding violations lesser number declared meaning same_text base_name kind_of field_of is_word behind
-rule_4 = refl
+rule_4 : Told (record_type (field (bare (codes "Puint8") 20) (name (codes "a") 27) None ∷ field (bare (codes "Puint8") 30) (name (codes "a") 37) None ∷ []) ∷ []) (Some (breaks rule.NameAgain 37))
+unfolding violations lesser declared meaning same_text base_name kind_of field_of is_word behind
+rule_4 = λ spelled. refl
 
 -- Precord Pstruct r { Pstring_FW(:n:) s; Puint8 n; };
-rule_6 : told (record_type (field (of_one (codes "Pstring_FW") 20 (arg.Expr (expr.Name (name (codes "n") 32)))) (name (codes "s") 36) None ∷ field (bare (codes "Puint8") 39) (name (codes "n") 46) None ∷ []) ∷ []) ≡ Some (breaks rule.LaterField 32)
-unfolding violations lesser number declared meaning same_text base_name kind_of field_of is_word behind
-rule_6 = simp on_names refl
+rule_6 : Told (record_type (field (of_one (codes "Pstring_FW") 20 (arg.Expr (expr.Name (name (codes "n") 32)))) (name (codes "s") 36) None ∷ field (bare (codes "Puint8") 39) (name (codes "n") 46) None ∷ []) ∷ []) (Some (breaks rule.LaterField 32))
+unfolding violations lesser declared meaning same_text base_name kind_of field_of is_word behind
+rule_6 = λ spelled. simp on_names refl
 
 -- Precord Pstruct r { Pstring a; };
-rule_7 : told (record_type (field (bare (codes "Pstring") 20) (name (codes "a") 28) None ∷ []) ∷ []) ≡ Some (breaks rule.ArgumentCount 20)
-unfolding violations lesser number declared meaning same_text base_name kind_of field_of is_word behind
-rule_7 = refl
+rule_7 : Told (record_type (field (bare (codes "Pstring") 20) (name (codes "a") 28) None ∷ []) ∷ []) (Some (breaks rule.ArgumentCount 20))
+unfolding violations lesser declared meaning same_text base_name kind_of field_of is_word behind
+rule_7 = λ spelled. refl
 
 -- Precord Pstruct r { Puint8_FW(:Peor:) a; };
-rule_8 : told (record_type (field (of_one (codes "Puint8_FW") 20 (arg.Peor 31)) (name (codes "a") 38) None ∷ []) ∷ []) ≡ Some (breaks rule.ArgumentSort 31)
-unfolding violations lesser number declared meaning same_text base_name kind_of field_of is_word behind
-rule_8 = refl
+rule_8 : Told (record_type (field (of_one (codes "Puint8_FW") 20 (arg.Peor 31)) (name (codes "a") 38) None ∷ []) ∷ []) (Some (breaks rule.ArgumentSort 31))
+unfolding violations lesser declared meaning same_text base_name kind_of field_of is_word behind
+rule_8 = λ spelled. refl
 
 -- Precord Pstruct r { Puint8 a : a; };
-rule_10 : told (record_type (field (bare (codes "Puint8") 20) (name (codes "a") 27) (Some (expr.Name (name (codes "a") 31))) ∷ []) ∷ []) ≡ Some (breaks rule.ConditionSort 31)
-unfolding violations lesser number declared meaning same_text base_name kind_of field_of is_word behind
-rule_10 = simp on_names refl
+rule_10 : Told (record_type (field (bare (codes "Puint8") 20) (name (codes "a") 27) (Some (expr.Name (name (codes "a") 31))) ∷ []) ∷ []) (Some (breaks rule.ConditionSort 31))
+unfolding violations lesser declared meaning same_text base_name kind_of field_of is_word behind
+rule_10 = λ spelled. simp on_names refl
 
 -- Precord Pstruct r { ""; };
-rule_14 : told (record_type (part.Literal (literal.Word (word.Text [] 20)) ∷ []) ∷ []) ≡ Some (breaks rule.EmptyLiteral 20)
-unfolding violations lesser number declared meaning same_text base_name kind_of field_of is_word behind
-rule_14 = refl
+rule_14 : Told (record_type (part.Literal (literal.Word (word.Text [] 20)) ∷ []) ∷ []) (Some (breaks rule.EmptyLiteral 20))
+unfolding violations lesser declared meaning same_text base_name kind_of field_of is_word behind
+rule_14 = λ spelled. refl
 
 -- Penum e { A Pfrom("x"), B Pfrom("x") }; Precord Pstruct r { e v; };
 abbrev label : List ℕ → ℕ → ℕ → Label
 label text at spelled_at = record { name = name text at; spelling = Some (word.Text (codes "x") spelled_at) }
 
-rule_15 : told
+rule_15 : Told
     (record { mark = None; body = decl.Enum (record { name = name (codes "e") 6; labels = label (codes "A") 10 18 ∷ label (codes "B") 24 32 ∷ [] }) }
     ∷ record { mark = Some mark.Precord; body = decl.Struct (record { name = name (codes "r") 56; params = None; parts = field (bare (codes "e") 60) (name (codes "v") 62) None ∷ []; condition = None }) } ∷ [])
-    ≡ Some (breaks rule.SpellingAgain 32)
-unfolding violations lesser number declared meaning same_text base_name kind_of field_of is_word behind
-rule_15 = refl
+    (Some (breaks rule.SpellingAgain 32))
+unfolding violations lesser declared meaning same_text base_name kind_of field_of is_word behind
+rule_15 = λ spelled. refl
 
 -- Popt Puint8 o (: Pip p :); and then a record type
-rule_19 : told
+rule_19 : Told
     (record { mark = None; body = decl.Opt (record { of = bare (codes "Puint8") 5; name = name (codes "o") 12; params = Some (record { of = bare (codes "Pip") 17; name = name (codes "p") 21 } ∷ []) }) }
     ∷ record_type [] ∷ [])
-    ≡ Some (breaks rule.ParameterType 17)
-unfolding violations lesser number declared meaning same_text base_name kind_of field_of is_word behind
-rule_19 = refl
+    (Some (breaks rule.ParameterType 17))
+unfolding violations lesser declared meaning same_text base_name kind_of field_of is_word behind
+rule_19 = λ spelled. refl
 
 -- Precord Pstruct r { }; Popt r o;
-rule_20 : told (record_type [] ∷ record { mark = None; body = decl.Opt (record { of = bare (codes "r") 28; name = name (codes "o") 30; params = None }) } ∷ [])
-    ≡ Some (breaks rule.RecordTypeNamed 28)
-unfolding violations lesser number declared meaning same_text base_name kind_of field_of is_word behind
-rule_20 = refl
+rule_20 : Told (record_type [] ∷ record { mark = None; body = decl.Opt (record { of = bare (codes "r") 28; name = name (codes "o") 30; params = None }) } ∷ [])
+    (Some (breaks rule.RecordTypeNamed 28))
+unfolding violations lesser declared meaning same_text base_name kind_of field_of is_word behind
+rule_20 = λ spelled. refl
 
 -- Precord Pstruct r (: Pchar c :) { };
-rule_21 : told
+rule_21 : Told
     (record { mark = Some mark.Precord; body = decl.Struct (record { name = name (codes "r") 16; params = Some (record { of = bare (codes "Pchar") 21; name = name (codes "c") 27 } ∷ []); parts = []; condition = None }) } ∷ [])
-    ≡ Some (breaks rule.MarkedWithParameters 16)
-unfolding violations lesser number declared meaning same_text base_name kind_of field_of is_word behind
-rule_21 = refl
+    (Some (breaks rule.MarkedWithParameters 16))
+unfolding violations lesser declared meaning same_text base_name kind_of field_of is_word behind
+rule_21 = λ spelled. refl
 
 -- Psource Pstruct s { }; and then a record type: it isn't the last
-rule_22 : told
+rule_22 : Told
     (record { mark = Some mark.Psource; body = decl.Struct (record { name = name (codes "s") 16; params = None; parts = []; condition = None }) }
     ∷ record { mark = Some mark.Precord; body = decl.Struct (record { name = name (codes "r") 39; params = None; parts = []; condition = None }) } ∷ [])
-    ≡ Some (breaks rule.MisplacedSource 16)
-unfolding violations lesser number declared meaning same_text base_name kind_of field_of is_word behind
-rule_22 = refl
+    (Some (breaks rule.MisplacedSource 16))
+unfolding violations lesser declared meaning same_text base_name kind_of field_of is_word behind
+rule_22 = λ spelled. refl
 
 -- Precord Pstruct r { }; Psource Parray s { r[]; };
-accepted_source : told
+accepted_source : Told
     (record_type [] ∷ record { mark = Some mark.Psource; body = decl.Array (record { name = name (codes "s") 38; params = None; of = bare (codes "r") 42; size = None; options = []; condition = None }) } ∷ [])
-    ≡ None
-unfolding violations lesser number declared meaning same_text base_name kind_of field_of is_word behind
-accepted_source = refl
+    None
+unfolding violations lesser declared meaning same_text base_name kind_of field_of is_word behind
+accepted_source = λ spelled. refl
 
 -- Precord Pstruct r { }; Parray a { Puint8[] : Psep(',') && Psep(';'); };
-rule_4_options : told
+rule_4_options : Told
     (record_type [] ∷ record {
       mark = None;
       body = decl.Array (record {
@@ -168,6 +172,6 @@ rule_4_options : told
         condition = None;
       });
     } ∷ [])
-    ≡ Some (breaks rule.NameAgain 58)
-unfolding violations lesser number declared meaning same_text base_name kind_of field_of is_word behind
-rule_4_options = refl
+    (Some (breaks rule.NameAgain 58))
+unfolding violations lesser declared meaning same_text base_name kind_of field_of is_word behind
+rule_4_options = λ spelled. refl

@@ -7,10 +7,10 @@ use Rattle.pads_ast.specs.declared.expr.Step.{Step}
 use Rattle.pads_ast.specs.declared.name.Name.{Name}
 use Rattle.pads_rules.specs.declared.declared.Declared.{Declared}
 use Rattle.pads_rules.specs.Judging.{Scope, Judged, judged, judge_form, leaf, posted, pis}
-use Rattle.pads_rules.specs.NameTokens.{Names, names_in_expr, names_in_step}
+use Rattle.pads_ast.specs.NameTokens.{Names, names_in_expr, names_in_step}
 use Rattle.pads_rules.specs.Sorts.{num, truth}
 use Rattle.pads_rules.proofs.Judgements.{judged-roll}
-use Rattle.pads_rules.proofs.ExprNames.{names_as, names_in-Number, names_in-Truth, names_in-Pis}
+use Rattle.pads_ast.proofs.ExprNames.{names_as, names_in-Number, names_in-Truth, names_in-Pis}
 
 judged_as : (env : List Declared) (layer : Expr-F Expr) (scope : Scope) (e : Expr) → roll-Expr layer ≡ e →
     judged env e scope ≡ judge_form env (map-Expr Expr (Scope → Judged) (judged env) layer) scope

@@ -13,12 +13,13 @@ use Rattle.pads_rules.specs.declared.fault.CheckFault.{CheckFault}
 use Rattle.pads_rules.specs.declared.rule.Rule.TheVariants as rule
 use Rattle.pads_rules.specs.Faults.{breaks, when, again}
 use Rattle.pads_rules.specs.Judging.{place_of}
-use Rattle.pads_rules.specs.NameTokens.{Names, names_in_decl, count_of_different}
+use Rattle.pads_ast.specs.NameTokens.{Names, names_in_decl}
+use Rattle.pads_rules.specs.DifferentNames.{count_of_different}
 use Rattle.pads_rules.specs.PieceRules.{is_source_shape}
 use Rattle.pads_rules.specs.Pieces.{Site, earlier}
 use Rattle.pads_rules.specs.Resolving.{declared_as}
 use Rattle.pads_rules.specs.Texts.{same_text}
-use Rattle.pads_rules.specs.Trees.{is_empty, name_of, params_of, param_names, inner_names, points_of, branches_of, is_psource}
+use Rattle.pads_ast.specs.Trees.{is_empty, name_of, params_of, param_names, inner_names, points_of, branches_of, is_psource}
 
 abbrev pub decl_name : Site → Name
 decl_name site = name_of site.decl.body

@@ -5,10 +5,9 @@ pub mod Texts
 pub mod Sorts
 pub mod Members
 pub mod Judging
-pub mod Trees
 pub mod Resolving
 pub mod Pieces
 pub mod PieceRules
 pub mod DeclRules
-pub mod NameTokens
+pub mod DifferentNames
 pub mod Violations

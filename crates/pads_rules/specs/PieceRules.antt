@@ -30,7 +30,7 @@ use Rattle.pads_rules.specs.Pieces.{Site, earlier, Piece, Used, OfParam, Compute
 use Rattle.pads_rules.specs.Resolving.{Meaning, Base, Earlier, Undeclared, meaning, plain_meaning, type_sort, declared_as, is_precord_type, is_record_list_type, is_record_list}
 use Rattle.pads_rules.specs.Sorts.{num, text, accepts, agree, is_num_form, is_text_form}
 use Rattle.pads_rules.specs.Texts.{same_text}
-use Rattle.pads_rules.specs.Trees.{is_empty, args_of, points_of, is_psource, written}
+use Rattle.pads_ast.specs.Trees.{is_empty, args_of, points_of, is_psource, written}
 
 -- The type that a piece names.
 abbrev pub type_in : Piece → Option «Type»

@@ -28,7 +28,7 @@ use Rattle.pads_rules.specs.declared.declared.Named.{Named}
 use Rattle.pads_rules.specs.Judging.{Scope, hiding}
 use Rattle.pads_rules.specs.Resolving.{declared, type_sort, named, branch_named, param_named}
 use Rattle.pads_rules.specs.Sorts.{num, plain}
-use Rattle.pads_rules.specs.Trees.{params_of, named_part, part_names, branches_of}
+use Rattle.pads_ast.specs.Trees.{params_of, named_part, part_names, branches_of}
 
 -- A declaration where it stands: the declarations and the declared types of the whole description, and the
 -- declaration's number among them, from 0.

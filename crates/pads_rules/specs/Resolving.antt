@@ -19,7 +19,7 @@ use Rattle.pads_rules.specs.declared.expr_sort.ExprSort.{ExprSort}
 use Rattle.pads_rules.specs.declared.expr_sort.ExprSort.TheVariants as expr_sort
 use Rattle.pads_rules.specs.Sorts.{plain, optional, base_sort}
 use Rattle.pads_rules.specs.Texts.{same_text}
-use Rattle.pads_rules.specs.Trees.{is_empty, written, name_of, params_of, named_part, branches_of, is_precord}
+use Rattle.pads_ast.specs.Trees.{is_empty, written, name_of, params_of, named_part, branches_of, is_precord}
 
 -- What a type name means where it stands: a base type; else the first earlier declaration of that name.
 pub data Meaning : Type 0 where

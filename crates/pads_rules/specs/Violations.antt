@@ -8,7 +8,7 @@ use Rattle.pads_rules.specs.DeclRules.{name_taken, name_again, other_name, spell
 use Rattle.pads_rules.specs.Faults.{breaks, when, each}
 use Rattle.pads_rules.specs.PieceRules.{unknown_type, later_type, argument_count, argument_sorts, size_sort, condition_sort, case_sorts, case_again, empty_literal, computed_type, param_type, record_type_named, in_expressions}
 use Rattle.pads_rules.specs.Pieces.{Site, Piece, sites, pieces}
-use Rattle.pads_rules.specs.Trees.{is_precord}
+use Rattle.pads_ast.specs.Trees.{is_precord}
 
 -- A rule about every piece of a declaration.
 abbrev pub in_pieces : (Site → Piece → List CheckFault) → Site → List CheckFault

@@ -7,3 +7,11 @@ pub mod Stops
 pub mod TreeLaws
 pub mod Answered
 pub mod Trees
+pub mod Keeps
+pub mod SpelledLists
+pub mod SpelledExpressions
+pub mod SpelledTypes
+pub mod SpelledParts
+pub mod SpelledDeclarations
+pub mod SpelledWhole
+pub mod SpelledRefused

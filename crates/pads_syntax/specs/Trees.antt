@@ -14,9 +14,9 @@ use Rattle.pads_ast.specs.declared.expr.Expr.{Expr}
 use Rattle.pads_syntax_parts.specs.Types.{expression}
 use Rattle.pads_syntax.specs.Declarations.{decls}
 
--- The tree of a description: its declarations, and the place where the text ends.
-abbrev pub description : List Decl → Token → Ast
-description decls end = record { decls = decls; end = end.begin }
+-- What a description has: its declarations, and the place where the text ends.
+abbrev pub description : List Decl → Token → List Decl × ℕ
+description decls end = (decls, end.begin)
 
 -- The tree of a filter.
 abbrev pub filter : Expr → Token → ExprAst
@@ -24,7 +24,7 @@ filter expr end = record { expr = expr }
 
 -- These tokens derive this tree of a description.
 abbrev pub IsTree : Ast → Tokens → Type 0
-IsTree tree ts = Whole decls description tree ts
+IsTree tree ts = Whole decls description (tree.decls, tree.end) ts
 
 -- The token of that number, from 0, is the first at which no description goes on.
 abbrev pub IsTreeFault : Tokens → ℕ → Type 0

@@ -1,7 +1,7 @@
 //! What the grammar says of every list of tokens.
 
 ghost use Rattle.std.specs.Prelude.{◌≡◌, ◌⊎◌, ℕ, List};
-ghost use Rattle.pads_lex.specs.Answers.{EndsLast};
+ghost use Rattle.pads_lex.specs.Answers.{EndsLast, HasSpelledNames};
 ghost use Rattle.pads_lex.specs.declared.token.Token.{Token};
 ghost use Rattle.pads_ast.specs.declared.decl.Ast.{Ast};
 ghost use Rattle.pads_ast.specs.declared.decl.ExprAst.{ExprAst};
@@ -25,9 +25,9 @@ pub fn no_tokens_derive_a_tree_and_fault()
     ensures filters { (tokens : List Token) (tree : ExprAst) (at : ℕ) → IsExprTree tree tokens → IsExprTreeFault tokens at → ⊥ }
 {}
 
-/// Tokens that derive no tree have a fault.
+/// Tokens that derive no tree have a fault, where each name among them is spelled as a name.
 pub fn tokens_derive_a_tree_or_fault()
-    ensures descriptions { (tokens : List Token) → EndsLast tokens
+    ensures descriptions { (tokens : List Token) → EndsLast tokens → HasSpelledNames tokens
         → ((tree : Ast) × IsTree tree tokens) ⊎ ((at : ℕ) × IsTreeFault tokens at) }
     ensures filters { (tokens : List Token) → EndsLast tokens
         → ((tree : ExprAst) × IsExprTree tree tokens) ⊎ ((at : ℕ) × IsExprTreeFault tokens at) }

@@ -7,4 +7,4 @@ mod decl;
 mod translation;
 mod types;
 
-pub use translation::translate;
+pub use translation::module_of_description;

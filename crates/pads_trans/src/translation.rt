@@ -46,7 +46,7 @@ fn module_by(
 /// call has another number of arguments than its declaration, or 16 bits don't count the names,
 /// declarations, parameters, parts, branches, cases or labels. The tree of an accepted description has
 /// none of this. Where there is no module, the other answer is want of memory.
-pub fn translate(
+pub fn module_of_description(
     alloc: Global,
     description: &Description,
     ambient: Coding,

@@ -5,7 +5,7 @@ ghost use Rattle.pads_trans.specs.Terms.{coding_of, base_of, text_of, literal_of
 
 use pads_base_names::NamedCoding;
 use pads_bases::{Label as Spelled, Labels};
-use pads_calc::{Arm, Arms, Base, Exprs, Key, ComputedForm, Term};
+use pads_calc::{Arm, Arms, Base, ComputedForm, Exprs, Key, Term};
 use pads_code::{Coding, encode};
 use pads_trans_expr::{Numbering, translate_expr, translate_exprs};
 use pads_typed_tree::{BaseType, Computed, Const, Expr as Tree, Label, Literal, Type, TypeName};

@@ -4,7 +4,7 @@ use Rattle.pads_rules.specs.declared.fault.CheckFault.{CheckFault}
 use Rattle.pads_rules.specs.DeclRules.{name_taken, name_again, other_name, spelling_again, marked_with_params, misplaced_source, too_much, options_of, labels_of}
 use Rattle.pads_rules.specs.Faults.{lesser, least, each}
 use Rattle.pads_rules.specs.Pieces.{Site, pieces}
-use Rattle.pads_rules.specs.Trees.{param_names, inner_names}
+use Rattle.pads_ast.specs.Trees.{param_names, inner_names}
 use Rattle.pads_rules.proofs.Least.{lesser_comm, lesser_assoc, least-append}
 use Rattle.pads_rules.specs.SiteFaults.{decl_faults, piece_faults, site_faults}
 use Rattle.pads_violations.specs.InBodies.{pieces_told}

@@ -8,7 +8,8 @@ use Rattle.pads_ast.specs.declared.decl.Decl.{Decl}
 use Rattle.pads_rules.specs.declared.fault.CheckFault.{CheckFault}
 use Rattle.pads_rules.specs.DeclRules.{token_count, too_much}
 use Rattle.pads_rules.specs.Faults.{lesser, least, each}
-use Rattle.pads_rules.specs.NameTokens.{Names, names_in_decl, with_names}
+use Rattle.pads_ast.specs.NameTokens.{Names, names_in_decl}
+use Rattle.pads_rules.specs.DifferentNames.{with_names}
 use Rattle.pads_rules.specs.Pieces.{Site}
 use Rattle.pads_rules.specs.Resolving.{declared}
 use Rattle.pads_rules.specs.Violations.{violations}

@@ -18,7 +18,7 @@ use Rattle.pads_rules.specs.Faults.{each, lesser, least}
 use Rattle.pads_rules.specs.Judging as judging
 use Rattle.pads_rules.specs.Pieces.{Site, Piece, Spelled, literal_pieces, label_pieces, part_pieces, parts_pieces, texts_of_parts, names_after, names_after_all}
 use Rattle.pads_rules.specs.Resolving.{named}
-use Rattle.pads_rules.specs.Trees.{named_part}
+use Rattle.pads_ast.specs.Trees.{named_part}
 use Rattle.pads_rules.proofs.Least.{least-append, each-append, lesser-none, lesser_assoc}
 use Rattle.pads_judge.proofs.ScopeLemmas.{in_hiding}
 use Rattle.pads_rules.specs.SiteFaults.{piece_faults}

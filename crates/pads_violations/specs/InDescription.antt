@@ -4,7 +4,7 @@ use Rattle.pads_ast.specs.declared.decl.Ast.{Ast}
 use Rattle.pads_ast.specs.declared.decl.Decl.{Decl}
 use Rattle.pads_rules.specs.declared.fault.CheckFault.{CheckFault}
 use Rattle.pads_rules.specs.Faults.{least, each}
-use Rattle.pads_rules.specs.NameTokens.{Names, names_in_decl}
+use Rattle.pads_ast.specs.NameTokens.{Names, names_in_decl}
 use Rattle.pads_rules.specs.Pieces.{Site, sites}
 use Rattle.pads_rules.specs.Violations.{no_record_type}
 use Rattle.pads_rules.specs.SiteFaults.{site_faults}

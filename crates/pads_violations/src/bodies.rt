@@ -6,7 +6,7 @@ ghost use Rattle.pads_rules.specs.Sorts.{num, plain};
 ghost use Rattle.pads_rules.specs.declared.sort.Form.TheVariants as form;
 ghost use Rattle.pads_rules.specs.Pieces as pieces;
 ghost use Rattle.pads_rules.specs.Resolving.{branch_named, param_named};
-ghost use Rattle.pads_rules.specs.Trees as trees;
+ghost use Rattle.pads_ast.specs.Trees as trees;
 ghost use Rattle.pads_judge.specs.Scopes.{names_in_scope};
 ghost use Rattle.pads_piece_rules.specs.Told.{stands, piece_told};
 ghost use Rattle.pads_violations.specs.InBodies.{pieces_told, labels_told, in_elements_told, constraint_told};

@@ -4,7 +4,7 @@
 ghost use Rattle.std.specs.Prelude.{◌≡◌, ◌+◌, slice_get, Some, IfOk, OnOk};
 ghost use Rattle.std.specs.List.{list_any};
 ghost use Rattle.pads_rules.specs.Faults.{least};
-ghost use Rattle.pads_rules.specs.Trees as trees;
+ghost use Rattle.pads_ast.specs.Trees as trees;
 ghost use Rattle.pads_rules.specs.Violations.{violations};
 ghost use Rattle.pads_piece_rules.specs.Told.{stands};
 ghost use Rattle.pads_violations.specs.InDescription.{site_told, decls_told, record_told, names_up_to};

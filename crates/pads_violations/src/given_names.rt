@@ -1,7 +1,7 @@
 //! The names that a declaration gives.
 
 ghost use Rattle.std.specs.Prelude.{◌≡◌, ◌++◌, map, flat_map, IfOk, OnOk};
-ghost use Rattle.pads_rules.specs.Trees as trees;
+ghost use Rattle.pads_ast.specs.Trees as trees;
 
 use pads_ast::{Branch, DeclBody, Label, Name, Param, Part};
 use pads_declared::{branches_of, params_of};

@@ -2,7 +2,7 @@
 
 ghost use Rattle.std.specs.Prelude.{◌≡◌, map, IfOk, OnOk};
 ghost use Rattle.pads_rules.specs.DeclRules as rules;
-ghost use Rattle.pads_rules.specs.NameTokens.{with_name};
+ghost use Rattle.pads_rules.specs.DifferentNames.{with_name};
 ghost use Rattle.pads_rules.specs.Texts.{is_among};
 ghost use Rattle.pads_violations.specs.Repeats.{names_again_told, options_again_told, spellings_again_told};
 ghost use Rattle.pads_violations.specs.OptionKinds.{has_kind, with_kind};

@@ -10,7 +10,7 @@ use pads_lex::lex;
 use pads_resolve::resolve;
 use pads_rules::{ExprSort, Form};
 use pads_syntax::parse;
-use pads_trans::translate;
+use pads_trans::module_of_description;
 use pads_typed_tree::{Decl, DeclBody, Description, Role, Source, Type, TypeName};
 use pads_value::{Bytes, Items, Memory, Refusal};
 use std::alloc::Global;
@@ -117,7 +117,7 @@ fn unfounded(alloc: Global) -> Result<Description, Memory> {
 #[test]
 fn a_declaration_that_is_not_there_is_refused(rt: HostRuntime) -> Result<(), Fail> {
     let description = unfounded(rt.alloc())?;
-    let made = translate(rt.alloc(), &description, Coding::Ascii);
+    let made = module_of_description(rt.alloc(), &description, Coding::Ascii);
     assert!(rt; matches!(&made, Err(Refusal::Fault(IllFormed))));
     Ok(())
 }

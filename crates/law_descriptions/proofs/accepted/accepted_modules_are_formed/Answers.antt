@@ -7,7 +7,7 @@ use Rattle.law_descriptions.proofs.accepted.accepted_modules_are_formed.Goals as
 
 pub returns : goal.returns
 returns c = record {
-  formed = λ tree ambient none spelled. module-formed (resolved tree) ambient (well-sorted tree none spelled);
-  sorted = λ tree ambient none spelled. module-sorted (resolved tree) ambient (well-sorted tree none spelled);
-  plain = λ tree ambient none spelled. module-plain (resolved tree) ambient (well-sorted tree none spelled);
+  formed = λ tree ambient none. module-formed (resolved tree) ambient (well-sorted tree none);
+  sorted = λ tree ambient none. module-sorted (resolved tree) ambient (well-sorted tree none);
+  plain = λ tree ambient none. module-plain (resolved tree) ambient (well-sorted tree none);
 }

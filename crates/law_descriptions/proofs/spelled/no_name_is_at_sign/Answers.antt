@@ -1,5 +1,5 @@
-use Rattle.law_descriptions.proofs.SpelledWhole.{tree-spelled}
+use Rattle.law_descriptions.proofs.NoAtSign.{tree-spelled}
 use Rattle.law_descriptions.proofs.spelled.no_name_is_at_sign.Goals as goal
 
 pub returns : goal.returns
-returns c = record { spelled = search tree-spelled }
+returns c = record { spelled = tree-spelled }

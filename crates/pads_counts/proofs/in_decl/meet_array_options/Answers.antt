@@ -1,4 +1,4 @@
-use Rattle.pads_rules.specs.NameTokens.{names_in_array_option}
+use Rattle.pads_ast.specs.NameTokens.{names_in_array_option}
 use Rattle.pads_counts.proofs.MetLaws.{one-more}
 use Rattle.pads_counts.proofs.in_decl.meet_array_options.Goals as goal
 

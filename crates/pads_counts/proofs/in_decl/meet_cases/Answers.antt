@@ -1,5 +1,5 @@
 use Rattle.pads_ast.specs.declared.decl.Case.{Case}
-use Rattle.pads_rules.specs.NameTokens.{names_in_branch}
+use Rattle.pads_ast.specs.NameTokens.{names_in_branch}
 use Rattle.pads_counts.proofs.MetLaws.{one-more}
 use Rattle.pads_counts.proofs.in_decl.meet_cases.Goals as goal
 

@@ -1,5 +1,5 @@
 use Rattle.std.proofs.Common.{◌≡◌, take, flat_map}
-use Rattle.pads_rules.specs.NameTokens.{names_in_param}
+use Rattle.pads_ast.specs.NameTokens.{names_in_param}
 use Rattle.pads_counts.specs.Met.{met}
 use Rattle.pads_counts.proofs.in_decl.meet_params.Given as goal
 

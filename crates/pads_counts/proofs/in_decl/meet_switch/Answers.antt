@@ -2,8 +2,8 @@ use Rattle.std.proofs.Common.{◌∙◌, sym, ap, refl, map, flat_map, ◌++◌,
 use Rattle.std.proofs.lemmas.List.Concat.{flat_map-append}
 use Rattle.std.proofs.lemmas.List.Folds.{flat_map-map}
 use Rattle.pads_ast.specs.declared.decl.Case.{Case}
-use Rattle.pads_rules.specs.NameTokens.{Names, names_in_expr, names_in_branch}
-use Rattle.pads_rules.specs.Trees.{listed}
+use Rattle.pads_ast.specs.NameTokens.{Names, names_in_expr, names_in_branch}
+use Rattle.pads_ast.specs.Trees.{listed}
 use Rattle.pads_counts.specs.Met.{met}
 use Rattle.pads_counts.proofs.MetLaws.{both, then}
 use Rattle.pads_counts.proofs.in_decl.meet_switch.Goals as goal

@@ -2,8 +2,8 @@ use Rattle.std.proofs.Common.{◌≡◌, ◌∙◌, sym, ap, refl, flat_map, ◌
 use Rattle.pads_ast.specs.declared.expr.Expr.{Expr}
 use Rattle.pads_ast.specs.declared.expr.Link.{Link}
 use Rattle.pads_ast.specs.declared.expr.Step.{Step}
-use Rattle.pads_rules.specs.NameTokens.{names_in_expr}
-use Rattle.pads_rules.proofs.ExprNames.{names_in-Unary, names_in-Name, names_in-Paren, names_in-Pis, names_in-Plen, names_in-Pforall}
+use Rattle.pads_ast.specs.NameTokens.{names_in_expr}
+use Rattle.pads_ast.proofs.ExprNames.{names_in-Unary, names_in-Name, names_in-Paren, names_in-Pis, names_in-Plen, names_in-Pforall}
 use Rattle.pads_counts.specs.Met.{met, names_behind}
 use Rattle.pads_counts.proofs.MetLaws.{met-nil, both, one-alone, spelled-as, then, then-one, one, one-more}
 use Rattle.pads_counts.proofs.ExprLaws.{in-Chain, in-Post, nameless}

@@ -1,5 +1,5 @@
 use Rattle.std.proofs.Common.{◌≡◌, take, flat_map}
-use Rattle.pads_rules.specs.NameTokens.{names_in_expr}
+use Rattle.pads_ast.specs.NameTokens.{names_in_expr}
 use Rattle.pads_counts.specs.Met.{met, names_behind}
 use Rattle.pads_counts.proofs.in_expr.+meet.Given as goal
 

@@ -1,7 +1,7 @@
 use Rattle.std.proofs.Common.{◌∙◌, sym, ap, take, ◌+◌}
 use Rattle.pads_ast.specs.declared.decl.Part.{Part}
 use Rattle.pads_rules.specs.DeclRules.{texts}
-use Rattle.pads_rules.specs.Trees.{part_names}
+use Rattle.pads_ast.specs.Trees.{part_names}
 use Rattle.pads_counts.specs.Met.{met}
 use Rattle.pads_counts.proofs.MetLaws.{one-more, texts-gathered}
 use Rattle.pads_counts.proofs.in_scope.add_parts.Goals as goal

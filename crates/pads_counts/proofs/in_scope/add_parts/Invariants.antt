@@ -1,6 +1,6 @@
 use Rattle.std.proofs.Common.{◌≡◌, take, flat_map}
 use Rattle.pads_rules.specs.DeclRules.{texts}
-use Rattle.pads_rules.specs.Trees.{part_names}
+use Rattle.pads_ast.specs.Trees.{part_names}
 use Rattle.pads_counts.specs.Met.{met}
 use Rattle.pads_counts.proofs.in_scope.add_parts.Given as goal
 

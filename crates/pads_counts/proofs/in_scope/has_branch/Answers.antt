@@ -1,5 +1,5 @@
 use Rattle.std.proofs.Common.{◌∙◌, ap, nat_lt}
-use Rattle.pads_rules.specs.Trees.{branches_of}
+use Rattle.pads_ast.specs.Trees.{branches_of}
 use Rattle.pads_counts.proofs.CountLaws.{has-some}
 use Rattle.pads_counts.proofs.in_scope.has_branch.Goals as goal
 

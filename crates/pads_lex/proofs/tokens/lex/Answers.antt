@@ -1,4 +1,5 @@
 use Rattle.pads_lex.proofs.CutLaws.{text_is_read, answers_found, answers_fault, answers_only, answers_only_fault, found_ends, found_numbers}
+use Rattle.pads_lex.proofs.NameLaws.{found_names}
 use Rattle.pads_lex.proofs.tokens.lex.Goals as goal
 
 pub returns-clause-found : goal.returns-clause-found
@@ -18,3 +19,6 @@ returns-clause-ends c = found_ends c.args.text.now _ (answers_found c.args.text.
 
 pub returns-clause-numbers : goal.returns-clause-numbers
 returns-clause-numbers c = found_numbers c.args.text.now _ (answers_found c.args.text.now _ _ c.tokens_of.ensures.found (text_is_read c.args.text.now))
+
+pub returns-clause-names : goal.returns-clause-names
+returns-clause-names c = found_names c.args.text.now _ (answers_found c.args.text.now _ _ c.tokens_of.ensures.found (text_is_read c.args.text.now))

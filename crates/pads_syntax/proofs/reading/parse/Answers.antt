@@ -1,17 +1,12 @@
-use Rattle.pads_syntax.specs.Declarations.{decls}
-use Rattle.pads_syntax.proofs.DeclDecides.{decls_ok}
-use Rattle.pads_syntax.specs.Trees.{description}
-use Rattle.pads_syntax.proofs.Answered.{answer_found, answer_only, answer_fault, answer_place}
+use Rattle.pads_syntax.proofs.SpelledWhole.{tree-spelled}
+use Rattle.pads_syntax.proofs.Trees.{only_given, none_given}
 use Rattle.pads_syntax.proofs.reading.parse.Goals as goal
 
-pub returns-clause-found : goal.returns-clause-found
-returns-clause-found c = answer_found decls description decls_ok c.args.tokens.now c.description.result c.description.ensures.answers
+pub invariant_of-result : goal.invariant_of-result
+invariant_of-result c = record { spelled = tree-spelled c.args.tokens.now (c.in-Ok.decls, c.in-Ok.end) c.in-Ok.ensures.answers c.requires.names }
 
-pub returns-clause-only : goal.returns-clause-only
-returns-clause-only c = answer_only decls description decls_ok c.args.tokens.now c.description.result c.description.ensures.answers
+pub returns-in-Ok-clause-only : goal.returns-in-Ok-clause-only
+returns-in-Ok-clause-only c tree whole = only_given c.args.tokens.now _ tree c.in-Ok.ensures.answers whole
 
-pub returns-clause-fault : goal.returns-clause-fault
-returns-clause-fault c = answer_fault decls description decls_ok c.args.tokens.now c.description.result c.description.ensures.answers
-
-pub returns-clause-place : goal.returns-clause-place
-returns-clause-place c = answer_place decls description decls_ok c.args.tokens.now c.description.result c.description.ensures.answers
+pub returns-in-Err-clause-only : goal.returns-in-Err-clause-only
+returns-in-Err-clause-only c tree whole = none_given c.args.tokens.now c.in-Err.refusal c.in-Err.ensures.answers tree whole

@@ -1,6 +1,6 @@
 use Rattle.std.proofs.Common.{◌∙◌, ap, length}
 use Rattle.pads_piece_rules.specs.Told.{stands}
-use Rattle.pads_rules.specs.NameTokens.{names_in_decl}
+use Rattle.pads_ast.specs.NameTokens.{names_in_decl}
 use Rattle.pads_counts.specs.Met.{met}
 use Rattle.pads_violations.proofs.DescriptionLaws.{names-more, names-counted, site-joined}
 use Rattle.pads_violations.proofs.description.at_site.Goals as goal

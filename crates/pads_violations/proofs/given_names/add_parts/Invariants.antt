@@ -1,5 +1,5 @@
 use Rattle.std.proofs.Common.{◌≡◌, ◌++◌, take, map, flat_map}
-use Rattle.pads_rules.specs.Trees.{part_names}
+use Rattle.pads_ast.specs.Trees.{part_names}
 use Rattle.pads_violations.proofs.given_names.add_parts.Given as goal
 
 abbrev pub invariant-loop-part : goal.invariant-loop-part

@@ -4,7 +4,7 @@ use Rattle.pads_ast.specs.declared.name.Name.{Name}
 use Rattle.pads_rules.specs.declared.rule.Rule.TheVariants as rule
 use Rattle.pads_rules.specs.DeclRules.{same_name}
 use Rattle.pads_rules.specs.Faults.{breaks}
-use Rattle.pads_rules.specs.NameTokens.{with_name}
+use Rattle.pads_rules.specs.DifferentNames.{with_name}
 use Rattle.pads_rules.specs.Texts.{is_among}
 use Rattle.pads_violations.specs.Repeats.{names_again_told}
 use Rattle.pads_piece_rules.proofs.Steps.{none-lesser, again-step, again-end}

@@ -1,7 +1,7 @@
 use Rattle.std.proofs.Common.{◌≡◌, true, nat_lt, length}
 use Rattle.pads_trans_expr.specs.Met.{names_of}
 use Rattle.pads_trans.proofs.Whole.{whole, formed}
-use Rattle.pads_trans.proofs.translation.translate.Goals as goal
+use Rattle.pads_trans.proofs.translation.module_of_description.Goals as goal
 
 pub returns-clause-module : goal.returns-clause-module
 returns-clause-module c =

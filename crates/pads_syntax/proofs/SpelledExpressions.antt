@@ -1,4 +1,4 @@
--- The names in an expression that is read from a text.
+-- The names in an expression.
 use Rattle.std.proofs.Common.{◌≡◌, sym, refl, subst, ℕ, zero, suc, pos, negsuc, true, false, List, [], ◌∷◌, ◌++◌}
 use Rattle.std.specs.List.{flat_map}
 use Rattle.std.specs.Prelude.{⊤}
@@ -18,15 +18,14 @@ use Rattle.pads_ast.specs.declared.expr.Step.TheVariants as step_form
 use Rattle.pads_ast.specs.declared.expr.UnaryOperator.{UnaryOperator}
 use Rattle.pads_ast.specs.declared.name.Name.{Name}
 use Rattle.pads_ast.specs.declared.name.Word.{Word}
-use Rattle.pads_rules.specs.NameTokens.{Names, names_in_expr, names_in_form, names_in_step}
-use Rattle.pads_rules.proofs.ExprNames.{names_in_expr-roll}
+use Rattle.pads_ast.specs.NameTokens.{Names, names_in_expr, names_in_form, names_in_step}
+use Rattle.pads_ast.proofs.ExprNames.{names_in_expr-roll}
 use Rattle.pads_syntax_expr.specs.Leaves.{text_of, mark, name, word, number}
 use Rattle.pads_syntax_expr.specs.Expressions.{operators, link, chained, prod, sum, rel, eq, both, any, sign, signed, field, index, plain, paren, opened, branch_name, pis, plen, quantifier, body, pforall, nested_atom, nested_step, posts, unary, expr}
 use Rattle.pads_syntax_expr.specs.declared.level.Level.TheVariants as level_form
-use Rattle.law_descriptions.specs.WellSorted.{Each}
-use Rattle.law_descriptions.specs.Described.{IsSpelled, AreSpelled}
-use Rattle.law_descriptions.proofs.Given.{each-both}
-use Rattle.law_descriptions.proofs.Keeps.{Keeps, keeps-token, keeps-any, keeps-pair, keeps-apply, keeps-first, keeps-second, keeps-either, keeps-many}
+use Rattle.std.specs.List.{AllByRecursion as Each}
+use Rattle.pads_syntax.proofs.SpelledLists.{IsSpelled, AreSpelled, each-both}
+use Rattle.pads_syntax.proofs.Keeps.{Keeps, keeps-token, keeps-any, keeps-pair, keeps-apply, keeps-first, keeps-second, keeps-either, keeps-many}
 
 named : (token : TokenKind) → kind_of token ≡ kind.Name → token ≡ token_kind.Name (text_of token)
 named (token_kind.Name text) is = refl
@@ -175,6 +174,6 @@ keeps-unary (suc depth) =
     keeps-either (keeps-signed (unary depth) (keeps-unary depth))
     (keeps-posts (nested_atom (any (unary depth))) (nested_step (any (unary depth))) (keeps-nested-atom (any (unary depth)) inside) (keeps-either (keeps-index (any (unary depth)) inside) keeps-field))
 
--- No name in an expression is spelled `@`.
+-- Each name in an expression is spelled as a name.
 pub keeps-expr : (depth : ℕ) → Keeps (expr depth) SpelledExpr
 keeps-expr depth = keeps-any-level (unary depth) (keeps-unary depth)

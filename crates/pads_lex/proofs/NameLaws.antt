@@ -1,27 +1,25 @@
--- The names among the tokens of a text: none is spelled `@`.
-use Rattle.std.proofs.Common.{◌≡◌, ◌∙◌, sym, ap, refl, subst, arith, ℕ, Bool, true, false, cond, nat_eq, List, [], ◌∷◌, take, Option, Some, None}
+-- Each name among the tokens of a text is spelled as a name.
+use Rattle.std.proofs.Common.{◌≡◌, ◌∙◌, sym, ap, refl, subst, ℕ, Bool, true, false, not, cond, List, [], ◌∷◌, take, Result, Ok, Err, Option, Some, None, is_some, ◌&&◌}
+use Rattle.std.specs.Prelude.{IfOk}
 use Rattle.std.specs.List.{list_all}
-use Rattle.std.proofs.lemmas.Bool.{and_parts}
-use Rattle.std.proofs.lemmas.Bool.Decides.{nat_tests}
-use Rattle.pads_lex.specs.Bytes.{is_letter}
+use Rattle.std.proofs.lemmas.Bool.{and_from, and_parts}
+use Rattle.pads_lex.specs.Answers.{HasSpelledNames}
+use Rattle.pads_lex.specs.Bytes.{is_letter, is_word_byte}
 use Rattle.pads_lex.specs.Cut.{IsCut}
 use Rattle.pads_lex.specs.Cut.IsCut.{ends, passes, stands}
-use Rattle.pads_lex.specs.Spelling.{Spells, word_kind, mark_of}
+use Rattle.pads_lex.specs.Spelling.{Spells, is_name, word_kind, mark_of}
 use Rattle.pads_lex.specs.Spelling.Spells.{name, zero, decimal, hexadecimal, char, text, mark}
 use Rattle.pads_lex.specs.Words.{or_else, keyword_of, declaration_words, part_words, expression_words, double_marks, single_marks}
 use Rattle.pads_value.specs.Words.{is_word, find_word}
+use Rattle.pads_value.specs.declared.memory.Refusal.{Refusal}
+use Rattle.pads_lex.specs.declared.fault.LexFault.{LexFault}
 use Rattle.pads_lex.specs.declared.token.Token.{Token}
 use Rattle.pads_lex.specs.declared.token.TokenKind.{TokenKind}
 use Rattle.pads_lex.specs.declared.token.TokenKind.TheVariants as kind
-use Rattle.law_descriptions.specs.WellSorted.{Each}
-use Rattle.law_descriptions.specs.Described.{IsSpelled}
 
--- A token that is a name isn't spelled `@`.
-abbrev pub IsFineKind : TokenKind → Type 0
-IsFineKind token = (word : List ℕ) → token ≡ kind.Name word → IsSpelled word
-
-abbrev pub IsFine : Token → Type 0
-IsFine t = IsFineKind t.kind
+-- A token that is a name is spelled as one.
+abbrev IsFineKind : TokenKind → Type 0
+IsFineKind token = (word : List ℕ) → token ≡ kind.Name word → is_name word ≡ true
 
 -- a token that is no name
 abbrev is_other : TokenKind → Bool
@@ -56,21 +54,23 @@ keyword-other word token =
     (found-other declaration_words word token refl)
     (or_else-other (find_word word part_words) (find_word word expression_words) token (found-other part_words word token refl) (found-other expression_words word token refl))
 
--- what begins with a letter or `_` isn't `@`
-letter-spelled : (first : ℕ) (others : List ℕ) → is_letter first ≡ true → IsSpelled (first ∷ others)
-unfolding is_letter
-letter-spelled first others letter = let no : nat_eq 0x40 first ≡ false = grind (arith, nat_tests) in rw no refl
+-- what begins with a letter or `_`, goes on with letters, digits and `_`, and is no keyword
+name-spelled : (first : ℕ) (others : List ℕ) → is_letter first ≡ true → list_all is_word_byte others ≡ true → keyword_of (first ∷ others) ≡ None → is_name (first ∷ others) ≡ true
+unfolding is_name
+name-spelled first others letter all none =
+    and_from (is_letter first && list_all is_word_byte others) (not (is_some (keyword_of (first ∷ others))))
+    (and_from (is_letter first) (list_all is_word_byte others) letter all) (ap (λ o. not (is_some o)) none)
 
-word-fine : (word : List ℕ) → IsSpelled word → IsFineKind (word_kind word)
+word-fine : (word : List ℕ) → (keyword_of word ≡ None → is_name word ≡ true) → IsFineKind (word_kind word)
 word-fine word spelled = go (keyword_of word) refl
   where
     go : (o : Option TokenKind) → keyword_of word ≡ o → IsFineKind (elim o [ None ↦ kind.Name word | Some keyword ↦ keyword ])
-    go None is = λ other same. let h : word ≡ other = cc in subst IsSpelled h spelled
+    go None is = λ other same. let h : word ≡ other = cc in subst (λ w. is_name w ≡ true) h (spelled is)
     go (Some keyword) is = other-fine keyword (keyword-other word keyword is)
 
 spells-fine : (word : List ℕ) (token : TokenKind) → Spells word token → IsFineKind token
 spells-fine word token (name first others is letter all same) =
-    subst IsFineKind (sym same) (word-fine word (subst IsSpelled (sym is) (letter-spelled first others letter)))
+    subst IsFineKind (sym same) (word-fine word (subst (λ w. keyword_of w ≡ None → is_name w ≡ true) (sym is) (name-spelled first others letter all)))
 spells-fine word token (zero is same) = subst IsFineKind (sym same) (other-fine _ refl)
 spells-fine word token (decimal first others is digit all same) = subst IsFineKind (sym same) (other-fine _ refl)
 spells-fine word token (hexadecimal digits is some all same) = subst IsFineKind (sym same) (other-fine _ refl)
@@ -78,8 +78,11 @@ spells-fine word token (char bytes point is characters same) = subst IsFineKind 
 spells-fine word token (text bytes points is characters same) = subst IsFineKind (sym same) (other-fine _ refl)
 spells-fine word token (mark found) = other-fine token (mark-other word token found)
 
--- No name token of a text is spelled `@`.
-pub cut-fine : (at : ℕ) (bytes : List ℕ) (tokens : List Token) → IsCut at bytes tokens → Each IsFine tokens
-cut-fine at bytes tokens ends = (other-fine kind.End refl, tt)
-cut-fine at bytes tokens (passes size gap cut) = cut-fine _ _ tokens cut
-cut-fine at bytes tokens (stands {tokens = rest} size token here cut) = (spells-fine (take size bytes) token here.longest.spells, cut-fine _ _ rest cut)
+pub cut_names : (at : ℕ) (bytes : List ℕ) (tokens : List Token) → IsCut at bytes tokens → HasSpelledNames tokens
+cut_names at bytes tokens ends = (other-fine kind.End refl, tt)
+cut_names at bytes tokens (passes size gap cut) = cut_names _ _ tokens cut
+cut_names at bytes tokens (stands {tokens = rest} size token here cut) = (spells-fine (take size bytes) token here.longest.spells, cut_names _ _ rest cut)
+
+pub found_names : (z : List ℕ) (r : Result (List Token) (Refusal LexFault)) → IfOk r (λ tokens. IsCut 0 z tokens) → IfOk r HasSpelledNames
+found_names z (Ok tokens) cut = cut_names 0 z tokens cut
+found_names z (Err e) cut = tt

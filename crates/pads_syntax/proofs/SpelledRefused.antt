@@ -1,13 +1,20 @@
--- A tree with a name `@`: the grammar makes it of tokens that no text is cut into.
-use Rattle.std.proofs.Common.{◌≡◌, refl, ℕ, ◌+◌, true, false, List, [], ◌∷◌, ◌++◌, None, inl, inr, codes}
+-- Declarations with a name `@`: the grammar makes them of tokens that no text is cut into, and no tree has them.
+use Rattle.std.proofs.Common.{◌≡◌, refl, subst, ℕ, ◌+◌, true, List, [], ◌∷◌, ◌++◌, None, inl, inr, codes}
+use Rattle.std.specs.List.{list_all}
+use Rattle.std.proofs.lemmas.Bool.{and_parts}
+use Rattle.pads_lex.proofs.NameLaws.{cut_names}
+use Rattle.pads_lex.specs.Bytes.{is_letter}
 use Rattle.pads_lex.specs.Cut.{IsCut}
+use Rattle.pads_lex.specs.Spelling.{is_name}
 use Rattle.pads_lex.specs.declared.token.Token.{Token}
 use Rattle.pads_lex.specs.declared.token.TokenKind.{TokenKind}
 use Rattle.pads_lex.specs.declared.token.TokenKind.TheVariants as token_kind
 use Rattle.pads_grammar.specs.declared.kind.Kind.{Kind}
 use Rattle.pads_grammar.specs.declared.kind.Kind.TheVariants as kind
 use Rattle.pads_grammar.specs.Kinds.{Tokens, kind_of}
+use Rattle.pads_grammar.specs.Whole.{Whole}
 use Rattle.pads_grammar.specs.Grammar.{Grammar, Derives, pair, optional, many, rest_of, ◌<*◌, ◌*>◌}
+use Rattle.pads_ast.specs.NameTokens.{names_in}
 use Rattle.pads_ast.specs.declared.decl.Ast.{Ast}
 use Rattle.pads_ast.specs.declared.decl.DeclBody.TheVariants as decl_form
 use Rattle.pads_ast.specs.declared.decl.Decl.{Decl}
@@ -16,10 +23,10 @@ use Rattle.pads_ast.specs.declared.decl.Label.{Label}
 use Rattle.pads_ast.specs.declared.name.Name.{Name}
 use Rattle.pads_syntax_expr.specs.Leaves.{mark, name}
 use Rattle.pads_syntax_parts.specs.Parts.{spelling, label, labels}
-use Rattle.pads_syntax.specs.Declarations.{enum_heading, enum_decl, marked, other_body, decl_body, decl}
-use Rattle.pads_syntax.specs.Trees.{IsTree}
-use Rattle.law_descriptions.specs.Known.{IsSpelledTree}
-use Rattle.law_descriptions.proofs.SpelledWhole.{tree-spelled}
+use Rattle.pads_syntax.specs.Declarations.{enum_heading, enum_decl, marked, other_body, decl_body, decl, decls}
+use Rattle.pads_syntax.specs.Trees.{description, IsTree}
+use Rattle.pads_syntax.proofs.DeclDecides.{decls_ok}
+use Rattle.pads_syntax.proofs.TreeLaws.{one}
 
 abbrev at : ℕ → TokenKind → Token
 at place kind = record { kind = kind; begin = place; «end» = place + 1 }
@@ -43,7 +50,7 @@ written = body ++ at 5 token_kind.Semicolon ∷ []
 abbrev the_tokens : Tokens
 the_tokens = written ++ at 6 token_kind.End ∷ []
 
--- the tree that they make
+-- what they make
 abbrev the_name : Name
 the_name = record { text = codes "@"; at = 1 }
 
@@ -55,9 +62,6 @@ the_enum = record { name = the_name; labels = the_label ∷ [] }
 
 abbrev the_decl : Decl
 the_decl = record { mark = None; body = decl_form.Enum the_enum }
-
-abbrev the_tree : Ast
-the_tree = record { decls = the_decl ∷ []; end = 6 }
 
 marked-by : (k : Kind) (t : Token) → kind_of t.kind ≡ k → Derives (mark k) t.begin (t ∷ [])
 marked-by k t is = record { token = t; alone = refl; kind = is; taken = refl }
@@ -116,7 +120,7 @@ decl-derived = record {
 }
 
 -- The grammar alone doesn't keep such a name out.
-pub derives-at_sign : IsTree the_tree the_tokens
+pub derives-at_sign : Whole decls description (the_decl ∷ [], 6) the_tokens
 derives-at_sign = record {
   front = written;
   «end» = at 6 token_kind.End;
@@ -127,9 +131,17 @@ derives-at_sign = record {
   made = refl;
 }
 
-pub refuses-at_sign : IsSpelledTree the_tree → ⊥
-refuses-at_sign spelled = let no : true ≡ false = (spelled 0 the_decl refl).0 in cc
+at_sign-refused : is_name (codes "@") ≡ true → ⊥
+unfolding is_name is_letter
+at_sign-refused spelled = cc
 
--- No text is cut into these tokens.
+-- A tree does.
+pub no_tree : (tree : Ast) → IsTree tree the_tokens → ⊥
+no_tree tree is =
+    let same = one decls description decls_ok the_tokens (tree.decls, tree.end) (the_decl ∷ [], 6) is derives-at_sign in
+    let spelled = subst (λ (both : List Decl × ℕ). list_all is_name (names_in both.0) ≡ true) same tree.spelled in
+    at_sign-refused (and_parts (is_name (codes "@")) _ spelled).0
+
+-- And no text is cut into these tokens.
 pub no_text : (text : List ℕ) → IsCut 0 text the_tokens → ⊥
-no_text text cut = refuses-at_sign (tree-spelled text the_tokens the_tree cut derives-at_sign)
+no_text text cut = at_sign-refused ((cut_names 0 text the_tokens cut).1.0 (codes "@") refl)

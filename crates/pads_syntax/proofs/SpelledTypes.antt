@@ -7,15 +7,13 @@ use Rattle.pads_ast.specs.declared.types.Arg.TheVariants as arg_form
 use Rattle.pads_ast.specs.declared.types.Branch.{Branch}
 use Rattle.pads_ast.specs.declared.types.Param.{Param}
 use Rattle.pads_ast.specs.declared.types.Type.{«Type»}
-use Rattle.pads_rules.specs.NameTokens.{names_in_expr, names_in_option, names_in_arg, names_in_type, names_in_param, names_in_branch}
+use Rattle.pads_ast.specs.NameTokens.{names_in_expr, names_in_option, names_in_arg, names_in_type, names_in_param, names_in_branch}
 use Rattle.pads_syntax_expr.specs.Leaves.{mark}
 use Rattle.pads_syntax_parts.specs.Types.{expression, arg, args, type_use, param, params, constraint, branch}
-use Rattle.law_descriptions.specs.WellSorted.{Each, IfThere}
-use Rattle.law_descriptions.specs.Described.{IsSpelled, AreSpelled}
-use Rattle.law_descriptions.proofs.Given.{each-both}
-use Rattle.law_descriptions.proofs.SpelledExpressions.{SpelledExpr, keeps-name, keeps-expr}
-use Rattle.law_descriptions.proofs.Keeps.{Keeps, keeps-token, keeps-any, keeps-pair, keeps-apply, keeps-first, keeps-second, keeps-either, keeps-optional, keeps-listed}
-use Rattle.law_descriptions.proofs.SpelledLists.{each-written, each-listed}
+use Rattle.std.specs.List.{AllByRecursion as Each}
+use Rattle.pads_syntax.proofs.SpelledExpressions.{SpelledExpr, keeps-name, keeps-expr}
+use Rattle.pads_syntax.proofs.Keeps.{IfThere, Keeps, keeps-token, keeps-any, keeps-pair, keeps-apply, keeps-first, keeps-second, keeps-either, keeps-optional, keeps-listed}
+use Rattle.pads_syntax.proofs.SpelledLists.{IsSpelled, AreSpelled, each-both, each-written, each-listed}
 
 pub keeps-expression : Keeps expression SpelledExpr
 unfolding expression

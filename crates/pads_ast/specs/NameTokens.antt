@@ -1,8 +1,9 @@
--- The names that a declaration is written with, in any order.
-use Rattle.std.specs.Prelude.{ℕ, if◌then◌else◌, List, [], ◌∷◌, ◌++◌, length, map, flat_map, Option}
+-- The names that declarations are written with, in any order.
+use Rattle.std.specs.Prelude.{ℕ, List, [], ◌∷◌, ◌++◌, map, flat_map, Option}
 use Rattle.pads_ast.specs.declared.decl.ArrayOption.{ArrayOption}
 use Rattle.pads_ast.specs.declared.decl.ArrayOption.TheVariants as array_option
 use Rattle.pads_ast.specs.declared.decl.Constraint.{Constraint}
+use Rattle.pads_ast.specs.declared.decl.Decl.{Decl}
 use Rattle.pads_ast.specs.declared.decl.DeclBody.{DeclBody}
 use Rattle.pads_ast.specs.declared.decl.DeclBody.TheVariants as decl
 use Rattle.pads_ast.specs.declared.decl.Part.{Part}
@@ -17,8 +18,7 @@ use Rattle.pads_ast.specs.declared.types.Arg.TheVariants as arg
 use Rattle.pads_ast.specs.declared.types.Branch.{Branch}
 use Rattle.pads_ast.specs.declared.types.Param.{Param}
 use Rattle.pads_ast.specs.declared.types.Type.{«Type»}
-use Rattle.pads_rules.specs.Texts.{is_among}
-use Rattle.pads_rules.specs.Trees.{args_of, name_of, params_of, branches_of, listed}
+use Rattle.pads_ast.specs.Trees.{args_of, name_of, params_of, branches_of, listed}
 
 abbrev pub Names : Type 0
 Names = List (List ℕ)
@@ -88,15 +88,6 @@ names_in_body (decl.Opt d) = names_in_type d.of
 abbrev pub names_in_decl : DeclBody → Names
 names_in_decl d = (name_of d).text ∷ (flat_map names_in_param (params_of d) ++ names_in_body d)
 
--- Some different names and one more, which may be one of them.
-abbrev pub with_name : Names → List ℕ → Names
-with_name names name = if is_among names name then names else names ++ name ∷ []
-
--- The different ones of some names, in the order in which they first come; `names` came before.
-abbrev pub with_names : Names → Names → Names
-with_names names [] = names
-with_names names (name ∷ more) = with_names (with_name names name) more
-
--- How many different names there are.
-abbrev pub count_of_different : Names → ℕ
-count_of_different names = length (with_names [] names)
+-- Every name token of some declarations.
+abbrev pub names_in : List Decl → Names
+names_in decls = flat_map (λ d. names_in_decl d.body) decls

@@ -18,18 +18,16 @@ use Rattle.pads_ast.specs.declared.decl.UnionBody.TheVariants as union_form
 use Rattle.pads_ast.specs.declared.expr.Expr.{Expr}
 use Rattle.pads_ast.specs.declared.name.Name.{Name}
 use Rattle.pads_ast.specs.declared.types.Param.{Param}
-use Rattle.pads_rules.specs.NameTokens.{Names, names_in_expr, names_in_option, names_in_type, names_in_param, names_in_branch, names_in_part, names_in_array_option, names_in_union, names_in_constraint, names_in_decl}
-use Rattle.pads_rules.specs.Trees.{written, listed}
+use Rattle.pads_ast.specs.NameTokens.{Names, names_in_expr, names_in_option, names_in_type, names_in_param, names_in_branch, names_in_part, names_in_array_option, names_in_union, names_in_constraint, names_in_decl}
+use Rattle.pads_ast.specs.Trees.{written, listed}
 use Rattle.pads_syntax_expr.specs.Leaves.{mark}
 use Rattle.pads_syntax.specs.Declarations.{signature, heading, struct_decl, union_body, union_decl, sized, array_body, array_decl, enum_decl, typedef_decl, opt_decl, marked, other_body, decl_body, decl, decls}
-use Rattle.law_descriptions.specs.WellSorted.{Each, IfThere}
-use Rattle.law_descriptions.specs.Described.{IsSpelled, AreSpelled}
-use Rattle.law_descriptions.proofs.Given.{each-both}
-use Rattle.law_descriptions.proofs.SpelledExpressions.{SpelledName, SpelledExpr, keeps-name}
-use Rattle.law_descriptions.proofs.Keeps.{Keeps, keeps-any, keeps-pair, keeps-apply, keeps-first, keeps-second, keeps-either, keeps-optional, keeps-many}
-use Rattle.law_descriptions.proofs.SpelledLists.{each-flat_map, each-map, each-written, each-listed}
-use Rattle.law_descriptions.proofs.SpelledParts.{SpelledOption, keeps-part, keeps-condition, keeps-switch, keeps-array-options, keeps-labels, keeps-refinement}
-use Rattle.law_descriptions.proofs.SpelledTypes.{SpelledType, keeps-expression, keeps-type, keeps-params, keeps-branch}
+use Rattle.std.specs.List.{AllByRecursion as Each}
+use Rattle.pads_syntax.proofs.SpelledExpressions.{SpelledName, SpelledExpr, keeps-name}
+use Rattle.pads_syntax.proofs.Keeps.{IfThere, Keeps, keeps-any, keeps-pair, keeps-apply, keeps-first, keeps-second, keeps-either, keeps-optional, keeps-many}
+use Rattle.pads_syntax.proofs.SpelledLists.{IsSpelled, AreSpelled, each-both, each-flat_map, each-map, each-written, each-listed}
+use Rattle.pads_syntax.proofs.SpelledParts.{SpelledOption, keeps-part, keeps-condition, keeps-switch, keeps-array-options, keeps-labels, keeps-refinement}
+use Rattle.pads_syntax.proofs.SpelledTypes.{SpelledType, keeps-expression, keeps-type, keeps-params, keeps-branch}
 
 -- a name and the parameters behind it
 abbrev SpelledSignature : (Name × Option (List Param)) → Type 0
@@ -132,6 +130,6 @@ keeps-decl : Keeps decl SpelledDecl
 unfolding decl
 keeps-decl = keeps-apply SpelledDecl (λ both. record { mark = both.0; body = both.1 }) (keeps-first (mark kind.Semicolon) (keeps-pair (keeps-any marked) keeps-body)) (λ both spelled. spelled.1)
 
--- No name in a declaration is spelled `@`.
+-- Each name in a declaration is spelled as a name.
 pub keeps-decls : Keeps decls (Each SpelledDecl)
 keeps-decls = keeps-many keeps-decl

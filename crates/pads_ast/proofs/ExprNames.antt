@@ -5,7 +5,7 @@ use Rattle.pads_ast.specs.declared.expr.Expr.TheVariants as expr
 use Rattle.pads_ast.specs.declared.expr.UnaryOperator.{UnaryOperator}
 use Rattle.pads_ast.specs.declared.name.Name.{Name}
 use Rattle.pads_ast.specs.declared.name.Word.{Word}
-use Rattle.pads_rules.specs.NameTokens.{Names, names_in_expr, names_in_form}
+use Rattle.pads_ast.specs.NameTokens.{Names, names_in_expr, names_in_form}
 
 pub names_in_expr-roll : (layer : Expr-F Expr) → names_in_expr (roll-Expr layer) ≡ names_in_form (map-Expr Expr Names names_in_expr layer)
 unfolding names_in_expr

@@ -12,20 +12,18 @@ use Rattle.pads_ast.specs.declared.decl.Part.TheVariants as part_form
 use Rattle.pads_ast.specs.declared.decl.Switch.{Switch}
 use Rattle.pads_ast.specs.declared.decl.UnionBody.TheVariants as union_form
 use Rattle.pads_ast.specs.declared.types.Branch.{Branch}
-use Rattle.pads_rules.specs.Trees.{listed}
-use Rattle.pads_rules.specs.NameTokens.{names_in_expr, names_in_type, names_in_branch, names_in_part, names_in_array_option, names_in_union, names_in_constraint}
+use Rattle.pads_ast.specs.Trees.{listed}
+use Rattle.pads_ast.specs.NameTokens.{names_in_expr, names_in_type, names_in_branch, names_in_part, names_in_array_option, names_in_union, names_in_constraint}
 use Rattle.pads_syntax_expr.specs.Leaves.{mark, word}
 use Rattle.pads_syntax_expr.specs.Expressions.{opened}
 use Rattle.pads_syntax_parts.specs.Types.{literal}
 use Rattle.pads_syntax_parts.specs.Parts.{literal_part, computed_name, computed_part, part, condition, separator, terminator, last_test, array_option, or_none, array_options, spelling, label, labels, refined_names, refinement}
 use Rattle.pads_syntax.specs.Switches.{case_key, case_rule, switch_value, switch}
-use Rattle.law_descriptions.specs.WellSorted.{Each, IfThere}
-use Rattle.law_descriptions.specs.Described.{IsSpelled, AreSpelled}
-use Rattle.law_descriptions.proofs.Given.{each-both}
-use Rattle.law_descriptions.proofs.SpelledExpressions.{SpelledName, SpelledExpr, keeps-name}
-use Rattle.law_descriptions.proofs.Keeps.{Keeps, keeps-any, keeps-pair, keeps-apply, keeps-first, keeps-second, keeps-either, keeps-optional, keeps-many, keeps-rest_of, keeps-listed}
-use Rattle.law_descriptions.proofs.SpelledLists.{each-flat_map, each-map}
-use Rattle.law_descriptions.proofs.SpelledTypes.{SpelledType, SpelledBranch, keeps-expression, keeps-type, keeps-branch}
+use Rattle.std.specs.List.{AllByRecursion as Each}
+use Rattle.pads_syntax.proofs.SpelledExpressions.{SpelledName, SpelledExpr, keeps-name}
+use Rattle.pads_syntax.proofs.Keeps.{IfThere, Keeps, keeps-any, keeps-pair, keeps-apply, keeps-first, keeps-second, keeps-either, keeps-optional, keeps-many, keeps-rest_of, keeps-listed}
+use Rattle.pads_syntax.proofs.SpelledLists.{IsSpelled, AreSpelled, each-both, each-flat_map, each-map}
+use Rattle.pads_syntax.proofs.SpelledTypes.{SpelledType, SpelledBranch, keeps-expression, keeps-type, keeps-branch}
 
 abbrev pub SpelledPart : Part → Type 0
 SpelledPart p = AreSpelled (names_in_part p)
