@@ -30,7 +30,7 @@ fn decl(alloc: Global, body: Made<Term>) -> Made<Decl> {
 }
 
 /// The module of one declaration with this body.
-fn module(alloc: Global, body: Made<Term>) -> Result<Module, Refusal<IllFormed>> {
+pub(crate) fn module(alloc: Global, body: Made<Term>) -> Result<Module, Refusal<IllFormed>> {
     let shape = Shape {
         head: None,
         each: 0,
@@ -47,7 +47,7 @@ fn number(alloc: Global) -> Made<Term> {
     Ok(Term::Base(base, Items::new(alloc)))
 }
 
-fn named(name: u16, term: Made<Term>) -> Made<Part> {
+pub(crate) fn named(name: u16, term: Made<Term>) -> Made<Part> {
     Ok(Part {
         name: Some(name),
         term: term?,
@@ -69,7 +69,7 @@ fn sought(alloc: Global) -> Made<Term> {
 }
 
 /// A search for a number under a constraint.
-fn wrapped(alloc: Global) -> Made<Term> {
+pub(crate) fn wrapped(alloc: Global) -> Made<Term> {
     let inner = boxed(alloc, sought(alloc))?;
     Ok(Term::Guard(inner, 0, Expr::Truth(true)))
 }
