@@ -1,0 +1,4 @@
+pub mod Answering
+pub mod ReadingBack
+pub mod SameValues
+pub mod Writing

@@ -1,0 +1,4 @@
+pub mod Printing
+pub mod ReadBack
+pub mod Same
+pub mod Writes
