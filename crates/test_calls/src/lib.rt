@@ -13,6 +13,8 @@ mod lines;
 #[cfg(test)]
 mod pieces;
 #[cfg(test)]
+mod prints;
+#[cfg(test)]
 mod terms;
 #[cfg(test)]
 mod trees;
