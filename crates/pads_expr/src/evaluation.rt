@@ -8,10 +8,10 @@ ghost use Rattle.pads_expr.specs.Seen.{seen};
 ghost use Rattle.pads_expr.specs.Value.{value, found, variable_of, at_number};
 ghost use Rattle.pads_expr.specs.Worth.{worth_or_none};
 
+use crate::lent::lent_value;
 use crate::operators::{apply, is_decided};
 use crate::parts::worth;
 use crate::worth::{is_true, truth_alone};
-use crate::lent::lent_value;
 use crate::{Binding, Env, Expr, Lent, Res};
 use pads_value::Val;
 

@@ -8,7 +8,7 @@ use crate::number::{write_integer, write_null};
 use crate::order::order_of;
 use crate::text::write_quoted;
 use pads_bases::{Labels, spell_ip};
-use pads_calc::{Base, Part, ComputedForm, Term};
+use pads_calc::{Base, ComputedForm, Part, Term};
 use pads_code::Coding;
 use pads_forms::{Terms, arm_at, form_at, name_at};
 use pads_value::{Bytes, Memory, Val};

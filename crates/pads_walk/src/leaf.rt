@@ -8,7 +8,7 @@ ghost use Rattle.pads_dispatch.specs.Labels.{labels_fit};
 ghost use Rattle.pads_expr.specs.Value.{value};
 ghost use Rattle.pads_expr.specs.Worth.{worth_or_none};
 
-use pads_calc::{Base, Exprs, Reading, Record, ComputedForm};
+use pads_calc::{Base, ComputedForm, Exprs, Reading, Record};
 use pads_expr::{Env, Expr};
 use pads_value::Memory;
 use std::alloc::Global;

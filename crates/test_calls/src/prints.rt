@@ -49,7 +49,11 @@ fn printed(alloc: Global, discipline: Discipline, text: &[u8]) -> Result<String,
 fn a_text_with_a_newline(rt: HostRuntime) -> Result<(), Fail> {
     let alloc = rt.alloc();
     for (discipline, text, want) in [
-        (Discipline::Fixed(4), b"a\nbc".as_slice(), "97 10 98 99 framed"),
+        (
+            Discipline::Fixed(4),
+            b"a\nbc".as_slice(),
+            "97 10 98 99 framed",
+        ),
         (
             Discipline::Term(10),
             b"a\nbc".as_slice(),

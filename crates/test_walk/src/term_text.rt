@@ -3,7 +3,7 @@
 use crate::base_text::put_base;
 use crate::expr_text::{put_expr, put_exprs, put_name};
 use crate::line::Line;
-use pads_calc::{Arm, Case, Decl, Key, Part, ComputedForm, Seq, Shape, Term};
+use pads_calc::{Arm, Case, ComputedForm, Decl, Key, Part, Seq, Shape, Term};
 use pads_expr::Expr;
 use pads_value::NameTable;
 
