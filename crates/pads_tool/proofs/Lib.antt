@@ -2,7 +2,7 @@
 pub mod Counted
 pub mod Told
 pub mod Texts
-pub mod Lines
+pub mod Records
 pub mod Promises
 pub mod Statuses
 pub mod Unread

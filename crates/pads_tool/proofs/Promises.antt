@@ -1,6 +1,6 @@
 -- How the promise of a command is kept.
-use Rattle.std.proofs.Common.{◌≡◌, ◌^◌, ◌≤◌, ◌+◌, ◌∙◌, inl, inr, refl, sym, ap, subst, ℕ, List, length, length-append, Option, None, Some, IfSome, arith}
-use Rattle.std.specs.Io.KnownBytes.{Consumes}
+use Rattle.std.proofs.Common.{◌≡◌, ◌^◌, ◌≤◌, ◌+◌, ◌∙◌, inl, inr, refl, sym, ap, subst, ℕ, Bool, List, [], length, length-append, append-nil, Option, None, Some, IfSome, arith}
+use Rattle.std.specs.Io.KnownBytes.{Appends, Consumes}
 use Rattle.pads_ast.specs.declared.decl.Ast.{Ast}
 use Rattle.pads_describe.proofs.AnswerLaws.{not_both}
 use Rattle.pads_describe.specs.Trees.{IsAccepted}
@@ -11,9 +11,12 @@ use Rattle.pads_orders.specs.declared.order.Settings.{Settings}
 use Rattle.pads_calc.specs.Modules.{Contents}
 use Rattle.pads_describe.specs.declared.verdict.Verdict.{Verdict}
 use Rattle.pads_tool.proofs.Texts.{if-known}
-use Rattle.pads_tool.specs.Describing.{Description, described}
-use Rattle.pads_tool.specs.Parsing.{LinesGive, WroteMost}
-use Rattle.pads_tool.specs.Promises.{Promise, Seen, seen, Counts, counts, Keeps, checking, parsing, promise_of}
+use Rattle.pads_drive.specs.Outputs.{Work}
+use Rattle.pads_value.specs.declared.row.Row.{Row}
+use Rattle.pads_tool.specs.Describing.{Description, described, lines}
+use Rattle.pads_tool.specs.Reading.{RecordsGive, WroteAll, WroteMost}
+use Rattle.pads_tool.specs.Promises.{Promise, Seen, seen, Counts, counts, Keeps, checking, reading, promise_of}
+use Rattle.pads_tool.specs.Running.{Ordered}
 use Rattle.pads_tool.specs.Texts.{IsDescribedIn, IsRefusedIn, StopsBefore}
 use Rattle.pads_tool.specs.declared.ending.Ending.{Ending}
 use Rattle.pads_tool.specs.declared.ending.Ending.TheVariants as ending
@@ -40,49 +43,73 @@ stopped p s n Refuses ending.ReadFault refused early same h = absurd h
 stopped p s n Refuses ending.WriteFault refused early same h = absurd h
 stopped p s n Refuses ending.TooLong refused early same h = absurd h
 
-pub check-stopped : (name : List ℕ) (content : List ℕ → Option (List ℕ)) (left left' out : Option (List ℕ)) (n : Counts) (e : Ending)
-    → StopsBefore (IsRefusedIn (content name)) n.files n.files' e → Keeps (checking name) (seen content left left' out out) n e
-check-stopped name content left left' out n e h =
-    stopped (checking name) (seen content left left' out out) n (IsRefusedIn (content name)) e
+pub check-stopped : (name : List ℕ) (content : List ℕ → Option (List ℕ)) (left left' out noted noted' : Option (List ℕ)) (n : Counts) (e : Ending)
+    → StopsBefore (IsRefusedIn (content name)) n.files n.files' e → Keeps (checking name) (seen content left left' out out noted noted') n e
+check-stopped name content left left' out noted noted' n e h =
+    stopped (checking name) (seen content left left' out out noted noted') n (IsRefusedIn (content name)) e
     (λ v refused. (refused, λ can. not-refused (content name) can.0 can.1 v can.2 can.3 refused)) refl refl h
 
-pub parse-stopped : (name : List ℕ) (settings : Settings) (content : List ℕ → Option (List ℕ)) (left out : Option (List ℕ)) (n : Counts) (e : Ending)
-    → StopsBefore (IsRefusedIn (content name)) n.files n.files' e → Keeps (parsing name settings) (seen content left left out out) n e
-parse-stopped name settings content left out n e h =
-    stopped (parsing name settings) (seen content left left out out) n (IsRefusedIn (content name)) e
-    (λ v refused. (refused, λ can. not-refused (content name) can.0 can.1 v can.3 can.4 refused)) (inl (refl, refl)) refl h
+pub reading-stopped : (work : Description → Work Row Bool) (noting : Bool) (name : List ℕ) (settings : Settings) (content : List ℕ → Option (List ℕ)) (left out noted : Option (List ℕ)) (n : Counts) (e : Ending)
+    → StopsBefore (IsRefusedIn (content name)) n.files n.files' e → Keeps (reading work noting name settings) (seen content left left out out noted noted) n e
+reading-stopped work noting name settings content left out noted n e h =
+    stopped (reading work noting name settings) (seen content left left out out noted noted) n (IsRefusedIn (content name)) e
+    (λ v refused. (refused, λ can. not-refused (content name) can.0 can.1 v can.3 can.4 refused)) (inl (refl, refl, refl)) refl h
 
 within : (input : List ℕ) (left' : Option (List ℕ)) (bytes : List ℕ) → Consumes (Some input) left' bytes → length bytes ≤ length input
 within input None bytes c = absurd c
 within input (Some xs) bytes c = let whole : length input ≡ length bytes + length xs = ap length c ∙ length-append bytes xs in omega (arith, whole)
 
--- an input of at most 2^62 bytes isn't longer
-not-too-long : (d : Description) (left left' o o' : Option (List ℕ)) (input : List ℕ) → left ≡ Some input → length input ≤ 2 ^ 62 → IfSome left (WroteMost left' o o' d) → ⊥
-not-too-long d left left' o o' input is fits h =
-    let long = known-at (WroteMost left' o o' d) left input is h in
-    omega (arith, fits, long.2, within input left' long.0 long.1)
+module _ (work : Description → Work Row Bool) (left left' o o' n n' : Option (List ℕ)) where
+  -- an input of at most 2^62 bytes isn't longer
+  not-too-long : (d : Description) (input : List ℕ) → left ≡ Some input → length input ≤ 2 ^ 62 → IfSome left (WroteMost work left' o o' n n' d) → ⊥
+  not-too-long d input is fits h =
+      let long = known-at (WroteMost work left' o o' n n' d) left input is h in
+      omega (arith, fits, long.2, within input left' long.0 long.1)
 
--- By a description that is there, an input was read.
-pub parse-read : (name : List ℕ) (settings : Settings) (content : List ℕ → Option (List ℕ)) (left left' o o' : Option (List ℕ)) (files files' source source' out out' : ℕ) (made : Contents)
-    (e : Ending) → IsDescribedIn (content name) settings.coding made → LinesGive (described made settings.cutting) left left' o o' source source' out out' e
-    → Keeps (parsing name settings) (seen content left left' o o') (counts files files' source source' out out') e
-parse-read name settings content left left' o o' files files' source source' out out' made ending.Done h p = (made, h, p)
-parse-read name settings content left left' o o' files files' source source' out out' made ending.Dirty h p = (made, h, p)
-parse-read name settings content left left' o o' files files' source source' out out' made ending.ReadFault h p = (p.0, (made, h, p.1))
-parse-read name settings content left left' o o' files files' source source' out out' made ending.WriteFault h p =
-    (p.0, (made, h, if-known _ _ left (λ input q. q.0) p.1), (made, h, if-known _ _ left (λ input q. q.1) p.1))
-parse-read name settings content left left' o o' files files' source source' out out' made ending.TooLong h p =
-    ((made, h, p), λ can. not-too-long (described made settings.cutting) left left' o o' can.2 can.5 can.6 p)
-parse-read name settings content left left' o o' files files' source source' out out' made ending.Memory h p = inr (made, h, p)
-parse-read name settings content left left' o o' files files' source source' out out' made ending.Usage h p = absurd p
-parse-read name settings content left left' o o' files files' source source' out out' made (ending.Refused verdict) h p = absurd p
-parse-read name settings content left left' o o' files files' source source' out out' made ending.FileFault h p = absurd p
+  -- By a description that is there, an input was read.
+  pub reading-read : (noting : Bool) (name : List ℕ) (settings : Settings) (content : List ℕ → Option (List ℕ)) (files files' source source' out out' notes notes' : ℕ) (made : Contents)
+      (e : Ending) → IsDescribedIn (content name) settings.coding made
+      → RecordsGive work noting (described made settings.cutting) left left' o o' n n' source source' out out' notes notes' e
+      → Keeps (reading work noting name settings) (seen content left left' o o' n n') (counts files files' source source' out out' notes notes') e
+  reading-read noting name settings content files files' source source' out out' notes notes' made ending.Done h p = (made, h, p)
+  reading-read noting name settings content files files' source source' out out' notes notes' made ending.Dirty h p = (made, h, p)
+  reading-read noting name settings content files files' source source' out out' notes notes' made ending.ReadFault h p = (p.0, (made, h, p.1))
+  reading-read noting name settings content files files' source source' out out' notes notes' made ending.WriteFault h p =
+      (p.0, (made, h, if-known _ _ left (λ input q. q.0) p.1), (made, h, if-known _ _ left (λ input q. q.1) p.1))
+  reading-read noting name settings content files files' source source' out out' notes notes' made ending.TooLong h p =
+      ((made, h, p), λ can. not-too-long (described made settings.cutting) can.2 can.5 can.6 p)
+  reading-read noting name settings content files files' source source' out out' notes notes' made ending.Memory h p = inr (made, h, p)
+  reading-read noting name settings content files files' source source' out out' notes notes' made ending.Usage h p = absurd p
+  reading-read noting name settings content files files' source source' out out' notes notes' made (ending.Refused verdict) h p = absurd p
+  reading-read noting name settings content files files' source source' out out' notes notes' made ending.FileFault h p = absurd p
 
 -- Before anything was read or written there may be no memory.
-pub early : (asked : Order) (content : List ℕ → Option (List ℕ)) (left out : Option (List ℕ)) → (promise_of asked).stops_early (seen content left left out out)
-early (order.Check name settings) content left out = refl
-early (order.Parse name settings) content left out = inl (refl, refl)
+pub early : (asked : Order) (content : List ℕ → Option (List ℕ)) (left out noted : Option (List ℕ)) → (promise_of asked).stops_early (seen content left left out out noted noted)
+early (order.Check name settings) content left out noted = refl
+early (order.Parse name settings) content left out noted = inl (refl, refl, refl)
 
 -- What is kept for an order is kept for the same order.
 pub same-order-keeps : (asked one : Order) (s : Seen) (n : Counts) (e : Ending) → asked ≡ one → Keeps (promise_of one) s n e → Keeps (promise_of asked) s n e
 same-order-keeps asked one s n e same h = subst (λ (o : Order). Keeps (promise_of o) s n e) (sym same) h
+
+-- Nothing more on the notes changes nothing of an order that was done.
+grown-no-more : (o n n' : Option (List ℕ)) (bytes : List ℕ) → Appends o n bytes → Appends n n' [] → Appends o n' bytes
+grown-no-more None n n' bytes h k = tt
+grown-no-more (Some xs) None n' bytes h k = absurd h
+grown-no-more (Some xs) (Some ys) None bytes h k = absurd k
+grown-no-more (Some xs) (Some ys) (Some zs) bytes h k = k ∙ append-nil ys ∙ h
+
+noted-no-more : (work : Description → Work Row Bool) (well : Bool) (d : Description) (left left' o o' n m m' : Option (List ℕ)) → Appends m m' []
+    → IfSome left (WroteAll work left' o o' n m well d) → IfSome left (WroteAll work left' o o' n m' well d)
+noted-no-more work well d left left' o o' n m m' more h =
+    if-known _ _ left (λ input p. (record { out_grows = p.0.out_grows; notes_grow = grown-no-more n m m' _ p.0.notes_grow more }, p.1, p.2, p.3)) h
+
+pub finishes-still : (asked : Order) (clean : Bool) (content : List ℕ → Option (List ℕ)) (left left' out out' noted m m' : Option (List ℕ)) → Appends m m' []
+    → (promise_of asked).finishes clean (seen content left left' out out' noted m) → (promise_of asked).finishes clean (seen content left left' out out' noted m')
+finishes-still (order.Check name settings) clean content left left' out out' noted m m' more h = h
+finishes-still (order.Parse name settings) clean content left left' out out' noted m m' more h =
+    (h.0, h.1, noted-no-more (λ d. lines d.made) clean (described h.0 settings.cutting) left left' out out' noted m m' more h.2)
+
+pub ordered-still : (words : List (List ℕ)) (clean : Bool) (content : List ℕ → Option (List ℕ)) (left left' out out' noted m m' : Option (List ℕ)) → Appends m m' []
+    → Ordered words (λ promise. promise.finishes clean (seen content left left' out out' noted m)) → Ordered words (λ promise. promise.finishes clean (seen content left left' out out' noted m'))
+ordered-still words clean content left left' out out' noted m m' more h = (h.0, h.1, finishes-still h.0 clean content left left' out out' noted m m' more h.2)

@@ -1,11 +1,16 @@
 -- From what an order gives to what a run says of its status.
-use Rattle.std.proofs.Common.{◌≡◌, ◌≢◌, ◌↔◌, ◌∙◌, inl, inr, sym, subst, refl, ℕ, true, false, List, Option, None, Some}
+use Rattle.std.proofs.Common.{◌≡◌, ◌≢◌, ◌↔◌, ◌∙◌, ◌≤◌, ◌⊎◌, inl, inr, sym, subst, refl, ℕ, true, false, List, [], Option, None, Some, arith}
+use Rattle.std.proofs.Math.Seq.{take-nil}
+use Rattle.std.specs.Io.KnownBytes.{Appends}
 use Rattle.pads_io.specs.Faults.{Rose}
+use Rattle.pads_io.specs.Transfer.{AppendsPrefix}
 use Rattle.pads_orders.specs.Orders.{order_of}
 use Rattle.pads_orders.specs.declared.order.Order.{Order}
-use Rattle.pads_tool.specs.Endings.{status_of}
-use Rattle.pads_tool.specs.Promises.{Promise, promise_of, Seen, Counts, Keeps}
-use Rattle.pads_tool.specs.Running.{Ordered, RunGives, HasReason, IsFair, EndsOrWantsMemory, IsBeforeInput}
+use Rattle.pads_tool.specs.Causes.{SinkFailed}
+use Rattle.pads_tool.specs.Closing.{Leaves}
+use Rattle.pads_tool.specs.Endings.{last_line, status_of}
+use Rattle.pads_tool.specs.Promises.{Promise, promise_of, Seen, Counts, counts, Keeps}
+use Rattle.pads_tool.specs.Running.{Ordered, RunGives, BeforeLastWords, HasReason, IsFair, EndsOrWantsMemory, IsBeforeInput}
 use Rattle.pads_tool.specs.declared.ending.Ending.{Ending}
 use Rattle.pads_tool.specs.declared.ending.Ending.TheVariants as ending
 use Rattle.pads_tool.specs.declared.status.Status.{Status}
@@ -28,7 +33,8 @@ module _ (words : List (List ℕ)) (s : Seen) (n : Counts) where
   ByStatus status.Refused = (order_of words ≢ None) × (s.out' ≡ s.out)
   ByStatus status.FileFault = (order_of words ≢ None) × Rose n.files n.files' × (s.out' ≡ s.out)
   ByStatus status.ReadFault = Rose n.source n.source' × Ordered words (λ promise. promise.stops_reading s)
-  ByStatus status.WriteFault = Rose n.out n.out' × Ordered words (λ promise. promise.stops_writing s) × Ordered words (λ promise. promise.stays_near s)
+  ByStatus status.WriteFault = Ordered words (λ promise. SinkFailed promise.writes_notes n.out n.out' n.notes n.notes')
+      × Ordered words (λ promise. promise.stops_writing s) × Ordered words (λ promise. promise.stays_near s)
   ByStatus status.Memory = Ordered words (λ promise. promise.stops_early s)
   ByStatus status.TooLong = Ordered words (λ promise. promise.stops_at_limit s)
   ByStatus status.Limit = ⊥
@@ -40,7 +46,7 @@ module _ (words : List (List ℕ)) (s : Seen) (n : Counts) where
   by-order asked (ending.Refused verdict) is p = (none-some _ _ is, p.1)
   by-order asked ending.FileFault is p = (none-some _ _ is, p.0, p.1)
   by-order asked ending.ReadFault is p = (p.0, (asked, is, p.1))
-  by-order asked ending.WriteFault is p = (p.0, (asked, is, p.1), (asked, is, p.2))
+  by-order asked ending.WriteFault is p = ((asked, is, p.0), (asked, is, p.1), (asked, is, p.2))
   by-order asked ending.Memory is p = (asked, is, p)
   by-order asked ending.TooLong is p = (asked, is, p.0)
 
@@ -82,17 +88,22 @@ module _ (words : List (List ℕ)) (s : Seen) (n : Counts) where
   nothing e t is h (inr (inl same)) = (at-status e t status.Refused is same h).1
   nothing e t is h (inr (inr same)) = (at-status e t status.FileFault is same h).2
 
-  fair-order : IsFair words s.content s.left n → (asked : Order) (e : Ending) → (promise_of asked).can_finish s.content s.left → Keeps (promise_of asked) s n e
-      → EndsOrWantsMemory (status_of e)
-  fair-order f asked ending.Done can h = tt
-  fair-order f asked ending.Dirty can h = tt
-  fair-order f asked ending.Memory can h = tt
-  fair-order f asked ending.Usage can h = absurd h
-  fair-order f asked (ending.Refused verdict) can h = absurd (h.2 can)
-  fair-order f asked ending.FileFault can h = absurd (f.files_well h.0)
-  fair-order f asked ending.ReadFault can h = absurd (f.source_well h.0)
-  fair-order f asked ending.WriteFault can h = absurd (f.out_well h.0)
-  fair-order f asked ending.TooLong can h = absurd (h.1 can)
+  -- A sink on which the order writes didn't fail.
+  fair-sinks : IsFair words s.content s.left n → (asked : Order) → order_of words ≡ Some asked → SinkFailed (promise_of asked).writes_notes n.out n.out' n.notes n.notes' → ⊥
+  fair-sinks f asked is (inl rose) = f.out_well rose
+  fair-sinks f asked is (inr (writes, rose)) = f.notes_well (asked, is, writes) rose
+
+  fair-order : IsFair words s.content s.left n → (asked : Order) (e : Ending) → order_of words ≡ Some asked → (promise_of asked).can_finish s.content s.left
+      → Keeps (promise_of asked) s n e → EndsOrWantsMemory (status_of e)
+  fair-order f asked ending.Done is can h = tt
+  fair-order f asked ending.Dirty is can h = tt
+  fair-order f asked ending.Memory is can h = tt
+  fair-order f asked ending.Usage is can h = absurd h
+  fair-order f asked (ending.Refused verdict) is can h = absurd (h.2 can)
+  fair-order f asked ending.FileFault is can h = absurd (f.files_well h.0)
+  fair-order f asked ending.ReadFault is can h = absurd (f.source_well h.0)
+  fair-order f asked ending.WriteFault is can h = absurd (fair-sinks f asked is h.0)
+  fair-order f asked ending.TooLong is can h = absurd (h.1 can)
 
   same-order : (one other : Order) (o : Option Order) → o ≡ Some one → o ≡ Some other → other ≡ one
   same-order one other o h k = cc
@@ -100,7 +111,7 @@ module _ (words : List (List ℕ)) (s : Seen) (n : Counts) where
   fair-ordered : IsFair words s.content s.left n → (e : Ending) → Ordered words (λ promise. Keeps promise s n e) → EndsOrWantsMemory (status_of e)
   fair-ordered f e h =
       let same : f.ordered.0 ≡ h.0 = same-order h.0 f.ordered.0 (order_of words) h.1 f.ordered.1 in
-      fair-order f h.0 e (subst (λ (a : Order). (promise_of a).can_finish s.content s.left) same f.ordered.2) h.2
+      fair-order f h.0 e h.1 (subst (λ (a : Order). (promise_of a).can_finish s.content s.left) same f.ordered.2) h.2
 
   fair-ending : IsFair words s.content s.left n → (e : Ending) → RunGives words s n e → EndsOrWantsMemory (status_of e)
   fair-ending f ending.Usage h = absurd (none-some f.ordered.0 _ f.ordered.1 h.0)
@@ -139,3 +150,51 @@ module _ (words : List (List ℕ)) (s : Seen) (n : Counts) where
   obeyed asked ending.WriteFault is p = (asked, is, p)
   obeyed asked ending.Memory is p = (asked, is, p)
   obeyed asked ending.TooLong is p = (asked, is, p)
+
+-- A count that rose still is above what it was when it rose further.
+rose-still : (before count now : ℕ) → count ≤ now → Rose before count → Rose before now
+rose-still before count now later rose = omega (arith, later, rose)
+
+-- No call failed up to the last words, where none failed with them.
+pub fair-before : (words : List (List ℕ)) (content : List ℕ → Option (List ℕ)) (left : Option (List ℕ)) (files files' source source' out out' notes count notes' : ℕ) → count ≤ notes'
+    → IsFair words content left (counts files files' source source' out out' notes notes') → IsFair words content left (counts files files' source source' out out' notes count)
+fair-before words content left files files' source source' out out' notes count notes' later f =
+    record { ordered = f.ordered; files_well = f.files_well; source_well = f.source_well; out_well = f.out_well; notes_well = λ writes rose. f.notes_well writes (rose-still notes count notes' later rose) }
+
+-- A run that was done leaves no last words.
+abbrev IsEnd : Status → Type 0
+IsEnd status.Done = Unit {0}
+IsEnd status.Dirty = Unit {0}
+IsEnd status.Usage = ⊥
+IsEnd status.Refused = ⊥
+IsEnd status.FileFault = ⊥
+IsEnd status.ReadFault = ⊥
+IsEnd status.WriteFault = ⊥
+IsEnd status.Memory = ⊥
+IsEnd status.TooLong = ⊥
+IsEnd status.Limit = ⊥
+
+silent : (e : Ending) → IsEnd (status_of e) → last_line e ≡ []
+silent ending.Done end = refl
+silent ending.Dirty end = refl
+silent ending.Usage end = absurd end
+silent (ending.Refused verdict) end = absurd end
+silent ending.FileFault end = absurd end
+silent ending.ReadFault end = absurd end
+silent ending.WriteFault end = absurd end
+silent ending.Memory end = absurd end
+silent ending.TooLong end = absurd end
+
+none-grown : (n n' : Option (List ℕ)) (before now : ℕ) → (Appends n n' [] ⊎ (Rose before now × AppendsPrefix n n' [])) → Appends n n' []
+none-grown n n' before now (inl all) = all
+none-grown n n' before now (inr part) = subst (λ l. Appends n n' l) (take-nil part.1.0) part.1.1
+
+pub none-left : (e : Ending) (t at_end : Status) (n n' : Option (List ℕ)) (before now : ℕ) → t ≡ status_of e → t ≡ at_end → IsEnd at_end → Leaves n n' before now (last_line e) → Appends n n' []
+none-left e t at_end n n' before now is same end leaves =
+    let none : last_line e ≡ [] = silent e (subst IsEnd (sym same ∙ is) end) in
+    none-grown n n' before now (rw none at leaves.grown)
+
+-- This held before the last words of a run.
+pub before-last : (words : List (List ℕ)) (content : List ℕ → Option (List ℕ)) (ended : Status) (e : Ending) (n n' : Option (List ℕ)) (count now : ℕ) (Holds : Option (List ℕ) → ℕ → Type 0)
+    → ended ≡ status_of e → HasReason words content e → Leaves n n' count now (last_line e) → Holds n count → BeforeLastWords words content ended n' now Holds
+before-last words content ended e n n' count now Holds is why leaves holds = record { ending = e; is = is; reason = why; noted = n; count = count; holds = holds; leaves = leaves }

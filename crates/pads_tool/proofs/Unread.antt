@@ -1,8 +1,10 @@
 -- Endings at which the source wasn't reached.
-use Rattle.std.proofs.Common.{sym, subst, inl, inr, ℕ, List, Option}
+use Rattle.std.proofs.Common.{sym, subst, inl, inr, ℕ, Bool, List, Option}
+use Rattle.pads_drive.specs.Outputs.{Work}
+use Rattle.pads_value.specs.declared.row.Row.{Row}
 use Rattle.pads_tool.specs.Describing.{Description}
 use Rattle.pads_tool.specs.Endings.{status_of}
-use Rattle.pads_tool.specs.Parsing.{LinesGive}
+use Rattle.pads_tool.specs.Reading.{RecordsGive}
 use Rattle.pads_tool.specs.Running.{IsBeforeInput}
 use Rattle.pads_tool.specs.declared.ending.Ending.{Ending}
 use Rattle.pads_tool.specs.declared.ending.Ending.TheVariants as ending
@@ -26,8 +28,8 @@ is-before s (inl same) = subst Before (sym same) tt
 is-before s (inr (inl same)) = subst Before (sym same) tt
 is-before s (inr (inr same)) = subst Before (sym same) tt
 
-module _ (d : Description) (left left' o o' : Option (List ℕ)) (source source' out out' : ℕ) where
-  reach : (e : Ending) → LinesGive d left left' o o' source source' out out' e → Before (status_of e) → ⊥
+module _ (work : Description → Work Row Bool) (noting : Bool) (d : Description) (left left' o o' n n' : Option (List ℕ)) (source source' out out' notes notes' : ℕ) where
+  reach : (e : Ending) → RecordsGive work noting d left left' o o' n n' source source' out out' notes notes' e → Before (status_of e) → ⊥
   reach ending.Done h before = before
   reach ending.Dirty h before = before
   reach ending.ReadFault h before = before
@@ -39,5 +41,5 @@ module _ (d : Description) (left left' o o' : Option (List ℕ)) (source source'
   reach ending.FileFault h before = h
 
   -- a reading of an input ends otherwise
-  pub reading-reaches : (e : Ending) → LinesGive d left left' o o' source source' out out' e → IsBeforeInput (status_of e) → ⊥
+  pub reading-reaches : (e : Ending) → RecordsGive work noting d left left' o o' n n' source source' out out' notes notes' e → IsBeforeInput (status_of e) → ⊥
   reading-reaches e h before = reach e h (is-before (status_of e) before)

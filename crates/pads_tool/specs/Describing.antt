@@ -1,13 +1,13 @@
 -- What a description says of an input: the frames in which its records lie, the row and the line of each record, and
 -- whether the record is clean.
 use Rattle.std.specs.Prelude.{ℕ, Bool, false, List, []}
-use Rattle.std.specs.List.{flat_map, list_all}
+use Rattle.std.specs.List.{list_all}
 use Rattle.pads_value.specs.Cuts.{Cut}
 use Rattle.pads_value.specs.Header.{is_ok_class}
 use Rattle.pads_value.specs.declared.descriptor.Pd.{out-Pd}
 use Rattle.pads_value.specs.declared.row.Row.{Row}
 use Rattle.pads_calc.specs.Rows.{row_of}
-use Rattle.pads_drive.specs.Outputs.{Work, rows_of}
+use Rattle.pads_drive.specs.Outputs.{Work}
 use Rattle.pads_frame.specs.Cutting.{records, closed}
 use Rattle.pads_json.specs.Lines.{line_told}
 use Rattle.pads_orders.specs.declared.order.Cutting.{Cutting}
@@ -44,15 +44,3 @@ frames_of d input = records d.cutting.discipline d.cutting.max input
 
 abbrev pub complete_frames_of : Description → List ℕ → List Cut
 complete_frames_of d bytes = closed d.cutting.discipline d.cutting.max bytes
-
--- the rows of the records in these frames, in order
-abbrev pub rows_in : Description → List Cut → List Row
-rows_in d cuts = rows_of (lines d.made) 0 cuts
-
--- a line for each of them
-abbrev pub lines_for : Description → List Cut → List ℕ
-lines_for d cuts = flat_map (line_of d.made) (rows_in d cuts)
-
--- all of them are clean
-abbrev pub all_clean : Description → List Cut → Bool
-all_clean d cuts = list_all is_clean (rows_in d cuts)

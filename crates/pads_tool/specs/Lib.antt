@@ -4,7 +4,7 @@ pub mod Closing
 pub mod Describing
 pub mod Descriptions
 pub mod Endings
-pub mod Parsing
 pub mod Promises
+pub mod Reading
 pub mod Running
 pub mod Texts

@@ -9,25 +9,32 @@ use Rattle.pads_orders.specs.declared.order.Order.{Order}
 use Rattle.pads_orders.specs.declared.order.Order.TheVariants as order
 use Rattle.pads_orders.specs.declared.order.Settings.{Settings}
 use Rattle.pads_describe.specs.declared.verdict.Verdict.{Verdict}
+use Rattle.pads_drive.specs.Outputs.{Work}
+use Rattle.pads_value.specs.declared.row.Row.{Row}
+use Rattle.pads_tool.specs.Causes.{SinkFailed}
 use Rattle.pads_tool.specs.Checking.{Accepts}
-use Rattle.pads_tool.specs.Parsing.{ReadLittleAhead, Reads, WroteAll, WroteComplete, WroteMost, WrotePrefix}
+use Rattle.pads_tool.specs.Describing.{Description, lines}
+use Rattle.pads_tool.specs.Reading.{ReadLittleAhead, Reads, WroteAll, WroteComplete, WroteMost, WrotePrefix}
 use Rattle.pads_tool.specs.Texts.{IsRefusedIn}
 use Rattle.pads_tool.specs.declared.ending.Ending.{Ending}
 use Rattle.pads_tool.specs.declared.ending.Ending.TheVariants as ending
 
--- What the objects of a run tell: the content of the files, what the source has left, and what stands on `out`, before and
--- after.
+-- What the objects of a run tell: the content of the files, what the source has left, and what stands on `out` and on the
+-- notes, before a command and behind it. The last words come after that.
 pub record Seen : Type 0 where
   pub content : List ℕ → Option (List ℕ)
   pub left : Option (List ℕ)
   pub left' : Option (List ℕ)
   pub out : Option (List ℕ)
   pub out' : Option (List ℕ)
+  pub notes : Option (List ℕ)
+  pub notes' : Option (List ℕ)
 
-abbrev pub seen : (List ℕ → Option (List ℕ)) → Option (List ℕ) → Option (List ℕ) → Option (List ℕ) → Option (List ℕ) → Seen
-seen content left left' out out' = record { content = content; left = left; left' = left'; out = out; out' = out' }
+abbrev pub seen : (List ℕ → Option (List ℕ)) → (left left' out out' notes notes' : Option (List ℕ)) → Seen
+seen content left left' out out' notes notes' =
+    record { content = content; left = left; left' = left'; out = out; out' = out'; notes = notes; notes' = notes' }
 
--- Their counts of failures, before and after.
+-- Their counts of failures, before and behind it.
 pub record Counts : Type 0 where
   pub files : ℕ
   pub files' : ℕ
@@ -35,13 +42,15 @@ pub record Counts : Type 0 where
   pub source' : ℕ
   pub out : ℕ
   pub out' : ℕ
+  pub notes : ℕ
+  pub notes' : ℕ
 
-abbrev pub counts : ℕ → ℕ → ℕ → ℕ → ℕ → ℕ → Counts
-counts files files' source source' out out' =
-    record { files = files; files' = files'; source = source; source' = source'; out = out; out' = out' }
+abbrev pub counts : (files files' source source' out out' notes notes' : ℕ) → Counts
+counts files files' source source' out out' notes notes' =
+    record { files = files; files' = files'; source = source; source' = source'; out = out; out' = out'; notes = notes; notes' = notes' }
 
 pub record Promise : Type 1 where
-  -- All that the order asks for was written, and is clean or not.
+  -- All that the order asks for was written, and is well or not: every record is clean, or what else the command asks.
   pub finishes : Bool → Seen → Type 0
   -- The source failed: all that the bytes read complete was written.
   pub stops_reading : Seen → Type 0
@@ -58,6 +67,8 @@ pub record Promise : Type 1 where
   -- With this content, and this left of the source, the order can be done.
   pub can_finish : (List ℕ → Option (List ℕ)) → Option (List ℕ) → Type 0
   pub reads_source : Bool
+  -- It writes lines on the notes.
+  pub writes_notes : Bool
 
 -- `check`: an accepted description is told.
 abbrev pub checking : List ℕ → Promise
@@ -71,23 +82,31 @@ checking name = record {
   refused_for = λ content verdict. IsRefusedIn (content name) verdict;
   can_finish = λ content left. (text : List ℕ) × (tree : Ast) × (content name ≡ Some text) × IsAccepted text tree;
   reads_source = false;
+  writes_notes = false;
 }
 
--- `parse`: by an accepted description and an input of at most 2^62 bytes, a line is written for each record. Where there is
--- no memory, nothing was read and written, or a prefix was written.
-abbrev pub parsing : List ℕ → Settings → Promise
-parsing name settings = record {
-  finishes = λ clean s. Reads (s.content name) settings s.left (WroteAll s.left' s.out s.out' clean);
-  stops_reading = λ s. Reads (s.content name) settings s.left (WroteComplete s.left' s.out s.out');
-  stops_at_limit = λ s. Reads (s.content name) settings s.left (WroteMost s.left' s.out s.out');
-  stops_writing = λ s. Reads (s.content name) settings s.left (WrotePrefix s.left' s.out s.out');
-  stays_near = λ s. Reads (s.content name) settings s.left (ReadLittleAhead s.left' s.out s.out');
-  stops_early = λ s. ((s.out' ≡ s.out) × (s.left' ≡ s.left)) ⊎ Reads (s.content name) settings s.left (WrotePrefix s.left' s.out s.out');
+-- A command that reads records, by what it makes of a description's records, and whether it writes on the notes for them.
+-- By an accepted description and an input of at most 2^62 bytes, its output for each record is written on both sinks. Where
+-- there is no memory, nothing was read and written, or a prefix was written.
+abbrev pub reading : (Description → Work Row Bool) → Bool → List ℕ → Settings → Promise
+reading work noting name settings = record {
+  finishes = λ well s. Reads (s.content name) settings s.left (WroteAll work s.left' s.out s.out' s.notes s.notes' well);
+  stops_reading = λ s. Reads (s.content name) settings s.left (WroteComplete work s.left' s.out s.out' s.notes s.notes');
+  stops_at_limit = λ s. Reads (s.content name) settings s.left (WroteMost work s.left' s.out s.out' s.notes s.notes');
+  stops_writing = λ s. Reads (s.content name) settings s.left (WrotePrefix work s.left' s.out s.out' s.notes s.notes');
+  stays_near = λ s. Reads (s.content name) settings s.left (ReadLittleAhead work s.left' s.out s.out' s.notes s.notes');
+  stops_early = λ s. ((s.out' ≡ s.out) × (s.notes' ≡ s.notes) × (s.left' ≡ s.left))
+      ⊎ Reads (s.content name) settings s.left (WrotePrefix work s.left' s.out s.out' s.notes s.notes');
   refused_for = λ content verdict. IsRefusedIn (content name) verdict;
   can_finish = λ content left.
       (text : List ℕ) × (tree : Ast) × (input : List ℕ) × (content name ≡ Some text) × IsAccepted text tree × (left ≡ Some input) × (length input ≤ 2 ^ 62);
   reads_source = true;
+  writes_notes = noting;
 }
+
+-- `parse`: a line for each record.
+abbrev pub parsing : List ℕ → Settings → Promise
+parsing name settings = reading (λ d. lines d.made) false name settings
 
 abbrev pub promise_of : Order → Promise
 promise_of (order.Check name settings) = checking name
@@ -100,7 +119,7 @@ Keeps p s n ending.Dirty = p.finishes false s
 Keeps p s n (ending.Refused verdict) = p.refused_for s.content verdict × (s.out' ≡ s.out) × (p.can_finish s.content s.left → ⊥)
 Keeps p s n ending.FileFault = Rose n.files n.files' × (s.out' ≡ s.out)
 Keeps p s n ending.ReadFault = Rose n.source n.source' × p.stops_reading s
-Keeps p s n ending.WriteFault = Rose n.out n.out' × p.stops_writing s × p.stays_near s
+Keeps p s n ending.WriteFault = SinkFailed p.writes_notes n.out n.out' n.notes n.notes' × p.stops_writing s × p.stays_near s
 Keeps p s n ending.TooLong = p.stops_at_limit s × (p.can_finish s.content s.left → ⊥)
 Keeps p s n ending.Memory = p.stops_early s
 Keeps p s n ending.Usage = ⊥

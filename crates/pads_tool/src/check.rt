@@ -27,9 +27,9 @@ pub(crate) fn check<F: Files, K: Sink>(
     files: &mut F,
     out: &mut K,
 ) -> Ending
-    ensures gives { (left left' : Option (List ℕ)) (source source' : ℕ) → Keeps (checking name.now)
-        (seen (F.content files.old) left left' (K.written out.old) (K.written out.new))
-        (counts (F.faults files.old) (F.faults files.new) source source' (K.faults out.old) (K.faults out.new)) result }
+    ensures gives { (left left' noted noted' : Option (List ℕ)) (source source' notes notes' : ℕ) → Keeps (checking name.now)
+        (seen (F.content files.old) left left' (K.written out.old) (K.written out.new) noted noted')
+        (counts (F.faults files.old) (F.faults files.new) source source' (K.faults out.old) (K.faults out.new) notes notes') result }
     ensures files_kept { result ≢ ending.FileFault → F.faults files.new ≡ F.faults files.old }
     ensures out_kept { result ≢ ending.WriteFault → K.faults out.new ≡ K.faults out.old }
 {

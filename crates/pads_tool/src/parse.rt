@@ -1,9 +1,9 @@
-ghost use Rattle.std.specs.Prelude.{◌≡◌, ◌≢◌, ◌&&◌, Err};
+ghost use Rattle.std.specs.Prelude.{◌≡◌, ◌≢◌, ℕ, List, Option, ◌&&◌, false, Err};
 ghost use Rattle.pads_orders.specs.Orders.{IsWithinLimits};
 ghost use Rattle.pads_drive.specs.declared.stop.Stop.TheVariants as stop;
-ghost use Rattle.pads_tool.specs.Describing.{described, is_clean};
+ghost use Rattle.pads_tool.specs.Describing.{described, is_clean, lines};
 ghost use Rattle.pads_tool.specs.Endings.{status_of};
-ghost use Rattle.pads_tool.specs.Parsing.{LinesGive, ending_of};
+ghost use Rattle.pads_tool.specs.Reading.{RecordsGive, ending_of};
 ghost use Rattle.pads_tool.specs.Promises.{Keeps, counts, parsing, seen};
 ghost use Rattle.pads_tool.specs.Running.{IsBeforeInput};
 ghost use Rattle.pads_tool.specs.declared.ending.Ending.TheVariants as ending;
@@ -107,21 +107,22 @@ fn ending_of(outcome: Result<Ended<bool>, Stop>) -> Ending
 /// of the run aren't handed in.
 fn write_lines<S: Source, K: Sink>(
     alloc: Global,
-    lines: &Lines,
+    command: &Lines,
     cutting: Cutting,
     source: &mut S,
     out: &mut K,
 ) -> Ending
     requires limits { IsWithinLimits cutting }
-    ensures gives { LinesGive (described (contents lines.now.module) cutting) (S.left source.old) (S.left source.new)
-        (K.written out.old) (K.written out.new) (S.faults source.old) (S.faults source.new) (K.faults out.old) (K.faults out.new) result }
+    ensures gives { (noted : Option (List ℕ)) (notes : ℕ) → RecordsGive (λ d. lines d.made) false (described (contents command.now.module) cutting)
+        (S.left source.old) (S.left source.new) (K.written out.old) (K.written out.new) noted noted
+        (S.faults source.old) (S.faults source.new) (K.faults out.old) (K.faults out.new) notes notes result }
     ensures out_kept { result ≢ ending.WriteFault → K.faults out.new ≡ K.faults out.old }
     ensures source_kept { result ≢ ending.ReadFault → result ≢ ending.WriteFault → result ≢ ending.Memory → S.faults source.new ≡ S.faults source.old }
 {
     let mut unused = MemSink::new(alloc, 0, Calls::new(alloc));
     let Cutting { discipline, max } = cutting;
     ending_of(drive(
-        lines,
+        command,
         alloc,
         true,
         discipline,
@@ -142,9 +143,10 @@ pub(crate) fn parse<F: Files, S: Source, K: Sink>(
     out: &mut K,
 ) -> Ending
     requires limits { IsWithinLimits settings.now.cutting }
-    ensures gives { Keeps (parsing name.now settings.now)
-        (seen (F.content files.old) (S.left source.old) (S.left source.new) (K.written out.old) (K.written out.new))
-        (counts (F.faults files.old) (F.faults files.new) (S.faults source.old) (S.faults source.new) (K.faults out.old) (K.faults out.new)) result }
+    ensures gives { (noted : Option (List ℕ)) (notes : ℕ) → Keeps (parsing name.now settings.now)
+        (seen (F.content files.old) (S.left source.old) (S.left source.new) (K.written out.old) (K.written out.new) noted noted)
+        (counts (F.faults files.old) (F.faults files.new) (S.faults source.old) (S.faults source.new) (K.faults out.old) (K.faults out.new)
+        notes notes) result }
     ensures untouched { IsBeforeInput (status_of result) → source.new ≡ source.old }
     ensures files_kept { result ≢ ending.FileFault → F.faults files.new ≡ F.faults files.old }
     ensures out_kept { result ≢ ending.WriteFault → K.faults out.new ≡ K.faults out.old }

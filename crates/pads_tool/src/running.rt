@@ -1,11 +1,10 @@
 ghost use Rattle.std.specs.Prelude.{◌≡◌, ◌≢◌, ◌↔◌, true, false, None};
 ghost use Rattle.pads_io.specs.Faults.{Rose};
 ghost use Rattle.pads_orders.specs.Orders.{KeepsLimits, order_of};
-ghost use Rattle.pads_tool.specs.Closing.{Leaves};
-ghost use Rattle.pads_tool.specs.Endings.{status_of, last_line};
+ghost use Rattle.pads_tool.specs.Causes.{SinkFailed};
+ghost use Rattle.pads_tool.specs.Endings.{status_of};
 ghost use Rattle.pads_tool.specs.Promises.{Keeps, counts, promise_of, seen};
-ghost use Rattle.pads_tool.specs.Running.{Ordered, RunGives, HasReason, IsFair, EndsOrWantsMemory, IsBeforeInput};
-ghost use Rattle.pads_tool.specs.declared.ending.Ending.{Ending};
+ghost use Rattle.pads_tool.specs.Running.{Ordered, RunGives, BeforeLastWords, IsFair, IsQuiet, EndsOrWantsMemory, IsBeforeInput};
 ghost use Rattle.pads_tool.specs.declared.status.Status.TheVariants as status;
 ghost use Rattle.pads_tool.specs.declared.ending.Ending.TheVariants as ending;
 
@@ -20,21 +19,27 @@ use pads_value::Refusal;
 use std::alloc::Global;
 
 /// Does what is ordered, up to the last words.
-fn perform<F: Files, S: Source, K: Sink>(
+fn perform<F: Files, S: Source, K: Sink, E: Sink>(
     alloc: Global,
     order: &Order,
     files: &mut F,
     source: &mut S,
     out: &mut K,
+    notes: &mut E,
 ) -> Ending
     requires limits { KeepsLimits order.now }
     ensures gives { Keeps (promise_of order.now)
-        (seen (F.content files.old) (S.left source.old) (S.left source.new) (K.written out.old) (K.written out.new))
-        (counts (F.faults files.old) (F.faults files.new) (S.faults source.old) (S.faults source.new) (K.faults out.old) (K.faults out.new)) result }
+        (seen (F.content files.old) (S.left source.old) (S.left source.new) (K.written out.old) (K.written out.new)
+        (E.written notes.old) (E.written notes.new))
+        (counts (F.faults files.old) (F.faults files.new) (S.faults source.old) (S.faults source.new) (K.faults out.old) (K.faults out.new)
+        (E.faults notes.old) (E.faults notes.new)) result }
     ensures unread { (promise_of order.now).reads_source ≡ false → source.new ≡ source.old }
+    ensures unnoted { (promise_of order.now).writes_notes ≡ false → notes.new ≡ notes.old }
     ensures untouched { IsBeforeInput (status_of result) → source.new ≡ source.old }
+    ensures quiet { IsBeforeInput (status_of result) → notes.new ≡ notes.old }
     ensures files_kept { result ≢ ending.FileFault → F.faults files.new ≡ F.faults files.old }
     ensures out_kept { result ≢ ending.WriteFault → K.faults out.new ≡ K.faults out.old }
+    ensures notes_kept { result ≢ ending.WriteFault → E.faults notes.new ≡ E.faults notes.old }
     ensures source_kept { result ≢ ending.ReadFault → result ≢ ending.WriteFault → result ≢ ending.Memory → S.faults source.new ≡ S.faults source.old }
 {
     match order {
@@ -47,33 +52,38 @@ fn perform<F: Files, S: Source, K: Sink>(
 }
 
 /// A run up to its last words.
-fn obey<F: Files, S: Source, K: Sink>(
+fn obey<F: Files, S: Source, K: Sink, E: Sink>(
     alloc: Global,
     words: &Words,
     files: &mut F,
     source: &mut S,
     out: &mut K,
+    notes: &mut E,
 ) -> Ending
     ensures gives { RunGives words.now
-        (seen (F.content files.old) (S.left source.old) (S.left source.new) (K.written out.old) (K.written out.new))
-        (counts (F.faults files.old) (F.faults files.new) (S.faults source.old) (S.faults source.new) (K.faults out.old) (K.faults out.new)) result }
+        (seen (F.content files.old) (S.left source.old) (S.left source.new) (K.written out.old) (K.written out.new)
+        (E.written notes.old) (E.written notes.new))
+        (counts (F.faults files.old) (F.faults files.new) (S.faults source.old) (S.faults source.new) (K.faults out.old) (K.faults out.new)
+        (E.faults notes.old) (E.faults notes.new)) result }
     ensures unread { Ordered words.now (λ promise. promise.reads_source ≡ false) → source.new ≡ source.old }
     ensures untouched { IsBeforeInput (status_of result) → source.new ≡ source.old }
+    ensures quiet { IsQuiet words.now (status_of result) → notes.new ≡ notes.old }
     ensures files_kept { result ≢ ending.FileFault → F.faults files.new ≡ F.faults files.old }
     ensures out_kept { result ≢ ending.WriteFault → K.faults out.new ≡ K.faults out.old }
+    ensures notes_kept { result ≢ ending.WriteFault → E.faults notes.new ≡ E.faults notes.old }
     ensures source_kept { result ≢ ending.ReadFault → result ≢ ending.WriteFault → result ≢ ending.Memory → S.faults source.new ≡ S.faults source.old }
     ensures unopened { order_of words.now ≡ None → files.new ≡ files.old }
 {
     match read_order(alloc, words) {
-        Ok(order) => perform(alloc, &order, files, source, out),
+        Ok(order) => perform(alloc, &order, files, source, out, notes),
         Err(Refusal::Fault(_)) => Ending::Usage,
         Err(Refusal::Memory) => Ending::Memory,
     }
 }
 
 /// Does what the words of the command line ask for, and tells how it ended. The description is read
-/// from the files and the records from the source; the lines go to `out`, and the last words to the
-/// notes.
+/// from the files and the records from the source; the output goes to `out` and, where the command
+/// has some for them, to the notes, and behind it the last words go to the notes.
 pub fn run<F: Files, S: Source, K: Sink, E: Sink>(
     alloc: Global,
     words: &Words,
@@ -84,41 +94,54 @@ pub fn run<F: Files, S: Source, K: Sink, E: Sink>(
 ) -> Status
     // All was read and written that the order asks for.
     ensures done { result ≡ status.Done → Ordered words.now (λ promise. promise.finishes true
-        (seen (F.content files.old) (S.left source.old) (S.left source.new) (K.written out.old) (K.written out.new))) }
+        (seen (F.content files.old) (S.left source.old) (S.left source.new) (K.written out.old) (K.written out.new)
+        (E.written notes.old) (E.written notes.new))) }
     ensures dirty { result ≡ status.Dirty → Ordered words.now (λ promise. promise.finishes false
-        (seen (F.content files.old) (S.left source.old) (S.left source.new) (K.written out.old) (K.written out.new))) }
+        (seen (F.content files.old) (S.left source.old) (S.left source.new) (K.written out.old) (K.written out.new)
+        (E.written notes.old) (E.written notes.new))) }
 
     // When each other answer may come; that of want of memory is free. Why a description is refused, the last words tell.
     ensures usage { (result ≡ status.Usage) ↔ (order_of words.now ≡ None) }
     ensures file_fault { result ≡ status.FileFault → Rose (F.faults files.old) (F.faults files.new) }
     ensures read_fault { result ≡ status.ReadFault → Rose (S.faults source.old) (S.faults source.new) }
-    ensures write_fault { result ≡ status.WriteFault → Rose (K.faults out.old) (K.faults out.new) }
+    ensures write_fault { result ≡ status.WriteFault → BeforeLastWords words.now (F.content files.old) result (E.written notes.new) (E.faults notes.new)
+        (λ noted count. Ordered words.now (λ promise.
+        SinkFailed promise.writes_notes (K.faults out.old) (K.faults out.new) (E.faults notes.old) count)) }
     ensures limit { result ≢ status.Limit }
 
-    // A failure is told. One of the source may be followed by one of `out`, or by want of memory, for what was read before it.
+    // A failure is told. One of the source may be followed by one of a sink, or by want of memory, for what was read before it.
+    // That the last words couldn't be written is told by nothing but the count of the notes.
     ensures files_told { result ≢ status.FileFault → F.faults files.new ≡ F.faults files.old }
     ensures out_told { result ≢ status.WriteFault → K.faults out.new ≡ K.faults out.old }
+    ensures notes_told { result ≢ status.WriteFault → BeforeLastWords words.now (F.content files.old) result (E.written notes.new) (E.faults notes.new)
+        (λ noted count. count ≡ E.faults notes.old) }
     ensures source_told { result ≢ status.ReadFault → result ≢ status.WriteFault → result ≢ status.Memory
         → S.faults source.new ≡ S.faults source.old }
 
     ensures completeness { IsFair words.now (F.content files.old) (S.left source.old)
-        (counts (F.faults files.old) (F.faults files.new) (S.faults source.old) (S.faults source.new) (K.faults out.old) (K.faults out.new))
+        (counts (F.faults files.old) (F.faults files.new) (S.faults source.old) (S.faults source.new) (K.faults out.old) (K.faults out.new)
+        (E.faults notes.old) (E.faults notes.new))
         → EndsOrWantsMemory result }
 
-    // What stands on `out` where not all was read and written.
+    // What stands on the sinks where not all was read and written; the last words stand on the notes behind it.
     ensures nothing { IsBeforeInput result → K.written out.new ≡ K.written out.old }
-    ensures complete { result ≡ status.ReadFault → Ordered words.now (λ promise. promise.stops_reading
-        (seen (F.content files.old) (S.left source.old) (S.left source.new) (K.written out.old) (K.written out.new))) }
-    ensures too_long { result ≡ status.TooLong → Ordered words.now (λ promise. promise.stops_at_limit
-        (seen (F.content files.old) (S.left source.old) (S.left source.new) (K.written out.old) (K.written out.new))) }
-    ensures prefix { result ≡ status.WriteFault → Ordered words.now (λ promise. promise.stops_writing
-        (seen (F.content files.old) (S.left source.old) (S.left source.new) (K.written out.old) (K.written out.new))) }
-    ensures memory { result ≡ status.Memory → Ordered words.now (λ promise. promise.stops_early
-        (seen (F.content files.old) (S.left source.old) (S.left source.new) (K.written out.old) (K.written out.new))) }
+    ensures complete { result ≡ status.ReadFault → BeforeLastWords words.now (F.content files.old) result (E.written notes.new) (E.faults notes.new)
+        (λ noted count. Ordered words.now (λ promise. promise.stops_reading
+        (seen (F.content files.old) (S.left source.old) (S.left source.new) (K.written out.old) (K.written out.new) (E.written notes.old) noted))) }
+    ensures too_long { result ≡ status.TooLong → BeforeLastWords words.now (F.content files.old) result (E.written notes.new) (E.faults notes.new)
+        (λ noted count. Ordered words.now (λ promise. promise.stops_at_limit
+        (seen (F.content files.old) (S.left source.old) (S.left source.new) (K.written out.old) (K.written out.new) (E.written notes.old) noted))) }
+    ensures prefix { result ≡ status.WriteFault → BeforeLastWords words.now (F.content files.old) result (E.written notes.new) (E.faults notes.new)
+        (λ noted count. Ordered words.now (λ promise. promise.stops_writing
+        (seen (F.content files.old) (S.left source.old) (S.left source.new) (K.written out.old) (K.written out.new) (E.written notes.old) noted))) }
+    ensures memory { result ≡ status.Memory → BeforeLastWords words.now (F.content files.old) result (E.written notes.new) (E.faults notes.new)
+        (λ noted count. Ordered words.now (λ promise. promise.stops_early
+        (seen (F.content files.old) (S.left source.old) (S.left source.new) (K.written out.old) (K.written out.new) (E.written notes.old) noted))) }
 
-    // Where a write fails, little more was read than was written for.
-    ensures ahead { result ≡ status.WriteFault → Ordered words.now (λ promise. promise.stays_near
-        (seen (F.content files.old) (S.left source.old) (S.left source.new) (K.written out.old) (K.written out.new))) }
+    // Where a write fails, little more was read than was written for, on each sink.
+    ensures ahead { result ≡ status.WriteFault → BeforeLastWords words.now (F.content files.old) result (E.written notes.new) (E.faults notes.new)
+        (λ noted count. Ordered words.now (λ promise. promise.stays_near
+        (seen (F.content files.old) (S.left source.old) (S.left source.new) (K.written out.old) (K.written out.new) (E.written notes.old) noted))) }
 
     // A command as `check` reads no source, and no run does that ends at its words or at the description. Words that are no
     // order reach no file.
@@ -126,10 +149,11 @@ pub fn run<F: Files, S: Source, K: Sink, E: Sink>(
     ensures untouched { IsBeforeInput result → source.new ≡ source.old }
     ensures unopened { order_of words.now ≡ None → files.new ≡ files.old }
 
-    // The last words go to the notes, and nothing else does. Those of a refusal tell the verdict on the description.
-    ensures last_words { (ending : Ending) × (result ≡ status_of ending) × HasReason words.now (F.content files.old) ending
-        × Leaves (E.written notes.old) (E.written notes.new) (E.faults notes.old) (E.faults notes.new) (last_line ending) }
+    // The last words come last on the notes, and tell the verdict on a description that is refused. Where the command writes
+    // nothing else there, or the input wasn't reached, nothing else does stand there behind what stood there before.
+    ensures last_words { BeforeLastWords words.now (F.content files.old) result (E.written notes.new) (E.faults notes.new)
+        (λ noted count. IsQuiet words.now result → (noted ≡ E.written notes.old) × (count ≡ E.faults notes.old)) }
 {
-    let ending = obey(alloc, words, files, source, out);
+    let ending = obey(alloc, words, files, source, out, notes);
     close(ending, notes)
 }

@@ -9,18 +9,18 @@ pub returns-in-Ok-clause-gives : goal.returns-in-Ok-clause-gives
 returns-in-Ok-clause-gives g c =
     obeyed c.args.words.now
     (seen (g.F.Files.content c.args.files.now) (g.S.Source.left c.args.source.now) (g.S.Source.left c.perform.new.source)
-    (g.K.Sink.written c.args.out.now) (g.K.Sink.written c.perform.new.out))
-    (counts (g.F.Files.faults c.args.files.now) (g.F.Files.faults c.perform.new.files) (g.S.Source.faults c.args.source.now)
-    (g.S.Source.faults c.perform.new.source) (g.K.Sink.faults c.args.out.now) (g.K.Sink.faults c.perform.new.out))
+    (g.K.Sink.written c.args.out.now) (g.K.Sink.written c.perform.new.out) (g.E.Sink.written c.args.notes.now) (g.E.Sink.written c.perform.new.notes))
+    (counts (g.F.Files.faults c.args.files.now) (g.F.Files.faults c.perform.new.files) (g.S.Source.faults c.args.source.now) (g.S.Source.faults c.perform.new.source)
+    (g.K.Sink.faults c.args.out.now) (g.K.Sink.faults c.perform.new.out) (g.E.Sink.faults c.args.notes.now) (g.E.Sink.faults c.perform.new.notes))
     c.in-Ok.order c.perform.result c.in-Ok.ensures.order c.perform.ensures.gives
 
 pub returns-in-Err-Memory-clause-gives : goal.returns-in-Err-Memory-clause-gives
 returns-in-Err-Memory-clause-gives g c =
     ordered-by (λ promise. Keeps promise
     (seen (g.F.Files.content c.args.files.now) (g.S.Source.left c.args.source.now) (g.S.Source.left c.args.source.now)
-    (g.K.Sink.written c.args.out.now) (g.K.Sink.written c.args.out.now))
-    (counts (g.F.Files.faults c.args.files.now) (g.F.Files.faults c.args.files.now) (g.S.Source.faults c.args.source.now)
-    (g.S.Source.faults c.args.source.now) (g.K.Sink.faults c.args.out.now) (g.K.Sink.faults c.args.out.now))
+    (g.K.Sink.written c.args.out.now) (g.K.Sink.written c.args.out.now) (g.E.Sink.written c.args.notes.now) (g.E.Sink.written c.args.notes.now))
+    (counts (g.F.Files.faults c.args.files.now) (g.F.Files.faults c.args.files.now) (g.S.Source.faults c.args.source.now) (g.S.Source.faults c.args.source.now)
+    (g.K.Sink.faults c.args.out.now) (g.K.Sink.faults c.args.out.now) (g.E.Sink.faults c.args.notes.now) (g.E.Sink.faults c.args.notes.now))
     ending.Memory) (order_of c.args.words.now)
     (λ none. let fault = c.in-Err-Memory.ensures.usage.1 none in let memory = c.in-Err-Memory.field-0-is in cc)
-    (λ asked. early asked (g.F.Files.content c.args.files.now) (g.S.Source.left c.args.source.now) (g.K.Sink.written c.args.out.now))
+    (λ asked. early asked (g.F.Files.content c.args.files.now) (g.S.Source.left c.args.source.now) (g.K.Sink.written c.args.out.now) (g.E.Sink.written c.args.notes.now))

@@ -8,17 +8,18 @@ pub returns-in-Check-clause-gives : goal.returns-in-Check-clause-gives
 returns-in-Check-clause-gives g c =
     same-order-keeps c.args.order.now (order.Check c.as_str.result.now c.in-Check.settings)
     (seen (g.F.Files.content c.args.files.now) (g.S.Source.left c.args.source.now) (g.S.Source.left c.args.source.now)
-    (g.K.Sink.written c.args.out.now) (g.K.Sink.written c.check.new.out))
-    (counts (g.F.Files.faults c.args.files.now) (g.F.Files.faults c.check.new.files) (g.S.Source.faults c.args.source.now)
-    (g.S.Source.faults c.args.source.now) (g.K.Sink.faults c.args.out.now) (g.K.Sink.faults c.check.new.out))
-    c.check.result (search rules) (c.check.ensures.gives (g.S.Source.left c.args.source.now)
-    (g.S.Source.left c.args.source.now) (g.S.Source.faults c.args.source.now) (g.S.Source.faults c.args.source.now))
+    (g.K.Sink.written c.args.out.now) (g.K.Sink.written c.check.new.out) (g.E.Sink.written c.args.notes.now) (g.E.Sink.written c.args.notes.now))
+    (counts (g.F.Files.faults c.args.files.now) (g.F.Files.faults c.check.new.files) (g.S.Source.faults c.args.source.now) (g.S.Source.faults c.args.source.now)
+    (g.K.Sink.faults c.args.out.now) (g.K.Sink.faults c.check.new.out) (g.E.Sink.faults c.args.notes.now) (g.E.Sink.faults c.args.notes.now))
+    c.check.result (search rules) (c.check.ensures.gives (g.S.Source.left c.args.source.now) (g.S.Source.left c.args.source.now)
+    (g.E.Sink.written c.args.notes.now) (g.E.Sink.written c.args.notes.now) (g.S.Source.faults c.args.source.now) (g.S.Source.faults c.args.source.now)
+    (g.E.Sink.faults c.args.notes.now) (g.E.Sink.faults c.args.notes.now))
 
 pub returns-in-Parse-clause-gives : goal.returns-in-Parse-clause-gives
 returns-in-Parse-clause-gives g c =
     same-order-keeps c.args.order.now (order.Parse c.as_str-in-Parse.result.now c.in-Parse.settings)
     (seen (g.F.Files.content c.args.files.now) (g.S.Source.left c.args.source.now) (g.S.Source.left c.parse.new.source)
-    (g.K.Sink.written c.args.out.now) (g.K.Sink.written c.parse.new.out))
-    (counts (g.F.Files.faults c.args.files.now) (g.F.Files.faults c.parse.new.files) (g.S.Source.faults c.args.source.now)
-    (g.S.Source.faults c.parse.new.source) (g.K.Sink.faults c.args.out.now) (g.K.Sink.faults c.parse.new.out))
-    c.parse.result (search rules) c.parse.ensures.gives
+    (g.K.Sink.written c.args.out.now) (g.K.Sink.written c.parse.new.out) (g.E.Sink.written c.args.notes.now) (g.E.Sink.written c.args.notes.now))
+    (counts (g.F.Files.faults c.args.files.now) (g.F.Files.faults c.parse.new.files) (g.S.Source.faults c.args.source.now) (g.S.Source.faults c.parse.new.source)
+    (g.K.Sink.faults c.args.out.now) (g.K.Sink.faults c.parse.new.out) (g.E.Sink.faults c.args.notes.now) (g.E.Sink.faults c.args.notes.now))
+    c.parse.result (search rules) (c.parse.ensures.gives (g.E.Sink.written c.args.notes.now) (g.E.Sink.faults c.args.notes.now))
