@@ -10,3 +10,4 @@ mod text;
 mod value;
 
 pub use line::record_line;
+pub use text::write_quoted;

@@ -115,7 +115,7 @@ pub(crate) fn write_points(out: &mut Bytes, points: &[u8]) -> Result<(), Memory>
 }
 
 /// Writes a text of code points 00 to FF in quotes.
-pub(crate) fn write_quoted(out: &mut Bytes, points: &[u8]) -> Result<(), Memory>
+pub fn write_quoted(out: &mut Bytes, points: &[u8]) -> Result<(), Memory>
     ensures written { OnOk result (out.new ≡ out.old ++ quoted (encode_utf8_all points.now)) }
 {
     out.push(b'"')?;

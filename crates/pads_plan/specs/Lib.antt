@@ -1,0 +1,4 @@
+pub mod Expansion
+pub mod Pending
+pub mod Plans
+pub mod Ways

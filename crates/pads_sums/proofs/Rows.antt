@@ -1,0 +1,74 @@
+-- Rows of sums, computed on their definitions.
+use Rattle.std.proofs.Common.{◌≡◌, refl, pos, negsuc, ◌^◌, ◌-◌, true, false, List, [], ◌∷◌, codes, Some, None}
+use Rattle.pads_sums.specs.Distinct.{distinct, tracked, others}
+use Rattle.pads_samples.specs.Nodes.{in_range, number_sample, name_sample}
+use Rattle.pads_samples.specs.Samples.{Sample, num, text}
+use Rattle.pads_sums.specs.Sums.{kept}
+
+abbrev samples : List Sample
+samples = num (pos 7) ∷ num (negsuc 1) ∷ num (pos 7) ∷ num (pos 3) ∷ num (negsuc 1) ∷ num (pos 7) ∷ []
+
+-- each value where it comes first
+in-first-order : distinct samples ≡ num (pos 7) ∷ num (negsuc 1) ∷ num (pos 3) ∷ []
+in-first-order = refl
+
+-- a number is no text
+apart : distinct (text (codes "7") ∷ num (pos 7) ∷ text (codes "7") ∷ []) ≡ text (codes "7") ∷ num (pos 7) ∷ []
+apart = refl
+
+-- occurrences are those in the whole list, and what isn't tracked counts among the others
+two-tracked : tracked 2 samples ≡ (num (pos 7), 3) ∷ (num (negsuc 1), 2) ∷ []
+two-tracked = refl
+
+one-other : others 2 samples ≡ 1
+one-other = refl
+
+-- others are samples, and not values
+two-others-of-one-value : others 1 (num (pos 1) ∷ num (pos 2) ∷ num (pos 2) ∷ []) ≡ 2
+two-others-of-one-value = refl
+
+-- six samples, of six clean nodes beside three others
+sums : kept 2 (codes "n") 6 3 samples ≡ record {
+  place = codes "n";
+  good = 6;
+  bad = 3;
+  nums = 6;
+  least = negsuc 1;
+  greatest = pos 7;
+  sum = pos 20;
+  tracked = (num (pos 7), 3) ∷ (num (negsuc 1), 2) ∷ [];
+  others = 1;
+}
+sums = refl
+
+-- no samples
+nothing : kept 2 (codes "n") 0 1 [] ≡ record {
+  place = codes "n";
+  good = 0;
+  bad = 1;
+  nums = 0;
+  least = pos 0;
+  greatest = pos 0;
+  sum = pos 0;
+  tracked = [];
+  others = 0;
+}
+nothing = refl
+
+greatest-number : number_sample (pos (2 ^ 64 - 1)) ≡ Some (num (pos (2 ^ 64 - 1)))
+greatest-number = refl
+
+too-great : number_sample (pos (2 ^ 64)) ≡ None
+too-great = refl
+
+least-number : in_range (negsuc (2 ^ 63 - 1)) ≡ true
+least-number = refl
+
+too-small : in_range (negsuc (2 ^ 63)) ≡ false
+too-small = refl
+
+a-name : name_sample (codes "some" ∷ codes "none" ∷ []) 1 ≡ Some (text (codes "none"))
+a-name = refl
+
+no-such-name : name_sample (codes "some" ∷ []) 1 ≡ None
+no-such-name = refl
