@@ -50,12 +50,14 @@ settings_in words =
 abbrev pub options_of : Command → List OptionName
 options_of command.Check = option.Coding ∷ []
 options_of command.Parse = option.Coding ∷ option.Max ∷ option.Records ∷ []
+options_of command.Print = option.Coding ∷ option.Max ∷ option.Records ∷ []
 
 -- the command of this name
 abbrev pub command_of : List ℕ → Option Command
 command_of name =
     if bytes_eq name (codes "check") then Some command.Check
     else if bytes_eq name (codes "parse") then Some command.Parse
+    else if bytes_eq name (codes "print") then Some command.Print
     else None
 
 -- the one argument, which names a description's file and so isn't empty
@@ -67,6 +69,7 @@ description_of arguments = None
 abbrev pub order_with : Command → List (List ℕ) → Settings → Option Order
 order_with command.Check arguments settings = option_map (λ description. order.Check description settings) (description_of arguments)
 order_with command.Parse arguments settings = option_map (λ description. order.Parse description settings) (description_of arguments)
+order_with command.Print arguments settings = option_map (λ description. order.Print description settings) (description_of arguments)
 
 -- A word is no option, or one of these.
 abbrev pub is_one_of : List OptionName → List ℕ → Bool
@@ -97,3 +100,4 @@ pub record IsWithinLimits (cutting : Cutting) : Type 0 where
 abbrev pub KeepsLimits : Order → Type 0
 KeepsLimits (order.Check description settings) = IsWithinLimits settings.cutting
 KeepsLimits (order.Parse description settings) = IsWithinLimits settings.cutting
+KeepsLimits (order.Print description settings) = IsWithinLimits settings.cutting

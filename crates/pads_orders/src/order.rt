@@ -39,6 +39,11 @@ pub enum Order {
         description: Word,
         settings: Settings,
     },
+    /// The canonical bytes of each clean record that is read by the description in this file.
+    Print {
+        description: Word,
+        settings: Settings,
+    },
 }
 
 /// The words are no order.
@@ -102,6 +107,7 @@ pub(crate) fn settings_in(words: &[Word]) -> Option<Settings>
 pub(crate) enum Command {
     Check,
     Parse,
+    Print,
 }
 
 impl Command {
@@ -113,6 +119,8 @@ impl Command {
             Some(Command::Check)
         } else if name == "parse" {
             Some(Command::Parse)
+        } else if name == "print" {
+            Some(Command::Print)
         } else {
             None
         }
@@ -124,7 +132,9 @@ impl Command {
     {
         match self {
             Command::Check => &[OptionName::Coding],
-            Command::Parse => &[OptionName::Coding, OptionName::Max, OptionName::Records],
+            Command::Parse | Command::Print => {
+                &[OptionName::Coding, OptionName::Max, OptionName::Records]
+            }
         }
     }
 
@@ -147,6 +157,10 @@ impl Command {
                 settings,
             }),
             Command::Parse => Ok(Order::Parse {
+                description: description(alloc, words)?,
+                settings,
+            }),
+            Command::Print => Ok(Order::Print {
                 description: description(alloc, words)?,
                 settings,
             }),

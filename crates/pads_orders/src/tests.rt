@@ -46,6 +46,21 @@ fn is_check(order: &Order, wanted: Coding) -> bool {
     description.as_str() == "a" && settings.coding == wanted
 }
 
+/// The order is `print` of the file `a` with this coding and cutting.
+fn is_print(order: &Order, wanted: Coding, discipline: Discipline, max: u64) -> bool {
+    let Order::Print {
+        description,
+        settings,
+    } = order
+    else {
+        return false;
+    };
+    description.as_str() == "a"
+        && settings.coding == wanted
+        && settings.cutting.discipline == discipline
+        && settings.cutting.max == max
+}
+
 /// The line is `parse` of the file `a` with this coding and cutting.
 fn parses(
     rt: &impl Abort,
@@ -60,6 +75,23 @@ fn parses(
         Err(_refusal) => false,
     };
     assert!(rt; parses);
+    Ok(())
+}
+
+/// The line is `print` of the file `a` with this coding and cutting.
+fn prints(
+    rt: &impl Abort,
+    alloc: Global,
+    line: &str,
+    coding: Coding,
+    discipline: Discipline,
+    max: u64,
+) -> Result<(), Fail> {
+    let prints = match read(alloc, line) {
+        Ok(order) => is_print(&order, coding, discipline, max),
+        Err(_refusal) => false,
+    };
+    assert!(rt; prints);
     Ok(())
 }
 
@@ -107,6 +139,37 @@ fn options_anywhere_behind_the_command(rt: HostRuntime) -> Result<(), Fail> {
     )?;
     checks(&rt, rt.alloc(), "check --coding=ebcdic a", Coding::Ebcdic)?;
     checks(&rt, rt.alloc(), "check a --coding=ascii", Coding::Ascii)
+}
+
+#[test]
+fn the_options_of_print(rt: HostRuntime) -> Result<(), Fail> {
+    prints(
+        &rt,
+        rt.alloc(),
+        "print a",
+        Coding::Ascii,
+        Discipline::Term(b'\n'),
+        1_048_576,
+    )?;
+    prints(
+        &rt,
+        rt.alloc(),
+        "print --records=fixed:256 a --coding=ebcdic --max=256",
+        Coding::Ebcdic,
+        Discipline::Fixed(256),
+        256,
+    )?;
+    none_are(
+        &rt,
+        rt.alloc(),
+        &[
+            "print a b",
+            "print a --top=3",
+            "print a --mask=check",
+            "print a --max=4 --records=fixed:8",
+            "print a --max=4 --max=4",
+        ],
+    )
 }
 
 #[test]

@@ -3,6 +3,8 @@ pub mod Counted
 pub mod Told
 pub mod Texts
 pub mod Records
+pub mod Kept
+pub mod Alike
 pub mod Promises
 pub mod Statuses
 pub mod Unread

@@ -1,5 +1,6 @@
 -- How the promise of a command is kept.
-use Rattle.std.proofs.Common.{◌≡◌, ◌^◌, ◌≤◌, ◌+◌, ◌∙◌, inl, inr, refl, sym, ap, subst, ℕ, Bool, List, [], length, length-append, append-nil, Option, None, Some, IfSome, arith}
+use Rattle.std.proofs.Common.{◌≡◌, ◌^◌, ◌≤◌, ◌+◌, ◌∙◌, inl, inr, refl, sym, ap, subst, ℕ, Bool, true, List, [], length, length-append, append-nil, Option, None, Some, IfSome, arith}
+use Rattle.std.specs.Prelude.{All}
 use Rattle.std.specs.Io.KnownBytes.{Appends, Consumes}
 use Rattle.pads_ast.specs.declared.decl.Ast.{Ast}
 use Rattle.pads_describe.proofs.AnswerLaws.{not_both}
@@ -13,9 +14,13 @@ use Rattle.pads_describe.specs.declared.verdict.Verdict.{Verdict}
 use Rattle.pads_tool.proofs.Texts.{if-known}
 use Rattle.pads_drive.specs.Outputs.{Work}
 use Rattle.pads_value.specs.declared.row.Row.{Row}
-use Rattle.pads_tool.specs.Describing.{Description, described, lines}
-use Rattle.pads_tool.specs.Reading.{RecordsGive, WroteAll, WroteMost}
-use Rattle.pads_tool.specs.Promises.{Promise, Seen, seen, Counts, counts, Keeps, checking, reading, promise_of}
+use Rattle.law_calculus.specs.Plain.{Plain}
+use Rattle.pads_orders.specs.Orders.{IsWithinLimits}
+use Rattle.pads_tool.proofs.Kept.{all-kept}
+use Rattle.pads_tool.specs.Describing.{Description, described, frames_of, is_clean, lines}
+use Rattle.pads_tool.specs.Printing.{IsKept, prints}
+use Rattle.pads_tool.specs.Reading.{RecordsGive, WroteAll, WroteMost, rows_in}
+use Rattle.pads_tool.specs.Promises.{Promise, Seen, seen, Counts, counts, Keeps, checking, printing, reading, promise_of}
 use Rattle.pads_tool.specs.Running.{Ordered}
 use Rattle.pads_tool.specs.Texts.{IsDescribedIn, IsRefusedIn, StopsBefore}
 use Rattle.pads_tool.specs.declared.ending.Ending.{Ending}
@@ -55,6 +60,12 @@ reading-stopped work noting name settings content left out noted n e h =
     stopped (reading work noting name settings) (seen content left left out out noted noted) n (IsRefusedIn (content name)) e
     (λ v refused. (refused, λ can. not-refused (content name) can.0 can.1 v can.3 can.4 refused)) (inl (refl, refl, refl)) refl h
 
+pub printing-stopped : (name : List ℕ) (settings : Settings) (content : List ℕ → Option (List ℕ)) (left out noted : Option (List ℕ)) (n : Counts) (e : Ending)
+    → StopsBefore (IsRefusedIn (content name)) n.files n.files' e → Keeps (printing name settings) (seen content left left out out noted noted) n e
+printing-stopped name settings content left out noted n e h =
+    stopped (printing name settings) (seen content left left out out noted noted) n (IsRefusedIn (content name)) e
+    (λ v refused. (refused, λ can. not-refused (content name) can.0 can.1 v can.3 can.4 refused)) (inl (refl, refl, refl)) refl h
+
 within : (input : List ℕ) (left' : Option (List ℕ)) (bytes : List ℕ) → Consumes (Some input) left' bytes → length bytes ≤ length input
 within input None bytes c = absurd c
 within input (Some xs) bytes c = let whole : length input ≡ length bytes + length xs = ap length c ∙ length-append bytes xs in omega (arith, whole)
@@ -71,8 +82,8 @@ module _ (work : Description → Work Row Bool) (left left' o o' n n' : Option (
       (e : Ending) → IsDescribedIn (content name) settings.coding made
       → RecordsGive work noting (described made settings.cutting) left left' o o' n n' source source' out out' notes notes' e
       → Keeps (reading work noting name settings) (seen content left left' o o' n n') (counts files files' source source' out out' notes notes') e
-  reading-read noting name settings content files files' source source' out out' notes notes' made ending.Done h p = (made, h, p)
-  reading-read noting name settings content files files' source source' out out' notes notes' made ending.Dirty h p = (made, h, p)
+  reading-read noting name settings content files files' source source' out out' notes notes' made ending.Done h p = ((made, h, p), tt)
+  reading-read noting name settings content files files' source source' out out' notes notes' made ending.Dirty h p = ((made, h, p), tt)
   reading-read noting name settings content files files' source source' out out' notes notes' made ending.ReadFault h p = (p.0, (made, h, p.1))
   reading-read noting name settings content files files' source source' out out' notes notes' made ending.WriteFault h p =
       (p.0, (made, h, if-known _ _ left (λ input q. q.0) p.1), (made, h, if-known _ _ left (λ input q. q.1) p.1))
@@ -83,10 +94,28 @@ module _ (work : Description → Work Row Bool) (left left' o o' n n' : Option (
   reading-read noting name settings content files files' source source' out out' notes notes' made (ending.Refused verdict) h p = absurd p
   reading-read noting name settings content files files' source source' out out' notes notes' made ending.FileFault h p = absurd p
 
+-- The same where records are printed.
+pub each-kept : (settings : Settings) (made : Contents) → Plain made.decls → IsWithinLimits settings.cutting → (left : Option (List ℕ))
+    → IfSome left (λ input. All (λ row. is_clean row ≡ true → IsKept (described made settings.cutting) row) (rows_in prints (described made settings.cutting) (frames_of (described made settings.cutting) input)))
+each-kept settings made plain within None = tt
+each-kept settings made plain within (Some input) = all-kept (described made settings.cutting) plain within.limit within.fits input
+
+pub printed : (name : List ℕ) (settings : Settings) (s : Seen) (n : Counts) (e : Ending) → (printing name settings).keeps_records s.content s.left → Keeps (reading prints true name settings) s n e → Keeps (printing name settings) s n e
+printed name settings s n ending.Done kept h = (h.0, kept)
+printed name settings s n ending.Dirty kept h = (h.0, kept)
+printed name settings s n ending.Usage kept h = h
+printed name settings s n (ending.Refused verdict) kept h = h
+printed name settings s n ending.FileFault kept h = h
+printed name settings s n ending.ReadFault kept h = h
+printed name settings s n ending.WriteFault kept h = h
+printed name settings s n ending.Memory kept h = h
+printed name settings s n ending.TooLong kept h = h
+
 -- Before anything was read or written there may be no memory.
 pub early : (asked : Order) (content : List ℕ → Option (List ℕ)) (left out noted : Option (List ℕ)) → (promise_of asked).stops_early (seen content left left out out noted noted)
 early (order.Check name settings) content left out noted = refl
 early (order.Parse name settings) content left out noted = inl (refl, refl, refl)
+early (order.Print name settings) content left out noted = inl (refl, refl, refl)
 
 -- What is kept for an order is kept for the same order.
 pub same-order-keeps : (asked one : Order) (s : Seen) (n : Counts) (e : Ending) → asked ≡ one → Keeps (promise_of one) s n e → Keeps (promise_of asked) s n e
@@ -109,6 +138,8 @@ pub finishes-still : (asked : Order) (clean : Bool) (content : List ℕ → Opti
 finishes-still (order.Check name settings) clean content left left' out out' noted m m' more h = h
 finishes-still (order.Parse name settings) clean content left left' out out' noted m m' more h =
     (h.0, h.1, noted-no-more (λ d. lines d.made) clean (described h.0 settings.cutting) left left' out out' noted m m' more h.2)
+finishes-still (order.Print name settings) clean content left left' out out' noted m m' more h =
+    (h.0, h.1, noted-no-more prints clean (described h.0 settings.cutting) left left' out out' noted m m' more h.2)
 
 pub ordered-still : (words : List (List ℕ)) (clean : Bool) (content : List ℕ → Option (List ℕ)) (left left' out out' noted m m' : Option (List ℕ)) → Appends m m' []
     → Ordered words (λ promise. promise.finishes clean (seen content left left' out out' noted m)) → Ordered words (λ promise. promise.finishes clean (seen content left left' out out' noted m'))

@@ -27,8 +27,8 @@ ordered-by Holds None h f = absurd (h refl)
 module _ (words : List (List ℕ)) (s : Seen) (n : Counts) where
   -- what the clauses of a run say together, by its status
   abbrev ByStatus : Status → Type 0
-  ByStatus status.Done = Ordered words (λ promise. promise.finishes true s)
-  ByStatus status.Dirty = Ordered words (λ promise. promise.finishes false s)
+  ByStatus status.Done = Ordered words (λ promise. promise.finishes true s) × Ordered words (λ promise. promise.keeps_records s.content s.left)
+  ByStatus status.Dirty = Ordered words (λ promise. promise.finishes false s) × Ordered words (λ promise. promise.keeps_records s.content s.left)
   ByStatus status.Usage = (order_of words ≡ None) × (s.out' ≡ s.out)
   ByStatus status.Refused = (order_of words ≢ None) × (s.out' ≡ s.out)
   ByStatus status.FileFault = (order_of words ≢ None) × Rose n.files n.files' × (s.out' ≡ s.out)
@@ -40,8 +40,8 @@ module _ (words : List (List ℕ)) (s : Seen) (n : Counts) where
   ByStatus status.Limit = ⊥
 
   by-order : (asked : Order) (e : Ending) → order_of words ≡ Some asked → Keeps (promise_of asked) s n e → ByStatus (status_of e)
-  by-order asked ending.Done is p = (asked, is, p)
-  by-order asked ending.Dirty is p = (asked, is, p)
+  by-order asked ending.Done is p = ((asked, is, p.0), (asked, is, p.1))
+  by-order asked ending.Dirty is p = ((asked, is, p.0), (asked, is, p.1))
   by-order asked ending.Usage is p = absurd p
   by-order asked (ending.Refused verdict) is p = (none-some _ _ is, p.1)
   by-order asked ending.FileFault is p = (none-some _ _ is, p.0, p.1)
@@ -66,8 +66,8 @@ module _ (words : List (List ℕ)) (s : Seen) (n : Counts) where
   at-status e s' t is same h = subst ByStatus (sym is ∙ same) (by-status e h)
 
   usage-when : (t : Status) → ByStatus t → order_of words ≡ None → t ≡ status.Usage
-  usage-when status.Done h e = absurd (none-some h.0 _ h.1 e)
-  usage-when status.Dirty h e = absurd (none-some h.0 _ h.1 e)
+  usage-when status.Done h e = absurd (none-some h.0.0 _ h.0.1 e)
+  usage-when status.Dirty h e = absurd (none-some h.0.0 _ h.0.1 e)
   usage-when status.Usage h e = refl
   usage-when status.Refused h e = absurd (h.0 e)
   usage-when status.FileFault h e = absurd (h.0 e)
@@ -138,6 +138,11 @@ module _ (words : List (List ℕ)) (s : Seen) (n : Counts) where
   reason ending.WriteFault h = tt
   reason ending.Memory h = tt
   reason ending.TooLong h = tt
+
+  -- each clean record is kept where all was done
+  pub kept : (e : Ending) (t : Status) → t ≡ status_of e → RunGives words s n e → (t ≡ status.Done) ⊎ (t ≡ status.Dirty) → Ordered words (λ promise. promise.keeps_records s.content s.left)
+  kept e t is h (inl same) = (at-status e t status.Done is same h).1
+  kept e t is h (inr same) = (at-status e t status.Dirty is same h).1
 
   -- An order that was done.
   pub obeyed : (asked : Order) (e : Ending) → order_of words ≡ Some asked → Keeps (promise_of asked) s n e → RunGives words s n e

@@ -4,6 +4,8 @@ pub mod Closing
 pub mod Describing
 pub mod Descriptions
 pub mod Endings
+pub mod Limits
+pub mod Printing
 pub mod Promises
 pub mod Reading
 pub mod Running

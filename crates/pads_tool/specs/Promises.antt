@@ -1,5 +1,5 @@
 -- What each command promises: one record a command, with what holds at each answer.
-use Rattle.std.specs.Prelude.{◌≡◌, ℕ, ◌^◌, ◌≤◌, ◌⊎◌, Bool, true, false, List, Option, Some, length}
+use Rattle.std.specs.Prelude.{All, ◌≡◌, ℕ, ◌^◌, ◌≤◌, ◌⊎◌, Bool, true, false, List, Option, Some, length}
 use Rattle.std.specs.Io.KnownBytes.{Appends}
 use Rattle.pads_ast.specs.declared.decl.Ast.{Ast}
 use Rattle.pads_describe.specs.Trees.{IsAccepted}
@@ -13,8 +13,9 @@ use Rattle.pads_drive.specs.Outputs.{Work}
 use Rattle.pads_value.specs.declared.row.Row.{Row}
 use Rattle.pads_tool.specs.Causes.{SinkFailed}
 use Rattle.pads_tool.specs.Checking.{Accepts}
-use Rattle.pads_tool.specs.Describing.{Description, lines}
-use Rattle.pads_tool.specs.Reading.{ReadLittleAhead, Reads, WroteAll, WroteComplete, WroteMost, WrotePrefix}
+use Rattle.pads_tool.specs.Describing.{Description, frames_of, is_clean, lines}
+use Rattle.pads_tool.specs.Printing.{IsKept, prints}
+use Rattle.pads_tool.specs.Reading.{ReadLittleAhead, Reads, WroteAll, WroteComplete, WroteMost, WrotePrefix, rows_in}
 use Rattle.pads_tool.specs.Texts.{IsRefusedIn}
 use Rattle.pads_tool.specs.declared.ending.Ending.{Ending}
 use Rattle.pads_tool.specs.declared.ending.Ending.TheVariants as ending
@@ -69,6 +70,8 @@ pub record Promise : Type 1 where
   pub reads_source : Bool
   -- It writes lines on the notes.
   pub writes_notes : Bool
+  -- By what is in the files and left of the source, each clean record is written so that it reads back, or noted.
+  pub keeps_records : (List ℕ → Option (List ℕ)) → Option (List ℕ) → Type 0
 
 -- `check`: an accepted description is told.
 abbrev pub checking : List ℕ → Promise
@@ -83,6 +86,7 @@ checking name = record {
   can_finish = λ content left. (text : List ℕ) × (tree : Ast) × (content name ≡ Some text) × IsAccepted text tree;
   reads_source = false;
   writes_notes = false;
+  keeps_records = λ content left. Unit {0};
 }
 
 -- A command that reads records, by what it makes of a description's records, and whether it writes on the notes for them.
@@ -102,20 +106,30 @@ reading work noting name settings = record {
       (text : List ℕ) × (tree : Ast) × (input : List ℕ) × (content name ≡ Some text) × IsAccepted text tree × (left ≡ Some input) × (length input ≤ 2 ^ 62);
   reads_source = true;
   writes_notes = noting;
+  keeps_records = λ content left. Unit {0};
 }
 
 -- `parse`: a line for each record.
 abbrev pub parsing : List ℕ → Settings → Promise
 parsing name settings = reading (λ d. lines d.made) false name settings
 
+-- `print`: the framed canonical bytes of each clean record that isn't ambiguous, and on the notes a line for each other. Each
+-- clean record has canonical bytes, and they are printed where they read back, and else noted.
+abbrev pub printing : List ℕ → Settings → Promise
+printing name settings = record (reading prints true name settings) {
+  keeps_records = λ content left.
+      Reads (content name) settings left (λ d input. All (λ row. is_clean row ≡ true → IsKept d row) (rows_in prints d (frames_of d input)));
+}
+
 abbrev pub promise_of : Order → Promise
 promise_of (order.Check name settings) = checking name
 promise_of (order.Parse name settings) = parsing name settings
+promise_of (order.Print name settings) = printing name settings
 
 -- A promise is kept, by the ending. What can be done isn't refused, and meets no limit.
 abbrev pub Keeps : Promise → Seen → Counts → Ending → Type 0
-Keeps p s n ending.Done = p.finishes true s
-Keeps p s n ending.Dirty = p.finishes false s
+Keeps p s n ending.Done = p.finishes true s × p.keeps_records s.content s.left
+Keeps p s n ending.Dirty = p.finishes false s × p.keeps_records s.content s.left
 Keeps p s n (ending.Refused verdict) = p.refused_for s.content verdict × (s.out' ≡ s.out) × (p.can_finish s.content s.left → ⊥)
 Keeps p s n ending.FileFault = Rose n.files n.files' × (s.out' ≡ s.out)
 Keeps p s n ending.ReadFault = Rose n.source n.source' × p.stops_reading s

@@ -11,8 +11,11 @@ mod description;
 mod ending;
 mod files;
 mod parse;
+mod print;
+mod rows;
 mod running;
 mod status;
+mod telling;
 mod text;
 mod words_of;
 

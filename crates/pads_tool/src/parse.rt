@@ -1,24 +1,23 @@
-ghost use Rattle.std.specs.Prelude.{◌≡◌, ◌≢◌, ℕ, List, Option, ◌&&◌, false, Err};
+ghost use Rattle.std.specs.Prelude.{◌≡◌, ◌≢◌, ℕ, List, Option, false};
 ghost use Rattle.pads_orders.specs.Orders.{IsWithinLimits};
-ghost use Rattle.pads_drive.specs.declared.stop.Stop.TheVariants as stop;
-ghost use Rattle.pads_tool.specs.Describing.{described, is_clean, lines};
+ghost use Rattle.pads_tool.specs.Describing.{described, lines};
 ghost use Rattle.pads_tool.specs.Endings.{status_of};
-ghost use Rattle.pads_tool.specs.Reading.{RecordsGive, ending_of};
+ghost use Rattle.pads_tool.specs.Reading.{RecordsGive};
 ghost use Rattle.pads_tool.specs.Promises.{Keeps, counts, parsing, seen};
 ghost use Rattle.pads_tool.specs.Running.{IsBeforeInput};
 ghost use Rattle.pads_tool.specs.declared.ending.Ending.TheVariants as ending;
 ghost use Rattle.pads_calc.specs.Modules.{contents};
 
 use crate::ending::Ending;
+use crate::rows::{are_clean, ending_of, rows_in};
 use crate::text::described_in;
 use pads_calc::Module;
 use pads_code::Coding;
-use pads_drive::{Command, Ended, Limit, Output, Stop, drive};
+use pads_drive::{Command, Limit, Output, drive};
 use pads_io::{Calls, Files, MemSink, Sink, Source};
 use pads_json::record_line;
 use pads_orders::{Cutting, Settings};
-use pads_value::{Class, Kept, Memory, Refusal, Row, Rows};
-use pads_walk::walk;
+use pads_value::{Kept, Memory, Refusal, Row, Rows};
 use std::alloc::Global;
 
 /// The command that writes one line for each record.
@@ -40,14 +39,7 @@ impl Command for Lines {
     ghost work = { λ command. lines (contents command.module) };
 
     fn read(&self, alloc: Global, number: u64, frames: &[Kept]) -> Result<Rows, Memory> {
-        let mut rows = Rows::new(alloc);
-        let mut next = number;
-        'frames: for kept in frames {
-            let row = walk(alloc, &self.module, next, &kept.lend())?;
-            rows.push(row)?;
-            next += 1;
-        }
-        Ok(rows)
+        rows_in(alloc, &self.module, number, frames)
     }
 
     fn give(
@@ -68,39 +60,6 @@ impl Command for Lines {
     }
 
     ghost stays_over = { λ _ _ _ over. over };
-}
-
-/// Whether nothing is wrong with a record.
-fn is_clean(row: &Row) -> bool
-    ensures clean { result ≡ is_clean row.now }
-{
-    match row.pd.class {
-        Class::Ok => true,
-        Class::Err | Class::Fail => false,
-    }
-}
-
-/// Whether all records are clean, with one more.
-fn are_clean(before: bool, row: &Row) -> bool
-    ensures clean { result ≡ (before && is_clean row.now) }
-{
-    before && is_clean(row)
-}
-
-/// How a run ends that came so far in the reading of its input.
-fn ending_of(outcome: Result<Ended<bool>, Stop>) -> Ending
-    requires countable { outcome ≢ Err stop.Limit }
-    ensures ending { result ≡ ending_of outcome }
-{
-    match outcome {
-        Ok(Ended::Finished(true)) => Ending::Done,
-        Ok(Ended::Finished(false)) => Ending::Dirty,
-        Ok(Ended::ReadFault) => Ending::ReadFault,
-        Ok(Ended::TooLong) => Ending::TooLong,
-        Err(Stop::Out | Stop::Notes) => Ending::WriteFault,
-        Err(Stop::Memory) => Ending::Memory,
-        Err(Stop::Limit) => unreachable!(),
-    }
 }
 
 /// Writes one line for each record of the source. While it reads, nothing is noted, and so the notes

@@ -1,4 +1,4 @@
-ghost use Rattle.std.specs.Prelude.{◌≡◌, ◌≢◌, ◌↔◌, true, false, None};
+ghost use Rattle.std.specs.Prelude.{◌≡◌, ◌≢◌, ◌↔◌, ◌⊎◌, true, false, None};
 ghost use Rattle.pads_io.specs.Faults.{Rose};
 ghost use Rattle.pads_orders.specs.Orders.{KeepsLimits, order_of};
 ghost use Rattle.pads_tool.specs.Causes.{SinkFailed};
@@ -12,6 +12,7 @@ use crate::check::check;
 use crate::close::close;
 use crate::ending::Ending;
 use crate::parse::parse;
+use crate::print::print;
 use crate::status::Status;
 use pads_io::{Files, Sink, Source};
 use pads_orders::{Order, Words, read_order};
@@ -48,6 +49,18 @@ fn perform<F: Files, S: Source, K: Sink, E: Sink>(
             description,
             settings,
         } => parse(alloc, description.as_str(), settings, files, source, out),
+        Order::Print {
+            description,
+            settings,
+        } => print(
+            alloc,
+            description.as_str(),
+            settings,
+            files,
+            source,
+            out,
+            notes,
+        ),
     }
 }
 
@@ -99,6 +112,10 @@ pub fn run<F: Files, S: Source, K: Sink, E: Sink>(
     ensures dirty { result ≡ status.Dirty → Ordered words.now (λ promise. promise.finishes false
         (seen (F.content files.old) (S.left source.old) (S.left source.new) (K.written out.old) (K.written out.new)
         (E.written notes.old) (E.written notes.new))) }
+
+    // Where it prints records, each clean one is printed as bytes that read back as its value, or is noted as ambiguous.
+    ensures kept { (result ≡ status.Done) ⊎ (result ≡ status.Dirty)
+        → Ordered words.now (λ promise. promise.keeps_records (F.content files.old) (S.left source.old)) }
 
     // When each other answer may come; that of want of memory is free. Why a description is refused, the last words tell.
     ensures usage { (result ≡ status.Usage) ↔ (order_of words.now ≡ None) }

@@ -1,9 +1,9 @@
 /// How a run of a command ends.
 #[derive(Clone, Copy, Debug, PartialEq, Eq)]
 pub enum Status {
-    /// All was read and written, and every record is clean.
+    /// All was read and written, and every record is clean, and where records are printed none is ambiguous.
     Done,
-    /// All was read and written, and some record isn't clean.
+    /// All was read and written, and some record isn't clean, or is ambiguous where records are printed.
     Dirty,
     /// The words are no order.
     Usage,

@@ -1,4 +1,4 @@
-//! Tries each row of `records.txt`, `refusals.txt` and `failures.txt`: a run of the program over objects in memory,
+//! Tries each row of `records.txt`, `refusals.txt`, `failures.txt` and `prints.txt`: a run of the program over objects in memory,
 //! and what it must leave. What a row says was worked out by hand. Prints each row whose run leaves something else,
 //! and how many rows each table has.
 #![tactic(auto)]
@@ -84,5 +84,6 @@ fn try_table(rt: &HostRuntime, name: &str) -> io::Result<()> {
 fn main(rt: HostRuntime) -> io::Result<()> {
     try_table(&rt, "records.txt")?;
     try_table(&rt, "refusals.txt")?;
-    try_table(&rt, "failures.txt")
+    try_table(&rt, "failures.txt")?;
+    try_table(&rt, "prints.txt")
 }

@@ -23,3 +23,12 @@ returns-in-Parse-clause-gives g c =
     (counts (g.F.Files.faults c.args.files.now) (g.F.Files.faults c.parse.new.files) (g.S.Source.faults c.args.source.now) (g.S.Source.faults c.parse.new.source)
     (g.K.Sink.faults c.args.out.now) (g.K.Sink.faults c.parse.new.out) (g.E.Sink.faults c.args.notes.now) (g.E.Sink.faults c.args.notes.now))
     c.parse.result (search rules) (c.parse.ensures.gives (g.E.Sink.written c.args.notes.now) (g.E.Sink.faults c.args.notes.now))
+
+pub returns-in-Print-clause-gives : goal.returns-in-Print-clause-gives
+returns-in-Print-clause-gives g c =
+    same-order-keeps c.args.order.now (order.Print c.as_str-in-Print.result.now c.in-Print.settings)
+    (seen (g.F.Files.content c.args.files.now) (g.S.Source.left c.args.source.now) (g.S.Source.left c.print.new.source)
+    (g.K.Sink.written c.args.out.now) (g.K.Sink.written c.print.new.out) (g.E.Sink.written c.args.notes.now) (g.E.Sink.written c.print.new.notes))
+    (counts (g.F.Files.faults c.args.files.now) (g.F.Files.faults c.print.new.files) (g.S.Source.faults c.args.source.now) (g.S.Source.faults c.print.new.source)
+    (g.K.Sink.faults c.args.out.now) (g.K.Sink.faults c.print.new.out) (g.E.Sink.faults c.args.notes.now) (g.E.Sink.faults c.print.new.notes))
+    c.print.result (search rules) c.print.ensures.gives

@@ -5,30 +5,30 @@ use Rattle.pads_tool.specs.Promises.{counts, seen}
 use Rattle.pads_tool.specs.Running.{Ordered, IsBeforeInput, IsQuiet}
 use Rattle.pads_tool.specs.declared.status.Status.TheVariants as status
 use Rattle.pads_tool.proofs.Promises.{ordered-still}
-use Rattle.pads_tool.proofs.Statuses.{at-status, before-last, fair, fair-before, never-limit, none-left, nothing, reason, usage-is}
+use Rattle.pads_tool.proofs.Statuses.{at-status, before-last, fair, fair-before, kept, never-limit, none-left, nothing, reason, usage-is}
 use Rattle.pads_tool.proofs.running.run.Goals as goal
 
 pub returns-clause-done : goal.returns-clause-done
 returns-clause-done g c = λ same. ordered-still c.args.words.now true (g.F.Files.content c.args.files.now) (g.S.Source.left c.args.source.now) (g.S.Source.left c.obey-ending.new.source)
     (g.K.Sink.written c.args.out.now) (g.K.Sink.written c.obey-ending.new.out) (g.E.Sink.written c.args.notes.now) (g.E.Sink.written c.obey-ending.new.notes) (g.E.Sink.written c.close.new.notes)
     (none-left c.obey-ending.result c.close.result status.Done _ _ _ _ c.close.ensures.status same tt c.close.ensures.words)
-    (at-status c.args.words.now
+    ((at-status c.args.words.now
     (seen (g.F.Files.content c.args.files.now) (g.S.Source.left c.args.source.now) (g.S.Source.left c.obey-ending.new.source)
     (g.K.Sink.written c.args.out.now) (g.K.Sink.written c.obey-ending.new.out) (g.E.Sink.written c.args.notes.now) (g.E.Sink.written c.obey-ending.new.notes))
     (counts (g.F.Files.faults c.args.files.now) (g.F.Files.faults c.obey-ending.new.files) (g.S.Source.faults c.args.source.now) (g.S.Source.faults c.obey-ending.new.source)
     (g.K.Sink.faults c.args.out.now) (g.K.Sink.faults c.obey-ending.new.out) (g.E.Sink.faults c.args.notes.now) (g.E.Sink.faults c.obey-ending.new.notes))
-    c.obey-ending.result c.close.result status.Done c.close.ensures.status same c.obey-ending.ensures.gives)
+    c.obey-ending.result c.close.result status.Done c.close.ensures.status same c.obey-ending.ensures.gives).0)
 
 pub returns-clause-dirty : goal.returns-clause-dirty
 returns-clause-dirty g c = λ same. ordered-still c.args.words.now false (g.F.Files.content c.args.files.now) (g.S.Source.left c.args.source.now) (g.S.Source.left c.obey-ending.new.source)
     (g.K.Sink.written c.args.out.now) (g.K.Sink.written c.obey-ending.new.out) (g.E.Sink.written c.args.notes.now) (g.E.Sink.written c.obey-ending.new.notes) (g.E.Sink.written c.close.new.notes)
     (none-left c.obey-ending.result c.close.result status.Dirty _ _ _ _ c.close.ensures.status same tt c.close.ensures.words)
-    (at-status c.args.words.now
+    ((at-status c.args.words.now
     (seen (g.F.Files.content c.args.files.now) (g.S.Source.left c.args.source.now) (g.S.Source.left c.obey-ending.new.source)
     (g.K.Sink.written c.args.out.now) (g.K.Sink.written c.obey-ending.new.out) (g.E.Sink.written c.args.notes.now) (g.E.Sink.written c.obey-ending.new.notes))
     (counts (g.F.Files.faults c.args.files.now) (g.F.Files.faults c.obey-ending.new.files) (g.S.Source.faults c.args.source.now) (g.S.Source.faults c.obey-ending.new.source)
     (g.K.Sink.faults c.args.out.now) (g.K.Sink.faults c.obey-ending.new.out) (g.E.Sink.faults c.args.notes.now) (g.E.Sink.faults c.obey-ending.new.notes))
-    c.obey-ending.result c.close.result status.Dirty c.close.ensures.status same c.obey-ending.ensures.gives)
+    c.obey-ending.result c.close.result status.Dirty c.close.ensures.status same c.obey-ending.ensures.gives).0)
 
 pub returns-clause-usage : goal.returns-clause-usage
 returns-clause-usage g c = usage-is c.args.words.now
@@ -72,6 +72,14 @@ returns-clause-write_fault g c = λ same. before-last c.args.words.now (g.F.File
     (counts (g.F.Files.faults c.args.files.now) (g.F.Files.faults c.obey-ending.new.files) (g.S.Source.faults c.args.source.now) (g.S.Source.faults c.obey-ending.new.source)
     (g.K.Sink.faults c.args.out.now) (g.K.Sink.faults c.obey-ending.new.out) (g.E.Sink.faults c.args.notes.now) (g.E.Sink.faults c.obey-ending.new.notes))
     c.obey-ending.result c.close.result status.WriteFault c.close.ensures.status same c.obey-ending.ensures.gives).0)
+
+pub returns-clause-kept : goal.returns-clause-kept
+returns-clause-kept g c = kept c.args.words.now
+    (seen (g.F.Files.content c.args.files.now) (g.S.Source.left c.args.source.now) (g.S.Source.left c.obey-ending.new.source)
+    (g.K.Sink.written c.args.out.now) (g.K.Sink.written c.obey-ending.new.out) (g.E.Sink.written c.args.notes.now) (g.E.Sink.written c.obey-ending.new.notes))
+    (counts (g.F.Files.faults c.args.files.now) (g.F.Files.faults c.obey-ending.new.files) (g.S.Source.faults c.args.source.now) (g.S.Source.faults c.obey-ending.new.source)
+    (g.K.Sink.faults c.args.out.now) (g.K.Sink.faults c.obey-ending.new.out) (g.E.Sink.faults c.args.notes.now) (g.E.Sink.faults c.obey-ending.new.notes))
+    c.obey-ending.result c.close.result c.close.ensures.status c.obey-ending.ensures.gives
 
 pub returns-clause-limit : goal.returns-clause-limit
 returns-clause-limit g c = never-limit c.args.words.now

@@ -1,6 +1,7 @@
-use Rattle.pads_calc.specs.Modules.{contents}
+use Rattle.std.proofs.Common.{refl}
 use Rattle.pads_tool.proofs.Counted.{counted-more}
+use Rattle.pads_tool.specs.Describing.{is_clean}
 use Rattle.pads_tool.proofs.parse.LinesCommand.give.Goals as goal
 
 pub returns-clause-tally : goal.returns-clause-tally
-returns-clause-tally c = counted-more (contents c.args.self.now.module) c.args.row.now _ _ c.are_clean.ensures.clean
+returns-clause-tally c = λ before t. record { is = counted-more is_clean c.args.row.now _ _ c.are_clean.ensures.clean before t.is; within = refl }

@@ -4,7 +4,7 @@ use Rattle.pads_calc.specs.Modules.{contents}
 use Rattle.pads_value.specs.Cuts.{cut_of_kept}
 use Rattle.pads_value.specs.declared.row.Row.{Row}
 use Rattle.pads_tool.specs.Describing.{lines}
-use Rattle.pads_tool.proofs.parse.LinesCommand.read.Given as goal
+use Rattle.pads_tool.proofs.rows.rows_in.Given as goal
 
 -- the rows so far are those of the frames so far
 pub record ReadSoFar (next number index : ℕ) (rows wanted : List Row) : Type 0 where
@@ -12,4 +12,4 @@ pub record ReadSoFar (next number index : ℕ) (rows wanted : List Row) : Type 0
   pub rows_are : rows ≡ wanted
 
 abbrev pub invariant-frames : goal.invariant-frames
-invariant-frames l = ReadSoFar l.next l.number l.kept-index l.rows (rows_of (lines (contents l.self.module)) l.number (map cut_of_kept (take l.kept-index l.frames)))
+invariant-frames l = ReadSoFar l.next l.number l.kept-index l.rows (rows_of (lines (contents l.made)) l.number (map cut_of_kept (take l.kept-index l.frames)))

@@ -1,0 +1,153 @@
+ghost use Rattle.std.specs.Prelude.{◌≡◌, ◌≢◌, ◌<◌, ◌≤◌, true, IfOk};
+ghost use Rattle.pads_calc.specs.Modules.{contents};
+ghost use Rattle.pads_frame.specs.Fits.{FitsLimit};
+ghost use Rattle.pads_orders.specs.Orders.{IsWithinLimits};
+ghost use Rattle.pads_tool.specs.Describing.{described};
+ghost use Rattle.pads_tool.specs.Endings.{status_of};
+ghost use Rattle.pads_tool.specs.Limits.{FitsLimit-prop};
+ghost use Rattle.pads_tool.specs.Printing.{prints, told_of};
+ghost use Rattle.pads_tool.specs.Promises.{Keeps, counts, printing, seen};
+ghost use Rattle.pads_tool.specs.Reading.{RecordsGive};
+ghost use Rattle.pads_tool.specs.Running.{IsBeforeInput};
+ghost use Rattle.pads_tool.specs.declared.ending.Ending.TheVariants as ending;
+
+use crate::ending::Ending;
+use crate::rows::{ending_of, is_clean, rows_in};
+use crate::telling::Told;
+use crate::text::described_in;
+use pads_calc::Module;
+use pads_drive::{Command, Limit, Output, drive};
+use pads_io::{Files, Sink, Source};
+use pads_orders::{Cutting, Settings};
+use pads_print::Printed;
+use pads_value::{Bytes, Kept, Memory, Refusal, Row, Rows};
+use std::alloc::Global;
+
+/// The command that prints each clean record whose canonical bytes read back.
+#[derive(Drop)]
+pub(crate) struct Prints {
+    pub(crate) module: Module,
+    pub(crate) cutting: Cutting,
+    pub(crate) ghost some: { 0 < cutting.max },
+    pub(crate) ghost limit: { cutting.max ≤ 16777216 },
+    pub(crate) ghost fits: { FitsLimit cutting.discipline cutting.max } by { FitsLimit-prop cutting.discipline cutting.max },
+}
+
+impl Command for Prints {
+    ghost use Rattle.std.specs.Prelude.{false};
+    ghost use Rattle.pads_tool.specs.Describing.{described};
+    ghost use Rattle.pads_tool.specs.Printing.{prints};
+    ghost use Rattle.pads_calc.specs.Modules.{contents};
+
+    type Row = Row;
+
+    /// Whether all records are printed.
+    type Tally = bool;
+
+    ghost work = { λ command. prints (described (contents command.module) command.cutting) };
+
+    fn read(&self, alloc: Global, number: u64, frames: &[Kept]) -> Result<Rows, Memory> {
+        rows_in(alloc, &self.module, number, frames)
+    }
+
+    fn give(
+        &self,
+        alloc: Global,
+        row: &Row,
+        output: &mut Output,
+        tally: &mut bool,
+    ) -> Result<(), Refusal<Limit>> {
+        let Ok(told) = told(alloc, self, row) else {
+            return Err(Refusal::Memory);
+        };
+        let Ok(()) = told.put(row.number, output) else {
+            return Err(Refusal::Memory);
+        };
+        *tally = told.are_printed(*tally);
+        Ok(())
+    }
+
+    ghost stays_over = { λ _ _ _ over. over };
+}
+
+/// What is told of a record.
+fn told(alloc: Global, command: &Prints, row: &Row) -> Result<Told, Memory>
+    ensures told { IfOk result (λ told. told ≡ told_of (described (contents command.now.module) command.now.cutting) row.now) }
+{
+    if !is_clean(row) {
+        return Ok(Told::NotClean);
+    }
+    let Cutting { discipline, max } = command.cutting;
+    match pads_print::print(
+        alloc,
+        &command.module,
+        discipline,
+        max,
+        row.number,
+        &row.value,
+    )? {
+        Printed::Framed(bytes) => Ok(Told::Printed(bytes)),
+        Printed::Ambiguous { .. } => Ok(Told::Ambiguous),
+        // It doesn't come: the value of a clean record has canonical bytes.
+        Printed::NotAValue => Ok(Told::Printed(Bytes::new(alloc))),
+    }
+}
+
+/// Prints each clean record of the source whose canonical bytes read back, and notes the others.
+fn print_records<S: Source, K: Sink, E: Sink>(
+    alloc: Global,
+    command: &Prints,
+    source: &mut S,
+    out: &mut K,
+    notes: &mut E,
+) -> Ending
+    ensures gives { RecordsGive prints true (described (contents command.now.module) command.now.cutting)
+        (S.left source.old) (S.left source.new) (K.written out.old) (K.written out.new) (E.written notes.old) (E.written notes.new)
+        (S.faults source.old) (S.faults source.new) (K.faults out.old) (K.faults out.new) (E.faults notes.old) (E.faults notes.new) result }
+    ensures out_kept { result ≢ ending.WriteFault → K.faults out.new ≡ K.faults out.old }
+    ensures notes_kept { result ≢ ending.WriteFault → E.faults notes.new ≡ E.faults notes.old }
+    ensures source_kept { result ≢ ending.ReadFault → result ≢ ending.WriteFault → result ≢ ending.Memory → S.faults source.new ≡ S.faults source.old }
+{
+    let cutting = command.cutting;
+    ending_of(drive(
+        command,
+        alloc,
+        true,
+        cutting.discipline,
+        cutting.max,
+        source,
+        out,
+        notes,
+    ))
+}
+
+/// Prints each clean record of the source whose canonical bytes read back, by the description in a file, and notes the
+/// others.
+pub(crate) fn print<F: Files, S: Source, K: Sink, E: Sink>(
+    alloc: Global,
+    name: &str,
+    settings: &Settings,
+    files: &mut F,
+    source: &mut S,
+    out: &mut K,
+    notes: &mut E,
+) -> Ending
+    requires limits { IsWithinLimits settings.now.cutting }
+    ensures gives { Keeps (printing name.now settings.now)
+        (seen (F.content files.old) (S.left source.old) (S.left source.new) (K.written out.old) (K.written out.new)
+        (E.written notes.old) (E.written notes.new))
+        (counts (F.faults files.old) (F.faults files.new) (S.faults source.old) (S.faults source.new) (K.faults out.old) (K.faults out.new)
+        (E.faults notes.old) (E.faults notes.new)) result }
+    ensures untouched { IsBeforeInput (status_of result) → source.new ≡ source.old }
+    ensures quiet { IsBeforeInput (status_of result) → notes.new ≡ notes.old }
+    ensures files_kept { result ≢ ending.FileFault → F.faults files.new ≡ F.faults files.old }
+    ensures out_kept { result ≢ ending.WriteFault → K.faults out.new ≡ K.faults out.old }
+    ensures notes_kept { result ≢ ending.WriteFault → E.faults notes.new ≡ E.faults notes.old }
+    ensures source_kept { result ≢ ending.ReadFault → result ≢ ending.WriteFault → result ≢ ending.Memory → S.faults source.new ≡ S.faults source.old }
+{
+    let cutting = settings.cutting;
+    match described_in(alloc, files, name, settings.coding) {
+        Ok(module) => print_records(alloc, &Prints { module, cutting }, source, out, notes),
+        Err(ending) => ending,
+    }
+}
