@@ -22,9 +22,13 @@ description decls end = (decls, end.begin)
 abbrev pub filter : Expr → Token → ExprAst
 filter expr end = record { expr = expr }
 
+-- These tokens derive these declarations, with this place for the end of the text.
+abbrev pub Derive : List Decl × ℕ → Tokens → Type 0
+Derive made ts = Whole decls description made ts
+
 -- These tokens derive this tree of a description.
 abbrev pub IsTree : Ast → Tokens → Type 0
-IsTree tree ts = Whole decls description (tree.decls, tree.end) ts
+IsTree tree ts = Derive (tree.decls, tree.end) ts
 
 -- The token of that number, from 0, is the first at which no description goes on.
 abbrev pub IsTreeFault : Tokens → ℕ → Type 0
