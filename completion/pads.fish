@@ -1,0 +1,71 @@
+# fish completion for pads: commands, options, option values and files.
+# Made by launcher/make from launcher/commands.txt: edit that.
+
+# The words before the one that is typed, a line each, without pads and --progress.
+function __pads_before
+    set -l words (commandline -opc)
+    set -e words[1]
+    if test (count $words) -gt 0; and test "$words[1]" = --progress
+        set -e words[1]
+    end
+    for word in $words
+        echo $word
+    end
+end
+
+# Whether the first word, or a command behind --progress, is typed now.
+function __pads_first
+    test (count (__pads_before)) -eq 0
+end
+
+# Whether nothing stands before the word that is typed, not even --progress.
+function __pads_bare
+    test (count (commandline -opc)) -eq 1
+end
+
+# Whether this is the first word, or the command behind --progress.
+function __pads_after
+    set -l words (__pads_before)
+    test (count $words) -gt 0; and test "$words[1]" = $argv[1]
+end
+
+# The same, where the word number $argv[2] behind it is typed now; options are no words.
+function __pads_word
+    set -l words (__pads_before | string match -v -- '--*=*')
+    __pads_after $argv[1]; and test (count $words) -eq $argv[2]
+end
+
+# The same, where an option is typed now.
+function __pads_option
+    __pads_after $argv[1]; and string match -q -- '-*' (commandline -ct)
+end
+
+# Files of descriptions and folders, or all files where there are none.
+function __pads_descriptions
+    set -l files (complete -C "'' "(commandline -ct))
+    string match -er '(\.pads|/)(\t|$)' -- $files; or printf '%s\n' $files
+end
+
+complete -c pads -f
+complete -c pads -n __pads_first -a 'check' -d 'tell whether a description is accepted'
+complete -c pads -n __pads_first -a 'parse' -d 'write one line of JSON for each record'
+complete -c pads -n __pads_first -a 'print' -d 'write each clean record again, in one way of writing'
+complete -c pads -n __pads_bare -a '--help' -d 'list the commands and options'
+complete -c pads -n __pads_bare -a 'help' -d 'explain a command, or a word like this one'
+complete -c pads -n __pads_bare -a '--version' -d 'print the version'
+complete -c pads -n __pads_bare -a '--progress' -d 'show bytes, records and rate while the order runs'
+complete -c pads -n __pads_bare -a '--install' -d 'install program, help, man page and completions below a folder'
+complete -c pads -n __pads_bare -a '--uninstall' -d 'take away what was installed there'
+complete -c pads -n '__pads_word check 1' -a '(__pads_descriptions)'
+complete -c pads -n '__pads_option check' -a '--coding=ascii --coding=ebcdic' -d 'the coding of characters'
+complete -c pads -n '__pads_word parse 1' -a '(__pads_descriptions)'
+complete -c pads -n '__pads_option parse' -a '--records=nl --records=term: --records=fixed: --records=rdw --records=whole' -d 'how the input is divided into records'
+complete -c pads -n '__pads_option parse' -a '--coding=ascii --coding=ebcdic' -d 'the coding of characters'
+complete -c pads -n '__pads_option parse' -a '--max=' -d 'the most bytes that a record may have'
+complete -c pads -n '__pads_word print 1' -a '(__pads_descriptions)'
+complete -c pads -n '__pads_option print' -a '--records=nl --records=term: --records=fixed: --records=rdw --records=whole' -d 'how the input is divided into records'
+complete -c pads -n '__pads_option print' -a '--coding=ascii --coding=ebcdic' -d 'the coding of characters'
+complete -c pads -n '__pads_option print' -a '--max=' -d 'the most bytes that a record may have'
+complete -c pads -n '__pads_word help 1' -a 'check parse print --help help --version --progress --install --uninstall'
+complete -c pads -n '__pads_word --install 1' -a '(__fish_complete_directories (commandline -ct))'
+complete -c pads -n '__pads_word --uninstall 1' -a '(__fish_complete_directories (commandline -ct))'
