@@ -1,0 +1,2 @@
+" Descriptions in the PADS language.
+autocmd BufNewFile,BufRead *.pads setfiletype pads
