@@ -1,0 +1,75 @@
+"""What the tools share: the program, a run of it, and how bytes are shown."""
+import os
+import subprocess
+import sys
+from pathlib import Path
+
+TOP = Path(__file__).resolve().parent.parent
+DIRTY = 1
+
+
+def program():
+    """The program: PADS_BIN, or the one that is built in this repository."""
+    found = os.environ.get("PADS_BIN") or TOP / "crates" / "pads_cli" / "out" / "pads_cli"
+    if not os.path.exists(found):
+        sys.exit("pads: no program is built: run ./pads once, or set PADS_BIN")
+    return str(found)
+
+
+def page(name):
+    """A page of docs/, which lies beside the tools."""
+    return (Path(os.environ.get("PADS_DOCS") or TOP / "docs") / name).read_text(encoding="utf-8")
+
+
+def split_words(words):
+    """The words of a command line that are options of `pads parse`, and the others."""
+    options = [word for word in words if word.startswith("--") and word != "--"]
+    return options, [word for word in words if word not in options and word != "--"]
+
+
+def option(options, name, default):
+    return next((word.split("=", 1)[1] for word in options if word.startswith(f"--{name}=")), default)
+
+
+class Run:
+    """A run of `pads parse`: its lines as they come, and then its status and its last words."""
+
+    def __init__(self, description, options, source):
+        words = [program(), "parse", description, *options]
+        self.process = subprocess.Popen(words, stdin=source, stdout=subprocess.PIPE, stderr=subprocess.PIPE)
+        self.status = self.notes = None
+
+    def lines(self):
+        yield from self.process.stdout
+        self.notes = self.process.stderr.read().decode(errors="replace")
+        self.status = self.process.wait()
+
+
+def told(run, description):
+    """Passes on the last words of a run that couldn't be completed."""
+    sys.stderr.write(run.notes)
+    if run.status == 3:
+        sys.stderr.write(f"pads: `pads explain {description}` shows the place, and how it is mended\n")
+
+
+ESCAPES = {"\n": "\\n", "\r": "\\r", "\t": "\\t", "\\": "\\\\", "'": "\\'"}
+
+
+def shown(data, coding, most=40):
+    """Bytes between single quotes: what can't be printed as `\\xHH`, and at most so many of them."""
+    text = data[:most].decode("cp037" if coding == "ebcdic" else "latin-1")
+    printable = [ESCAPES.get(c) or (c if " " <= c <= "~" else f"\\x{byte:02x}") for c, byte in zip(text, data)]
+    return "'" + "".join(printable) + ("'.." if len(data) > most else "'")
+
+
+def guarded(main):
+    """Runs a tool's `main`; a reader that goes away, as `head` does, ends it quietly."""
+    try:
+        status = main(sys.argv[1:])
+        sys.stdout.flush()
+    except BrokenPipeError:
+        os.dup2(os.open(os.devnull, os.O_WRONLY), sys.stdout.fileno())
+        status = DIRTY
+    except KeyboardInterrupt:
+        status = 130
+    sys.exit(status)
