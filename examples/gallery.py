@@ -6,11 +6,12 @@ shows them, docs/GALLERY.md.
     examples/gallery.py --check    tells whether they are what it would write
     examples/gallery.py PROGRAM    runs the program on each, and tells whether it writes these lines
 """
+import os
 import subprocess
 import sys
 from pathlib import Path
 
-import tables
+import reader
 
 HERE = Path(__file__).resolve().parent
 PAGE = HERE.parent / 'docs' / 'GALLERY.md'
@@ -23,52 +24,15 @@ class Example:
         self.lines = HERE / f'{Path(self.data).stem}.lines'
         self.description = HERE / f'{self.name}.pads'
 
-    def option(self, name, default):
-        return next((word.split('=')[1] for word in self.options if word.startswith(f'--{name}=')), default)
-
 
 def examples():
     rows = [row for row in (HERE / 'table.txt').read_text().splitlines() if row and not row.startswith('#')]
     return [Example(row) for row in rows]
 
 
-# Cutting, by docs/FORMATS.md: frames are a mark, the first offset and the bytes, or the end where there are none.
-
-def frames(data, discipline):
-    kind, _, number = discipline.partition(':')
-    if kind == 'whole':
-        return [('plain', 0, data)] if data else []
-    if kind == 'fixed':
-        size = int(number)
-        return [('plain' if at + size <= len(data) else 'short', at, data[at:at + size]) for at in range(0, len(data), size)]
-    if kind == 'rdw':
-        return words(data)
-    found, at = [], 0
-    for record in data.split(bytes([int(number, 16)]) if kind == 'term' else b'\n'):
-        found.append(('plain', at, record))
-        at += len(record) + 1
-    return found if found[-1][2] else found[:-1]
-
-
-def words(data):
-    found, at = [], 0
-    while at < len(data):
-        size = int.from_bytes(data[at:at + 2], 'big')
-        if len(data) - at < 4 or data[at + 2:at + 4] != b'\0\0' or not 4 <= size <= len(data) - at:
-            return found + [('broken', at, None)]
-        found.append(('plain', at + 4, data[at + 4:at + size]))
-        at += size
-    return found
-
-
 def wanted(example):
     """The lines that the program must write."""
-    module = tables.Translation(example.description.read_text(), 'cp037' if example.option('coding', 'ascii') == 'ebcdic' else 'latin-1')
-    data, out = example.file.read_bytes(), []
-    for number, (mark, first, record) in enumerate(frames(data, example.option('records', 'nl'))):
-        held = f'{len(data)}' if record is None else record.hex()
-        out.append(tables.Row(module, f'{number} {mark} {first} {held}').json() + '\n')
-    return ''.join(out).encode()
+    return ''.join(reader.lines(example.description.read_text(), example.file.read_bytes(), example.options)).encode()
 
 
 # The page.
@@ -78,7 +42,7 @@ HEAD = '''# A gallery of descriptions
 Descriptions of files that people have, each with a sample, the command that reads it, and what comes out. The samples were made for this page and contain faults on purpose; the lines that `pads parse` must write are stored beside them (`examples/NAME.lines`), worked out by a second reader. This page is made of `examples/table.txt` by `examples/gallery.py`. How each trick is done is in `docs/COOKBOOK.md`.
 
 '''
-SHOWN = 14
+SHOWN, WIDE = 14, 240
 
 
 def section(example, before):
@@ -96,24 +60,18 @@ def section(example, before):
         out.append(f'`{path}`{note}{" (each line ends with CR LF)" if chr(13).encode() in data else ""}:\n\n```{mark}\n{text}\n```\n')
     else:
         out.append(f'`{path}` has {len(data)} bytes.\n')
-    shown = faults(example)
-    out.append(f'```console\n$ ./pads faults {command.split()[0]} {path}{"".join(" " + word for word in example.options)}\n{shown}```\n')
+    first = wanted(example).split(b'\n')[0][:WIDE].decode(errors='replace')
+    out.append(f'```console\n$ ./pads parse {command} < {path} | head -1 | cut -c1-{WIDE}\n{first}\n'
+               f'$ ./pads faults {command} {path}\n{faults(example)}```\n')
     out.append(f'What can\'t be said: {example.lack}.\n')
     return '\n'.join(out)
 
 
 def faults(example):
-    """What `pads faults` shows, of the stored lines: the tool runs on a program that writes just these."""
-    import os
-    import tempfile
-    with tempfile.NamedTemporaryFile('w', suffix='.sh', delete=False) as stub:
-        stub.write(f'#!/bin/sh\ncat "{example.lines}"\n')
-    os.chmod(stub.name, 0o755)
-    path = f'examples/{example.data}'
-    run = subprocess.run([sys.executable, HERE.parent / 'tools' / 'faults.py', example.description, path, *example.options],
-                         cwd=HERE.parent, env={**os.environ, 'PADS_BIN': stub.name}, capture_output=True, text=True)
-    os.unlink(stub.name)
-    return run.stdout
+    """What `pads faults` shows, with the second reader in the place of the program."""
+    command = [sys.executable, 'tools/faults.py', f'examples/{example.name}.pads', f'examples/{example.data}', *example.options]
+    return subprocess.run(command, cwd=HERE.parent, env={**os.environ, 'PADS_BIN': str(HERE / 'reader.py')},
+                          capture_output=True, text=True).stdout
 
 
 def page():

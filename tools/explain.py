@@ -18,6 +18,7 @@ import warn
 
 VERDICT = re.compile(r"pads: refused: description (?:(too long)|lexical (\w+) at byte (\d+)"
                      r"|syntax at token (\d+) byte (\d+)|rule (\d+) at byte (\d+))")
+LONG = 160
 CHOICES = {"Penum", "Punion", "Popt"}
 
 
@@ -67,11 +68,15 @@ class Description:
     def marked(self, at, size):
         """The line of a byte, and a line that marks so many bytes from it on."""
         begin = self.text.rfind("\n", 0, at) + 1
-        line = self.text[begin:].split("\n", 1)[0]
+        end = begin + len(self.text[begin:].split("\n", 1)[0])
+        head, tail = "", ""
+        if end - begin > LONG:                             # of a long line what is around the place
+            first, last = max(begin, at - LONG // 2), min(end, at + LONG // 2)
+            head, tail, begin, end = ".. " * (first > begin), " .." * (last < end), first, last
         wide = lambda part: part.encode("latin-1").decode("utf-8", "replace")
-        gap = re.sub(r"[^\t]", " ", wide(self.text[begin:at]))
-        mark = "^" + "~" * (len(wide(self.text[at:min(at + size, begin + len(line))])) - 1)
-        return f"    {wide(line)}\n    {gap}{mark}"
+        gap = re.sub(r"[^\t]", " ", head + wide(self.text[begin:at]))
+        mark = "^" + "~" * (len(wide(self.text[at:min(at + size, end)])) - 1)
+        return f"    {head}{wide(self.text[begin:end])}{tail}\n    {gap}{mark}"
 
     def declaration(self, at):
         """The tree of the declaration around a byte."""

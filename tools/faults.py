@@ -19,7 +19,7 @@ import tempfile
 import runs
 
 CLEAN = b'{"class":"Ok"'
-AHEAD = 20
+AHEAD, READ_FAULT = 20, 5
 
 
 class Input:
@@ -57,9 +57,9 @@ def at(fault, row, data, coding):
     return f"'' before {runs.shown(rest, coding, AHEAD)}" if rest else "'' at the record's end"
 
 
-def faults_of(description, name, options, counts):
+def faults_of(description, data, options, counts):
     """Writes the faults of one input, and counts them. The answer is how its run ended."""
-    data, coding = Input(name), runs.option(options, "coding", "ascii")
+    coding = runs.option(options, "coding", "ascii")
     lines = runs.option(options, "records", "nl") in ("nl", "term:0a", "term:0A")
     run = runs.Run(description, options, data.source)
     for line in run.lines():
@@ -94,10 +94,12 @@ def main(words):
     counts, worst = collections.Counter(), 0
     for name in files or [None]:
         try:
-            status = faults_of(description, name, options, counts)
+            data = Input(name)
         except OSError as fault:
             print(f"pads: {name}: {fault.strerror}", file=sys.stderr)
-            status = 5
+            worst = max(worst, READ_FAULT)
+            continue
+        status = faults_of(description, data, options, counts)
         worst = max(worst, status)
         if status in (2, 3, 4):
             return status
