@@ -16,7 +16,7 @@ import hints
 import runs
 import warn
 
-VERDICT = re.compile(r"pads: refused: description (?:(too long)|lexical (\w+) at byte (\d+)"
+VERDICT = re.compile(r"pads: refused: description (?:lexical (\w+) at byte (\d+)"
                      r"|syntax at token (\d+) byte (\d+)|rule (\d+) at byte (\d+))")
 LONG = 160
 CHOICES = {"Penum", "Punion", "Popt"}
@@ -180,9 +180,7 @@ def refused(file, description, notes):
     match = VERDICT.search(notes)
     if not match:
         return None
-    long, kind, at, token, byte, rule, where = match.groups()
-    if long:
-        return f"{file}: the description has {len(description.text)} bytes, and may have 1,048,576"
+    kind, at, token, byte, rule, where = match.groups()
     if kind:
         at = int(at)
         hint = hints.hint(kind, description.text[:at], description.text[at:])
@@ -195,14 +193,16 @@ def refused(file, description, notes):
 def main(words):
     options, names = runs.split_words(words)
     if len(names) != 1 or "--help" in options:
-        print(__doc__.strip(), file=sys.stderr)
-        return 2
+        return runs.usage(__doc__, options)
     file = names[0]
     run = subprocess.run([runs.program(), "check", file, *options], capture_output=True)
     notes = run.stderr.decode(errors="replace")
     if run.returncode not in (0, 3):
         sys.stderr.write(notes)
         return run.returncode
+    if "too long" in notes:
+        print(f"{file}: {notes.split(': ', 2)[-1].strip()}: it may have 1,048,576 bytes")
+        return 3
     with open(file, "rb") as it:
         description = Description(it.read())
     if run.returncode == 3:

@@ -88,8 +88,7 @@ def totals(counts):
 def main(words):
     options, names = runs.split_words(words)
     if not names or "--help" in options:
-        print(__doc__.strip(), file=sys.stderr)
-        return 2
+        return runs.usage(__doc__, options)
     description, *files = names
     counts, worst = collections.Counter(), 0
     for name in files or [None]:

@@ -18,7 +18,17 @@ def program():
 
 def page(name):
     """A page of docs/, which lies beside the tools."""
-    return (Path(os.environ.get("PADS_DOCS") or TOP / "docs") / name).read_text(encoding="utf-8")
+    path = Path(os.environ.get("PADS_DOCS") or TOP / "docs") / name
+    if not path.is_file():
+        sys.exit(f"pads: the page {path} isn't there: set PADS_DOCS to its folder")
+    return path.read_text(encoding="utf-8")
+
+
+def usage(doc, options):
+    """The usage of a tool: on standard output where it is asked for, and else as an error."""
+    asked = "--help" in options
+    print(doc.strip(), file=sys.stdout if asked else sys.stderr)
+    return 0 if asked else 2
 
 
 def split_words(words):

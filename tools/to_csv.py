@@ -3,10 +3,11 @@
 
 Reads records from standard input by the description in the file DESC, and writes these fields of each clean record
 as CSV (RFC 4180, lines ended by a newline) below a line of their names. A field is the way to it from the record, as
-`request.meth`, `events[0].tstamp`; `.` is the whole value. What isn't there is empty; an optional, or a union of one
-scalar, is its value; a struct or an array is its JSON. Records that aren't clean are left out and counted on standard
-error; with --all they are written as well, what is missing in them empty. Three fields come from the line and not
-from the value: @record (its number, from 0), @offset and @class.
+`request.meth`, `events[0].tstamp`; `.` is the whole value. What isn't there is empty; what is or holds one scalar, as
+an optional or a union does, is that; another struct or an array is its JSON. Clean records that have none of the
+fields, such as headers and comments, are left out. Records that aren't clean are left out too, and counted on standard
+error; with --all they are written as well, what is missing in them empty. Three fields come from the line and not from
+the value: @record (its number, from 0), @offset and @class.
 
 A text in ASCII coding is written as the bytes that it had. Other options and the exit statuses are those of `pads
 parse` (docs/COMMANDS.md); a field that no record has is a usage error (2).
@@ -22,7 +23,7 @@ ABSENT = object()
 
 def steps(field):
     """The steps to a field: names and numbers."""
-    if not re.fullmatch(r"\.|@\w+|\w+(\.\w+|\[\d+\])*", field):
+    if not re.fullmatch(r"\.|@\w+|(\w+|\[\d+\])(\.\w+|\[\d+\])*", field):
         sys.exit(f"pads: csv: no way to a field: {field}")
     return [int(number) if number else name for name, number in re.findall(r"(\w+)|\[(\d+)\]", field.lstrip("."))] \
         if not field.startswith("@") else []
@@ -69,8 +70,7 @@ def columns(fields):
 def main(words):
     options, names = runs.split_words(words)
     if len(names) < 2 or "--help" in options:
-        print(__doc__.strip(), file=sys.stderr)
-        return 2
+        return runs.usage(__doc__, options)
     description, *fields = names
     every, options = "--all" in options, [word for word in options if word != "--all"]
     ways, met, left, count = columns(fields), [False] * len(fields), 0, 0
@@ -85,6 +85,9 @@ def main(words):
             left += 1
             continue
         values = [way(row) for way in ways]
+        own = [value for value, field in zip(values, fields) if field not in OF_LINE]
+        if row["class"] == "Ok" and own and all(value is ABSENT for value in own):
+            continue
         met = [before or value is not ABSENT for before, value in zip(met, values)]
         out.write(head + (",".join(map(cell, values)) + "\n").encode(coding))
         head = b""
