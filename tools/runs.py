@@ -9,19 +9,17 @@ DIRTY = 1
 
 
 def program():
-    """The program: PADS_BIN, or the one that is built in this repository."""
-    found = os.environ.get("PADS_BIN") or TOP / "crates" / "pads_cli" / "out" / "pads_cli"
-    if not os.path.exists(found):
-        sys.exit("pads: no program is built: run ./pads once, or set PADS_BIN")
-    return str(found)
+    """The program: PADS_BIN, or what lies beside the folder of the tools."""
+    return os.environ.get("PADS_BIN") or str(TOP / "pads")
 
 
 def page(name):
-    """A page of docs/, which lies beside the tools."""
-    path = Path(os.environ.get("PADS_DOCS") or TOP / "docs") / name
-    if not path.is_file():
-        sys.exit(f"pads: the page {path} isn't there: set PADS_DOCS to its folder")
-    return path.read_text(encoding="utf-8")
+    """A page of docs/, which lies beside the tools, or where it is installed below the prefix."""
+    folders = [os.environ.get("PADS_DOCS"), TOP / "docs", TOP.parent.parent / "share" / "doc" / "pads"]
+    found = next((path for path in (Path(folder) / name for folder in folders if folder) if path.is_file()), None)
+    if found is None:
+        sys.exit(f"pads: the page {name} isn't there: set PADS_DOCS to its folder")
+    return found.read_text(encoding="utf-8")
 
 
 def usage(doc, options):
