@@ -74,8 +74,15 @@ def faults(example):
                           capture_output=True, text=True).stdout
 
 
+def index():
+    """A table of all examples."""
+    rows = [f'| {example.title} | `examples/{example.name}.pads` | {" ".join(f"`{word}`" for word in example.options) or "lines"} |\n'
+            for example in examples()]
+    return '| file | description | records |\n|---|---|---|\n' + ''.join(rows) + '\n'
+
+
 def page():
-    out, before = HEAD, None
+    out, before = HEAD + index(), None
     for example in examples():
         out += section(example, before) + '\n'
         before = example.name
