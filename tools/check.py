@@ -1,6 +1,7 @@
 #!/usr/bin/env python3
-"""Runs the table of mistakes (mistakes.txt): each report must mark the place and say the words of its row. Where a
-program is there, its verdict must be the row's as well.
+"""Checks the tools of `pads explain`: the grammar, on the rows of test_trees (what derives a tree, and the first token of
+each fault); the table of mistakes (mistakes.txt), of which each report must mark the place and say the words of its row,
+and where a program is there its verdict must be the row's as well; and the examples, of which none has a warning.
 
     tools/check.py [PROGRAM] [--show]      with --show it prints all reports
 """
@@ -10,9 +11,13 @@ import sys
 import tempfile
 from pathlib import Path
 import explain
+import grammar
+import hints
 import warn
 
 HERE = Path(__file__).resolve().parent
+TREES = HERE.parent / "crates" / "test_trees" / "data" / "descriptions.txt"
+EXAMPLES = HERE.parent / "examples"
 
 
 def rows(text):
@@ -70,8 +75,42 @@ def faults_of(data, at, verdict, words, program):
     return wrong, told
 
 
+def grammar_faults():
+    """Rows of test_trees that the grammar derives otherwise, and how many rows there are."""
+    text = re.sub(r"\n\| ?", "\n", re.sub(r"^#.*\n", "", TREES.read_text(), flags=re.M))
+    found = re.findall(r"^tree@?(?: |(?=\n))((?:.*\n)*?) {4}(token (\d+) byte \d+\n)?", text, re.M)
+    wrong = []
+    for description, fault, number in found:
+        derivation = grammar.Derivation(grammar.tokens_of(description[:-1]))
+        if (derivation.furthest != int(number) or derivation.tree is not None) if fault else derivation.tree is None:
+            wrong.append(f"the grammar derives otherwise: {description.strip()}")
+    return wrong, len(found)
+
+
+def example_faults():
+    """Descriptions of the examples that the grammar doesn't derive, or that have a warning."""
+    wrong = []
+    for file in sorted([*EXAMPLES.glob("*.pads"), *EXAMPLES.glob("cookbook/*.pads")]):
+        description = explain.Description(file.read_bytes())
+        told = warn.warnings(description.tree, description.tokens) if description.tree else [(None, "no tree", "")]
+        wrong += [f"{file.name}: {what}" for _, what, _ in told]
+    return wrong
+
+
+def page_faults():
+    """Rules and kinds of bytes that docs/RULES.md has no text for."""
+    page = explain.runs.page("RULES.md")
+    numbers, kinds = re.findall(r"^\*\*(\d+), `", page, re.M), re.findall(r"^\| `(\w+)` \| ", page, re.M)
+    wrong = [f"rule {number} has no text" for number in numbers if not all(explain.rule_text(int(number)))]
+    return wrong + [f"{kind} has no hint" for kind in kinds if not hints.hint(kind, "", "@")]
+
+
 def main(words):
-    program, count, failed = next((word for word in words if word != "--show"), None), 0, 0
+    program, count = next((word for word in words if word != "--show"), None), 0
+    wrong, trees = grammar_faults()
+    wrong += example_faults() + page_faults()
+    print("\n".join([*wrong, f"{trees} descriptions of test_trees by the grammar, {len(wrong)} otherwise"]))
+    failed = len(wrong)
     for title, data, at, verdict, says in rows((HERE / "mistakes.txt").read_text(encoding="utf-8")):
         count += 1
         wrong, told = faults_of(data, at, verdict, says, program)

@@ -149,11 +149,11 @@ def syntax(file, description, number, at):
     token, before = description.tokens[number], description.tokens[number - 1] if number else None
     wanted = grammar.wanted_at(description.tokens, number)
     place = description.end() if token.kind == "END" else at
-    could = grammar.called(wanted) if wanted else []
+    could = grammar.called(wanted)
     follows = before and "\n" in description.text[before.end:place]
     line, column = description.place(before.begin) if before else (0, 0)
     what = f"`{token.spelled}` can't stand here" if token.spelled else "the description can't end here"
-    hint = hints.hint("syntax", description.blanked[:at], description.blanked[at:], wanted or {"DEPTH"})
+    hint = hints.hint("syntax", description.blanked[:at], description.blanked[at:], wanted)
     return shown(file, description, place, f"syntax: {what}", [
         f"here could stand: {', '.join(could[:-1]) + ' or ' + could[-1] if len(could) > 1 else could[0]}" if could else "",
         f"it follows `{before.spelled}` at {line}:{column}" if follows else "",

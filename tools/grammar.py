@@ -50,16 +50,18 @@ def tokens_of(text):
 # ---- The rules -------------------------------------------------------------------------------------
 
 def read_rules(text):
-    """The rules by name, each a nested tuple, and what sets of tokens are called."""
+    """The rules by name, each a nested tuple; what sets of tokens are called; how deep expressions may be."""
     text = re.sub(r"^#.*\n", "", text, flags=re.M)
     called = [(words.strip(), set(kinds.split())) for words, kinds in re.findall(r"^called (.*): (.*)$", text, re.M)]
     text = re.sub(r"^called .*\n", "", text, flags=re.M)
+    levels = int(re.search(r"^levels (\d+)$", text, re.M)[1])
+    text = re.sub(r"^levels .*\n", "", text, flags=re.M)
     rules = {}
     for name, body in re.findall(r"^(\w+) *= *(.*(?:\n[ \t]+.*)*)", text, re.M):
-        words = re.findall(r'"[^"]*"|\w+|[][(){}|]', body)
+        words = re.findall(r'"[^"]*"|\w+|[][(){}|<>]', body)
         rules[name], rest = either(words, 0)
         assert rest == len(words), name
-    return rules, called
+    return rules, called, levels
 
 
 def either(words, at):
@@ -74,12 +76,12 @@ def either(words, at):
 
 def row(words, at):
     items = []
-    while at < len(words) and words[at] not in "|)]}":
+    while at < len(words) and words[at] not in "|)]}>":
         word = words[at]
         at += 1
-        if word in "([{":
+        if word in "([{<":
             inner, at = either(words, at)
-            items.append({"(": inner, "[": ("maybe", inner), "{": ("many", inner)}[word])
+            items.append({"(": inner, "[": ("maybe", inner), "{": ("many", inner), "<": ("deeper", inner)}[word])
             at += 1
         elif word[0] == '"':
             items.append(("token", word[1:-1]))
@@ -88,17 +90,18 @@ def row(words, at):
     return ("row", items), at
 
 
-RULES, CALLED = read_rules((Path(__file__).resolve().parent / "grammar.txt").read_text())
+RULES, CALLED, LEVELS = read_rules((Path(__file__).resolve().parent / "grammar.txt").read_text())
 
 
 # ---- Deriving --------------------------------------------------------------------------------------
 
 class Derivation:
-    """Derives tokens. `furthest` is the last token that was looked at, `wanted` the kinds that were asked for there."""
+    """Derives tokens. `furthest` is the last token that was looked at, `wanted` the kinds that were asked for there,
+    `deep` the last token at which no level was left."""
 
     def __init__(self, tokens):
         sys.setrecursionlimit(1000000)
-        self.tokens, self.furthest, self.wanted = tokens, 0, set()
+        self.tokens, self.furthest, self.wanted, self.level, self.deep = tokens, 0, set(), 0, None
         self.tree = self.rule("desc", 0)
 
     def ask(self, kind, at):
@@ -136,6 +139,8 @@ class Derivation:
                 if at is None:
                     return None
             return at
+        if word == "deeper":
+            return self.deeper(inner, at, kids)
         if word == "either":
             return next((end for end in (self.kept(arm, at, kids) for arm in inner) if end is not None), None)
         while True:                                        # maybe, many
@@ -145,6 +150,15 @@ class Derivation:
             at = end
             if word == "maybe":
                 return at
+
+    def deeper(self, form, at, kids):
+        if self.level == LEVELS:
+            self.deep = at
+            return None
+        self.level += 1
+        end = self.read(form, at, kids)
+        self.level -= 1
+        return end
 
     def kept(self, form, at, kids):
         """As `read`; where nothing is read, nothing is added."""
@@ -156,14 +170,16 @@ class Derivation:
 
 
 def wanted_at(tokens, number):
-    """The kinds that could have stood in the place of this token; None where the grammar goes on with it."""
+    """The kinds that could have stood in the place of this token, and DEPTH where no level was left at it."""
     derivation = Derivation(tokens[:number + 1])
-    return derivation.wanted if derivation.furthest == number and derivation.tree is None else None
+    if derivation.furthest != number or derivation.tree is not None:
+        return set()
+    return derivation.wanted | ({"DEPTH"} if derivation.deep == number else set())
 
 
 def called(kinds):
     """A set of kinds in words, the longest sets first."""
-    left, words = set(kinds), []
+    left, words = set(kinds) - {"DEPTH"}, []
     for name, whole in CALLED:
         if whole <= left:
             words.append(name)

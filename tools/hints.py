@@ -45,7 +45,7 @@ HINTS = [
     Hint("BadEscape", "the escapes are `\\n \\r \\t \\0 \\\\ \\' \\\" \\xHH` (two hexadecimal digits); a backslash itself is `\\\\`", r""),
     Hint("OpenComment", "the comment has no `*/`", r""),
     # Tokens that can't stand there.
-    Hint("syntax", "expressions nest at most 64 levels of brackets, signs and forms", wanted="DEPTH"),
+    Hint("syntax", "expressions nest at most 64 levels of brackets, signs and forms", r"[-!(\[]|P(?:is|len|forall)\b", wanted="DEPTH"),
     Hint("syntax", "`{word}` is a keyword of the language and can't be a name: take another, such as `{word}_`", rf"(?P<word>{KEYWORD})",
          rf"(?:{WORD}|:\))", wanted="NAME"),
     Hint("syntax", "the arguments of a type stand between `(:` and `:)`, such as `Pstring(:',':)`", r"\(", rf"{CALLABLE}"),
