@@ -26,8 +26,8 @@ CHOICES = {"Penum", "Punion", "Popt"}
 
 def rule_text(number):
     """Name and statement of a rule, and what the page says of breaking and mending it."""
-    match = re.search(rf"^\*\*{number}, `(\w+)`: (.*?)\*\*(.*)\n(.*)$", runs.page("RULES.md"), re.M)
-    return match[1], (match[2] + match[3]).rstrip(".:").strip(), match[4]
+    match = re.search(rf"^\*\*{number}, `(\w+)`: (.*?)\*\*(.*)\n?(.*)$", runs.page("RULES.md"), re.M)
+    return match[1], match[2].rstrip(".:"), (match[3] or match[4]).strip()
 
 
 def kind_text(kind):

@@ -38,6 +38,7 @@ HINTS = [
     Hint("BadByte", "a name has letters, digits and `_`; what is literal in the data stands between quotes", r"."),
     Hint("BadNumber", "a number has no leading zeros: write `{digits}`", r"0+(?P<digits>[1-9]\d*)(?!\w)"),
     Hint("BadNumber", "a name begins with a letter or `_`, such as `n{word}`", r"(?P<word>\d+[A-Za-z_]\w*)"),
+    Hint("BadNumber", "a number is `0`, digits that don't begin with `0`, or `0x` and hexadecimal digits"),
     Hint("NumberTooWide", "the largest number is 2^127 - 1", r""),
     Hint("BadChar", "a text of several characters stands between double quotes: \"{text}\"", r"'(?P<text>[^'\n]{2,})'"),
     Hint("BadChar", "one character stands between single quotes, a quote itself as `'\\''`", r""),
