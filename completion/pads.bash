@@ -10,6 +10,9 @@ _pads_words() {
     print) echo 'DESC' ;;
     help) echo 'COMMAND' ;;
     --progress) echo 'ORDER' ;;
+    explain) echo 'DESC' ;;
+    faults) echo 'DESC FILE..' ;;
+    csv) echo 'DESC FIELD..' ;;
     --install) echo 'FOLDER' ;;
     --uninstall) echo 'FOLDER' ;;
   esac
@@ -55,7 +58,7 @@ _pads() {
   COMPREPLY=()
   if [ "${tokens[1]}" = --progress ] && [ "$last" -gt 1 ]; then first=2; fi
   if [ "$last" -eq 1 ]; then
-    _pads_among "$token" check parse print --help help --version --progress --install --uninstall
+    _pads_among "$token" check parse print --help help --version --progress explain faults csv --install --uninstall
   elif [ "$last" -eq "$first" ]; then
     _pads_among "$token" check parse print
   elif [[ $token = --*=* ]]; then
@@ -77,7 +80,7 @@ _pads() {
     case ${words[count]-} in
       DESC) _pads_files .pads "$typed" ;;
       FOLDER) compopt -o filenames; mapfile -t COMPREPLY < <(compgen -d -- "$typed") ;;
-      COMMAND) _pads_among "$typed" check parse print --help help --version --progress --install --uninstall ;;
+      COMMAND) _pads_among "$typed" check parse print --help help --version --progress explain faults csv --install --uninstall ;;
     esac
   fi
 }
