@@ -1,10 +1,11 @@
 -- The laws of the parts of a grammar but the repetitions.
 use Rattle.std.proofs.Common.{◌≡◌, Bool, true, false, ◌||◌, ◌&&◌, Ok, Err, [], ◌∷◌, ◌++◌, cond, refl, sym, ◌∙◌, ap}
 use denote.Enum.Bare.{same_true, true_same}
+use Rattle.pads_lex.specs.contracts.token.Keyword.{the_type as keyword_type}
+use Rattle.pads_lex.specs.contracts.token.Mark.{the_type as mark_type}
 use Rattle.pads_lex.specs.declared.token.Token.{Token}
 use Rattle.pads_grammar.specs.declared.kind.Kind.{Kind}
 use Rattle.pads_grammar.specs.declared.kind.Kind.TheVariants as kind
-use Rattle.pads_grammar.specs.contracts.kind.Kind.{the_type}
 use Rattle.pads_grammar.specs.Kinds.{Tokens, is, peek, kind_of}
 use Rattle.pads_grammar.specs.Grammar.{IsToken, read_token}
 use Rattle.pads_grammar.specs.Laws.{Told, Lawful, Inhabited}
@@ -27,10 +28,24 @@ pub goes_alike : (goes : Kind → Bool) (b : Bool) (whole front rest more : Toke
 goes_alike goes b whole front rest more h w e = ap goes (next_peek front rest more whole w e) ∙ h
 
 pub is-same : (k j : Kind) → is k j ≡ true → k ≡ j
-is-same k j h = same_true the_type tt k j h
+is-same (kind.Keyword a) (kind.Keyword b) h = ap kind.Keyword (same_true keyword_type tt a b h)
+is-same (kind.Mark a) (kind.Mark b) h = ap kind.Mark (same_true mark_type tt a b h)
+is-same kind.Name kind.Name h = refl
+is-same kind.Number kind.Number h = refl
+is-same kind.Negative kind.Negative h = refl
+is-same kind.Char kind.Char h = refl
+is-same kind.Text kind.Text h = refl
+is-same kind.End kind.End h = refl
+is-same _ _ h = cc
+
+is-itself : (k : Kind) → is k k ≡ true
+is-itself (kind.Keyword a) = true_same keyword_type a a refl
+is-itself (kind.Mark a) = true_same mark_type a a refl
+is-itself kind.Name = refl
+is-itself _ = refl
 
 pub same-is : (k j : Kind) → k ≡ j → is k j ≡ true
-same-is k j h = true_same the_type k j h
+same-is k j h = sym (ap (is k) h) ∙ is-itself k
 
 module _ {A : Type 0} (k : Kind) (take : Token → A) (quiet : is k kind.End ≡ false) where
   token_fault : (more : Tokens) → is k (peek more) ≡ false → read_token k take more ≡ Err more

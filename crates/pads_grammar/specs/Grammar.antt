@@ -3,6 +3,8 @@
 -- its meaning, by splitting the list of tokens. `reads` is a reader that decides by one token and
 -- never looks back.
 use Rattle.std.specs.Prelude.{◌≡◌, ℕ, zero, suc, Bool, true, false, ◌&&◌, ◌||◌, Option, Some, None, Result, Ok, Err, List, [], ◌∷◌, ◌++◌, length, cond, ◌⊎◌}
+use Rattle.pads_lex.specs.declared.token.Keyword.{Keyword}
+use Rattle.pads_lex.specs.declared.token.Mark.{Mark}
 use Rattle.pads_lex.specs.declared.token.Token.{Token}
 use Rattle.pads_grammar.specs.declared.kind.Kind.{Kind}
 use Rattle.pads_grammar.specs.declared.kind.Kind.TheVariants as kind
@@ -23,6 +25,13 @@ pub data Grammar : Type 0 → Type 1 where
   many : {A : Type 0} → Grammar A → Grammar (List A)
   -- any number of times, each behind a token of that kind, which may also stand last
   rest_of : {A : Type 0} → Kind → Grammar A → Grammar (List A)
+
+-- A mark or a keyword, by the place of its first byte.
+abbrev pub mark : Mark → Grammar ℕ
+mark m = token (kind.Mark m) (λ t. t.begin)
+
+abbrev pub keyword : Keyword → Grammar ℕ
+keyword k = token (kind.Keyword k) (λ t. t.begin)
 
 infixl 20 ◌&◌
 abbrev pub ◌&◌ : {A B : Type 0} → Grammar A → Grammar B → Grammar (A × B)

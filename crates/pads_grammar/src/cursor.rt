@@ -1,10 +1,10 @@
 ghost use Rattle.std.specs.Prelude.{◌≡◌, ◌∷◌, true, false, length, IfSome, IfNone};
 ghost use Rattle.pads_grammar.specs.Kinds.{peek, is, kind_of, starts_with};
-ghost use Rattle.pads_grammar.specs.Grammar.{reads, token};
+ghost use Rattle.pads_grammar.specs.Grammar.{reads, token, mark, keyword};
 ghost use Rattle.pads_grammar.specs.Reads.{Reads};
 
 use crate::Kind;
-use pads_lex::Token;
+use pads_lex::{Keyword, Mark, Token};
 use pads_value::Refusal;
 use std::marker::Model;
 
@@ -71,12 +71,26 @@ impl<'a> Cursor<'a> {
 
     /// Reads a token of that kind and gives its first byte.
     #[tactic(auto, using(crate::proofs::Leaves::leaves))]
-    pub fn mark(&mut self, kind: Kind) -> Reading<u64>
+    fn place(&mut self, kind: Kind) -> Reading<u64>
         ensures reads { Reads (reads (token kind (λ t. t.begin)) self.old) result self.new }
     {
         match self.take(kind) {
             Some(first) => Ok(first.begin),
             None => Err(Refusal::Fault(Unexpected)),
         }
+    }
+
+    /// Reads this mark and gives its first byte.
+    pub fn mark(&mut self, expected: Mark) -> Reading<u64>
+        ensures reads { Reads (reads (mark expected) self.old) result self.new }
+    {
+        self.place(Kind::Mark(expected))
+    }
+
+    /// Reads this keyword and gives its first byte.
+    pub fn keyword(&mut self, expected: Keyword) -> Reading<u64>
+        ensures reads { Reads (reads (keyword expected) self.old) result self.new }
+    {
+        self.place(Kind::Keyword(expected))
     }
 }

@@ -14,7 +14,7 @@ use Rattle.pads_lex.specs.Answers.{EndsLast, HasNoNegative}
 use Rattle.pads_value.specs.Refusals.{Gives, OnFault}
 use Rattle.pads_value.specs.declared.memory.Refusal.{Refusal}
 use Rattle.pads_value.specs.declared.memory.Refusal.TheVariants as refusal
-use Rattle.pads_lex.proofs.SameLaws.{is_number, no_number, word_no_number, mark_no_number}
+use Rattle.pads_lex.proofs.SameLaws.{is_number, no_number, word_no_number}
 use Rattle.pads_lex.specs.Reading.{tokens_from}
 use Rattle.pads_lex.specs.declared.token.Token.{Token}
 use Rattle.pads_lex.specs.declared.token.TokenKind.{TokenKind}
@@ -124,7 +124,7 @@ spelled_number w k number (decimal first others is digit all token) is_it = at_l
 spelled_number w k number (hexadecimal digits is some all token) is_it = at_least (value 16 digits) k number token is_it
 spelled_number w k number (char bytes point is are token) is_it = cc
 spelled_number w k number (text bytes points is are token) is_it = cc
-spelled_number w k number (mark found) is_it = no_number k number (mark_no_number w k found) is_it
+spelled_number w k number (mark found is token) is_it = cc
 
 pub cut_numbers : (at : ℕ) (z : List ℕ) (tokens : List Token) → IsCut at z tokens → HasNoNegative tokens
 cut_numbers at z tokens (ends) = (λ number is. cc, tt)

@@ -13,6 +13,8 @@ use Rattle.pads_lex.specs.Spelling.Spells.{mark}
 use Rattle.pads_lex.specs.Steps.{by_number, number_step, closed_step, by_literal, literal_step, by_mark, single_step, mark_step, step_of}
 use Rattle.pads_lex.specs.Cut.{opens_comment, goes_on, IsLiteral, IsFault, EndsLine}
 use Rattle.pads_lex.specs.Cut.IsFault.{no_token, no_character, bad_number, wide_number, open_text, bad_char, bad_escape, open_comment}
+use Rattle.pads_lex.specs.declared.token.Mark.{Mark}
+use Rattle.pads_lex.specs.declared.token.Mark.TheVariants.{Slash}
 use Rattle.pads_lex.specs.declared.token.TokenKind.{TokenKind}
 use Rattle.pads_lex.specs.declared.token.TokenKind.TheVariants as kind
 use Rattle.pads_lex.specs.declared.fault.LexKind.{LexKind}
@@ -28,7 +30,7 @@ use Rattle.pads_lex.proofs.LiteralLaws.{characters_read, IsFaulty, faulty_reads}
 use Rattle.pads_lex.proofs.LiteralLaws.IsFaulty.{no_byte, no_escape}
 use Rattle.pads_lex.proofs.SpelledLemmas.{zero_is_digit, Spelled, spelled, spells_some}
 use Rattle.pads_lex.proofs.SpelledLemmas.Spelled.{a_word, a_zero, a_decimal, a_hex, a_char, a_text, a_mark}
-use Rattle.pads_lex.proofs.SameLaws.{is_number, no_number, word_no_number, mark_no_number, quote_no_escape, longest_same, quote_closes}
+use Rattle.pads_lex.proofs.SameLaws.{is_number, no_number, word_no_number, quote_no_escape, longest_same, quote_closes}
 use Rattle.pads_lex.proofs.LongestLaws.{word_longest, number_longest, number_more, NoDouble, single_longest, double_longest}
 use Rattle.pads_lex.proofs.ReadLaws.{taken_nothing, no_slash, step_token, step_comment, step_number, step_quote, step_mark, block_read, number_step_is}
 use Rattle.pads_lex.proofs.NumberLemmas.{in_range_above}
@@ -88,7 +90,7 @@ number_first (b ∷ after) (suc m) number longest = (b, after, refl, go (spelled
     go (a_hex _ is _ _ _ _) = zero_is_digit b is
     go (a_char _ _ _ _ _ token) = cc
     go (a_text _ _ _ _ _ token) = cc
-    go (a_mark _ found) = no_number (kind.Number number) number (mark_no_number (b ∷ take m after) (kind.Number number) found) refl
+    go (a_mark _ _ _ token) = cc
 
 digit_step : (b : ℕ) (after : List ℕ) → is_digit b ≡ true → step_of (b ∷ after) ≡ number_step (b ∷ after)
 digit_step b after digit = step_token (b ∷ after) (no_slash b after (digit_only b digit).3) ∙ step_number b after digit
@@ -111,7 +113,7 @@ SpellsNone z = (size : ℕ) (token : TokenKind) → size ≤ length z → Spells
 spells_none_longest : {P : Type 0} (z : List ℕ) (n : ℕ) (k : TokenKind) → SpellsNone z → IsLongest z n k → P
 spells_none_longest z n k none longest = absurd (none n k longest.within longest.spells)
 
-slash_spells : mark_of (0x2F ∷ []) ≡ Some kind.Slash
+slash_spells : mark_of (0x2F ∷ []) ≡ Some Slash
 unfolding is_word
 slash_spells = refl
 
@@ -119,20 +121,20 @@ none_no_comment : (b : ℕ) (after : List ℕ) → SpellsNone (b ∷ after) → 
 none_no_comment b after none = go (b == 0x2F) refl
   where
     go : (t : Bool) → (b == 0x2F) ≡ t → opens_comment (b ∷ after) ≡ false
-    go true e = absurd (none 1 kind.Slash (omega arith) (mark (ap (λ x. mark_of (x ∷ [])) (eqb-true b 0x2F e) ∙ slash_spells)))
+    go true e = absurd (none 1 (kind.Mark Slash) (omega arith) (mark Slash (ap (λ x. mark_of (x ∷ [])) (eqb-true b 0x2F e) ∙ slash_spells) refl))
     go false e = no_slash b after e
 
 none_marks : (a : ℕ) (after : List ℕ) → is_letter a ≡ false → is_digit a ≡ false → is_quote a ≡ false → SpellsNone (a ∷ after) → mark_step (a ∷ after) ≡ Fault fault.BadByte 0
 unfolding mark_step single_step
 none_marks a after letter digit quote none = by_after after refl
   where
-    by_single : NoDouble a after → (o : Option TokenKind) → single_mark a ≡ o → by_mark 1 o (Fault fault.BadByte 0) ≡ Fault fault.BadByte 0
+    by_single : NoDouble a after → (o : Option Mark) → single_mark a ≡ o → by_mark 1 o (Fault fault.BadByte 0) ≡ Fault fault.BadByte 0
     by_single double None e = refl
-    by_single double (Some k) e = spells_none_longest (a ∷ after) 1 k none (single_longest a after k letter digit quote double e)
+    by_single double (Some k) e = spells_none_longest (a ∷ after) 1 (kind.Mark k) none (single_longest a after k letter digit quote double e)
 
-    by_double : (c : ℕ) (z : List ℕ) → after ≡ c ∷ z → (o : Option TokenKind) → double_mark a c ≡ o → by_mark 2 o (by_mark 1 (single_mark a) (Fault fault.BadByte 0)) ≡ Fault fault.BadByte 0
+    by_double : (c : ℕ) (z : List ℕ) → after ≡ c ∷ z → (o : Option Mark) → double_mark a c ≡ o → by_mark 2 o (by_mark 1 (single_mark a) (Fault fault.BadByte 0)) ≡ Fault fault.BadByte 0
     by_double c z is None e = by_single (subst (NoDouble a) (sym is) e) (single_mark a) refl
-    by_double c z is (Some k) e = spells_none_longest (a ∷ c ∷ z) 2 k (subst (λ l. SpellsNone (a ∷ l)) is none) (double_longest a c z k letter digit quote e)
+    by_double c z is (Some k) e = spells_none_longest (a ∷ c ∷ z) 2 (kind.Mark k) (subst (λ l. SpellsNone (a ∷ l)) is none) (double_longest a c z k letter digit quote e)
 
     by_after : (l : List ℕ) → after ≡ l → mark_step (a ∷ l) ≡ Fault fault.BadByte 0
     by_after [] is = by_single (subst (NoDouble a) (sym is) tt) (single_mark a) refl

@@ -2,20 +2,22 @@
 use Rattle.std.proofs.Common.{◌≡◌, ◌≢◌, ℕ, zero, suc, ◌+◌, ◌<◌, ◌≤◌, Bool, true, false, cond, List, [], ◌∷◌, length, take, Option, Some, None, pos, ◌⊎◌, inl, inr, sym, refl, ap, ◌∙◌, arith, add-one}
 use Rattle.std.specs.Prelude.{◌==◌}
 use Rattle.std.specs.List.{list_all}
+use Rattle.std.specs.Option.{option_or}
 use Rattle.std.proofs.lemmas.Bool.{eqb-true, eqb-false, eq-eqb}
 use Rattle.std.proofs.lemmas.List.{length-take-le}
 use Rattle.pads_lex.specs.Bytes.{is_between, is_letter, is_digit, is_word_byte, is_hex}
 use Rattle.pads_lex.specs.Runs.{run}
 use Rattle.pads_lex.specs.Numbers.{number_size, hex_length, word_value}
-use Rattle.pads_lex.specs.Words.{or_else, double_mark, single_mark, double_marks, single_marks}
+use Rattle.pads_lex.specs.Words.{double_mark, single_mark, double_marks, single_marks}
 use Rattle.pads_value.specs.Words.{find_word}
 use Rattle.pads_lex.specs.Spelling.{Spells, IsLongest, word_kind, mark_of}
 use Rattle.pads_lex.specs.Spelling.Spells.{name, mark}
+use Rattle.pads_lex.specs.declared.token.Mark.{Mark}
 use Rattle.pads_lex.specs.declared.token.TokenKind.{TokenKind}
 use Rattle.pads_lex.specs.declared.token.TokenKind.TheVariants as kind
 use Rattle.pads_lex.proofs.ByteLemmas.{is_quote, letter_in_word, digit_first}
 use Rattle.pads_lex.proofs.RunLemmas.{run_within, run_all, run_longest}
-use Rattle.pads_lex.proofs.TableLemmas.{or_else_some, double_length, single_length}
+use Rattle.pads_lex.proofs.TableLemmas.{either_found, double_length, single_length}
 use Rattle.pads_lex.proofs.SpelledLemmas.{Spelled, spelled, spells_some, letter_spells, digit_spells, mark_spells, IsNumberWord, number_word_spells}
 use Rattle.pads_lex.proofs.SpelledLemmas.IsNumberWord.{just_zero, base_ten, base_sixteen}
 
@@ -121,41 +123,42 @@ number_size_is b after digit = go (b == 0x30)
     go false = rw digit refl
 
 -- marks
-mark_length : (word : List ℕ) (k : TokenKind) → mark_of word ≡ Some k → length word ≤ 2
-mark_length word k e = go (or_else_some _ _ k e)
+mark_length : (word : List ℕ) (k : Mark) → mark_of word ≡ Some k → length word ≤ 2
+mark_length word k e = go (either_found _ _ k e)
   where
     go : ((find_word word double_marks ≡ Some k) ⊎ ((find_word word double_marks ≡ None) × (find_word word single_marks ≡ Some k))) → length word ≤ 2
     go (inl h) = omega (arith, double_length word k h)
     go (inr h) = omega (arith, single_length word k h.1)
 
-pub double_longest : (a b : ℕ) (z : List ℕ) (k : TokenKind) → is_letter a ≡ false → is_digit a ≡ false → is_quote a ≡ false → double_mark a b ≡ Some k → IsLongest (a ∷ b ∷ z) 2 k
+pub double_longest : (a b : ℕ) (z : List ℕ) (k : Mark) → is_letter a ≡ false → is_digit a ≡ false → is_quote a ≡ false → double_mark a b ≡ Some k → IsLongest (a ∷ b ∷ z) 2 (kind.Mark k)
 unfolding double_mark
 double_longest a b z k letter digit quote found =
-    longest_by a (b ∷ z) 1 k (omega arith)
-    (mark (ap (λ o. or_else o (find_word (a ∷ b ∷ []) single_marks)) found))
+    longest_by a (b ∷ z) 1 (kind.Mark k) (omega arith)
+    (mark k (ap (λ o. option_or o (find_word (a ∷ b ∷ []) single_marks)) found) refl)
     (λ m other fits word.
     let size = length-take-le m (b ∷ z) fits in
-    omega (arith, mark_length _ other (mark_spells a _ other letter digit quote word), size))
+    let spelled_mark = mark_spells a _ other letter digit quote word in
+    omega (arith, mark_length _ spelled_mark.0 spelled_mark.1, size))
 
 -- no mark of two bytes begins here
 abbrev pub NoDouble : ℕ → List ℕ → Type 0
 NoDouble a [] = Unit {0}
 NoDouble a (b ∷ z) = double_mark a b ≡ None
 
-one_is_no_double : (a : ℕ) (o : Option TokenKind) → find_word (a ∷ []) double_marks ≡ o → o ≡ None
+one_is_no_double : (a : ℕ) (o : Option Mark) → find_word (a ∷ []) double_marks ≡ o → o ≡ None
 one_is_no_double a None e = refl
 one_is_no_double a (Some k) e = absurd (omega (arith, double_length (a ∷ []) k e))
 
 pub one_mark : (a : ℕ) → mark_of (a ∷ []) ≡ single_mark a
 unfolding single_mark
-one_mark a = ap (λ o. or_else o (find_word (a ∷ []) single_marks)) (one_is_no_double a (find_word (a ∷ []) double_marks) refl)
+one_mark a = ap (λ o. option_or o (find_word (a ∷ []) single_marks)) (one_is_no_double a (find_word (a ∷ []) double_marks) refl)
 
 -- where no mark of two bytes begins, no mark is longer than one byte
-short_mark : (a : ℕ) (after : List ℕ) (m : ℕ) (k : TokenKind) → NoDouble a after → m ≤ length after → mark_of (a ∷ take m after) ≡ Some k → m ≡ 0
+short_mark : (a : ℕ) (after : List ℕ) (m : ℕ) (k : Mark) → NoDouble a after → m ≤ length after → mark_of (a ∷ take m after) ≡ Some k → m ≡ 0
 unfolding double_mark
 short_mark a after zero k none fits found = refl
 short_mark a [] (suc m) k none fits found = absurd (omega arith)
-short_mark a (b ∷ z) (suc zero) k none fits found = go (or_else_some _ _ k found)
+short_mark a (b ∷ z) (suc zero) k none fits found = go (either_found _ _ k found)
   where
     go : ((find_word (a ∷ b ∷ []) double_marks ≡ Some k) ⊎ ((find_word (a ∷ b ∷ []) double_marks ≡ None) × (find_word (a ∷ b ∷ []) single_marks ≡ Some k))) → suc zero ≡ zero
     go (inl h) = let no_mark : Some k ≡ None = sym h ∙ none in cc
@@ -164,17 +167,19 @@ short_mark a (b ∷ z) (suc (suc m)) k none fits found =
     let size = length-take-le (suc m) z (omega arith) in
     absurd (omega (arith, mark_length _ k found, size))
 
-pub single_longest : (a : ℕ) (after : List ℕ) (k : TokenKind) → is_letter a ≡ false → is_digit a ≡ false → is_quote a ≡ false → NoDouble a after → single_mark a ≡ Some k → IsLongest (a ∷ after) 1 k
+pub single_longest : (a : ℕ) (after : List ℕ) (k : Mark) → is_letter a ≡ false → is_digit a ≡ false → is_quote a ≡ false → NoDouble a after → single_mark a ≡ Some k → IsLongest (a ∷ after) 1 (kind.Mark k)
 single_longest a after k letter digit quote none found =
-    longest_by a after 0 k (omega arith) (mark (one_mark a ∙ found))
-    (λ m other fits word. omega (arith, short_mark a after m other none fits (mark_spells a _ other letter digit quote word)))
+    longest_by a after 0 (kind.Mark k) (omega arith) (mark k (one_mark a ∙ found) refl)
+    (λ m other fits word.
+    let spelled_mark = mark_spells a _ other letter digit quote word in
+    omega (arith, short_mark a after m spelled_mark.0 none fits spelled_mark.1))
 
 pub no_mark : (a : ℕ) (after : List ℕ) → is_letter a ≡ false → is_digit a ≡ false → is_quote a ≡ false → NoDouble a after → single_mark a ≡ None → (size : ℕ) (k : TokenKind) → size ≤ suc (length after) → Spells (take size (a ∷ after)) k → ⊥
 no_mark a after letter digit quote none missing zero k fits word = spells_some k word
 no_mark a after letter digit quote none missing (suc m) k fits word =
     let in_after : m ≤ length after = omega arith in
     let found = mark_spells a _ k letter digit quote (spelled a (take m after) k word) in
-    let single = short_mark a after m k none in_after found in
-    let there : mark_of (a ∷ []) ≡ Some k = ap (λ n. mark_of (a ∷ take n after)) (sym single) ∙ found in
-    let here : Some k ≡ None = sym there ∙ one_mark a ∙ missing in
+    let single = short_mark a after m found.0 none in_after found.1 in
+    let there : mark_of (a ∷ []) ≡ Some found.0 = ap (λ n. mark_of (a ∷ take n after)) (sym single) ∙ found.1 in
+    let here : Some found.0 ≡ None = sym there ∙ one_mark a ∙ missing in
     cc

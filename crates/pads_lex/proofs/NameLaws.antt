@@ -1,19 +1,19 @@
 -- Each name among the tokens of a text is spelled as a name.
-use Rattle.std.proofs.Common.{◌≡◌, ◌∙◌, sym, ap, refl, subst, ℕ, Bool, true, false, not, cond, List, [], ◌∷◌, take, Result, Ok, Err, Option, Some, None, is_some, ◌&&◌}
+use Rattle.std.proofs.Common.{◌≡◌, ◌∙◌, sym, ap, refl, subst, ℕ, Bool, true, false, not, List, ◌∷◌, take, Result, Ok, Err, Option, Some, None, is_some, ◌&&◌}
 use Rattle.std.specs.Prelude.{IfOk}
 use Rattle.std.specs.List.{list_all}
-use Rattle.std.proofs.lemmas.Bool.{and_from, and_parts}
+use Rattle.std.proofs.lemmas.Bool.{and_from}
 use Rattle.pads_lex.specs.Answers.{HasSpelledNames}
 use Rattle.pads_lex.specs.Bytes.{is_letter, is_word_byte}
 use Rattle.pads_lex.specs.Cut.{IsCut}
 use Rattle.pads_lex.specs.Cut.IsCut.{ends, passes, stands}
-use Rattle.pads_lex.specs.Spelling.{Spells, is_name, word_kind, mark_of}
+use Rattle.pads_lex.specs.Spelling.{Spells, is_name, word_kind}
 use Rattle.pads_lex.specs.Spelling.Spells.{name, zero, decimal, hexadecimal, char, text, mark}
-use Rattle.pads_lex.specs.Words.{or_else, keyword_of, declaration_words, part_words, expression_words, double_marks, single_marks}
-use Rattle.pads_value.specs.Words.{is_word, find_word}
+use Rattle.pads_lex.specs.Words.{keyword_of}
 use Rattle.pads_value.specs.declared.memory.Refusal.{Refusal}
 use Rattle.pads_lex.specs.declared.fault.LexFault.{LexFault}
 use Rattle.pads_lex.specs.declared.token.Token.{Token}
+use Rattle.pads_lex.specs.declared.token.Keyword.{Keyword}
 use Rattle.pads_lex.specs.declared.token.TokenKind.{TokenKind}
 use Rattle.pads_lex.specs.declared.token.TokenKind.TheVariants as kind
 
@@ -29,31 +29,6 @@ is_other _ = true
 other-fine : (token : TokenKind) → is_other token ≡ true → IsFineKind token
 other-fine token other word is = let no : true ≡ false = sym other ∙ ap is_other is in cc
 
--- no word of a table is a name
-found-other : (table : List (List ℕ × TokenKind)) (word : List ℕ) (token : TokenKind) → list_all (λ e. is_other e.1) table ≡ true → find_word word table ≡ Some token → is_other token ≡ true
-found-other [] word token all found = cc
-found-other ((entry, kind) ∷ table) word token all found =
-    let parts = and_parts (is_other kind) (list_all (λ e. is_other e.1) table) all in
-    go (is_word word entry) parts.0 (λ h. found-other table word token parts.1 h) found
-  where
-    go : (t : Bool) → is_other kind ≡ true → (find_word word table ≡ Some token → is_other token ≡ true) → cond t (Some kind) (find_word word table) ≡ Some token → is_other token ≡ true
-    go true here more found = let same : kind ≡ token = cc in ap is_other (sym same) ∙ here
-    go false here more found = more found
-
-or_else-other : (a b : Option TokenKind) (token : TokenKind) → (a ≡ Some token → is_other token ≡ true) → (b ≡ Some token → is_other token ≡ true) → or_else a b ≡ Some token → is_other token ≡ true
-or_else-other None b token one more found = more found
-or_else-other (Some t) b token one more found = one found
-
-mark-other : (word : List ℕ) (token : TokenKind) → mark_of word ≡ Some token → is_other token ≡ true
-mark-other word token = or_else-other (find_word word double_marks) (find_word word single_marks) token (found-other double_marks word token refl) (found-other single_marks word token refl)
-
-keyword-other : (word : List ℕ) (token : TokenKind) → keyword_of word ≡ Some token → is_other token ≡ true
-unfolding keyword_of
-keyword-other word token =
-    or_else-other (find_word word declaration_words) (or_else (find_word word part_words) (find_word word expression_words)) token
-    (found-other declaration_words word token refl)
-    (or_else-other (find_word word part_words) (find_word word expression_words) token (found-other part_words word token refl) (found-other expression_words word token refl))
-
 -- what begins with a letter or `_`, goes on with letters, digits and `_`, and is no keyword
 name-spelled : (first : ℕ) (others : List ℕ) → is_letter first ≡ true → list_all is_word_byte others ≡ true → keyword_of (first ∷ others) ≡ None → is_name (first ∷ others) ≡ true
 unfolding is_name
@@ -64,9 +39,9 @@ name-spelled first others letter all none =
 word-fine : (word : List ℕ) → (keyword_of word ≡ None → is_name word ≡ true) → IsFineKind (word_kind word)
 word-fine word spelled = go (keyword_of word) refl
   where
-    go : (o : Option TokenKind) → keyword_of word ≡ o → IsFineKind (elim o [ None ↦ kind.Name word | Some keyword ↦ keyword ])
+    go : (o : Option Keyword) → keyword_of word ≡ o → IsFineKind (elim o [ None ↦ kind.Name word | Some keyword ↦ kind.Keyword keyword ])
     go None is = λ other same. let h : word ≡ other = cc in subst (λ w. is_name w ≡ true) h (spelled is)
-    go (Some keyword) is = other-fine keyword (keyword-other word keyword is)
+    go (Some keyword) is = other-fine (kind.Keyword keyword) refl
 
 spells-fine : (word : List ℕ) (token : TokenKind) → Spells word token → IsFineKind token
 spells-fine word token (name first others is letter all same) =
@@ -76,7 +51,7 @@ spells-fine word token (decimal first others is digit all same) = subst IsFineKi
 spells-fine word token (hexadecimal digits is some all same) = subst IsFineKind (sym same) (other-fine _ refl)
 spells-fine word token (char bytes point is characters same) = subst IsFineKind (sym same) (other-fine _ refl)
 spells-fine word token (text bytes points is characters same) = subst IsFineKind (sym same) (other-fine _ refl)
-spells-fine word token (mark found) = other-fine token (mark-other word token found)
+spells-fine word token (mark found is same) = subst IsFineKind (sym same) (other-fine _ refl)
 
 pub cut_names : (at : ℕ) (bytes : List ℕ) (tokens : List Token) → IsCut at bytes tokens → HasSpelledNames tokens
 cut_names at bytes tokens ends = (other-fine kind.End refl, tt)

@@ -14,6 +14,7 @@ use Rattle.pads_lex.specs.Spelling.{Spells, IsLongest, word_kind}
 use Rattle.pads_lex.specs.Steps.{word_step, by_number, number_step, by_literal, literal_step, by_mark, single_step, mark_step, token_step, or_token, step_of}
 use Rattle.pads_lex.specs.Cut.{opens_comment, IsGap, goes_on, IsGoodNumber, StandsAt}
 use Rattle.pads_lex.specs.Cut.IsGap.{blank, line, block}
+use Rattle.pads_lex.specs.declared.token.Mark.{Mark}
 use Rattle.pads_lex.specs.declared.token.TokenKind.{TokenKind}
 use Rattle.pads_lex.specs.declared.token.TokenKind.TheVariants as kind
 use Rattle.pads_lex.specs.declared.fault.LexKind.TheVariants as fault
@@ -176,13 +177,13 @@ mark_reads : (a : ℕ) (after : List ℕ) (n : ℕ) (k : TokenKind) → is_blank
 unfolding mark_step single_step
 mark_reads a after n k blank_no letter digit quote longest = by_after after refl
   where
-    by_single : NoDouble a after → (o : Option TokenKind) → single_mark a ≡ o → by_mark 1 o (Fault fault.BadByte 0) ≡ Stands n k
+    by_single : NoDouble a after → (o : Option Mark) → single_mark a ≡ o → by_mark 1 o (Fault fault.BadByte 0) ≡ Stands n k
     by_single none None e = absurd (no_mark a after letter digit quote none e n k longest.within longest.spells)
-    by_single none (Some other) e = same_stands 1 n other k (longest_same (a ∷ after) 1 n other k (single_longest a after other letter digit quote none e) longest)
+    by_single none (Some other) e = same_stands 1 n (kind.Mark other) k (longest_same (a ∷ after) 1 n (kind.Mark other) k (single_longest a after other letter digit quote none e) longest)
 
-    by_double : (c : ℕ) (z : List ℕ) → after ≡ c ∷ z → (o : Option TokenKind) → double_mark a c ≡ o → by_mark 2 o (by_mark 1 (single_mark a) (Fault fault.BadByte 0)) ≡ Stands n k
+    by_double : (c : ℕ) (z : List ℕ) → after ≡ c ∷ z → (o : Option Mark) → double_mark a c ≡ o → by_mark 2 o (by_mark 1 (single_mark a) (Fault fault.BadByte 0)) ≡ Stands n k
     by_double c z is None e = by_single (subst (NoDouble a) (sym is) e) (single_mark a) refl
-    by_double c z is (Some other) e = same_stands 2 n other k (longest_same (a ∷ c ∷ z) 2 n other k (double_longest a c z other letter digit quote e) (subst (λ l. IsLongest (a ∷ l) n k) is longest))
+    by_double c z is (Some other) e = same_stands 2 n (kind.Mark other) k (longest_same (a ∷ c ∷ z) 2 n (kind.Mark other) k (double_longest a c z other letter digit quote e) (subst (λ l. IsLongest (a ∷ l) n k) is longest))
 
     by_after : (l : List ℕ) → after ≡ l → mark_step (a ∷ l) ≡ Stands n k
     by_after [] is = by_single (subst (NoDouble a) (sym is) tt) (single_mark a) refl

@@ -1,23 +1,20 @@
 -- A word spells one token, so the longest token at a place is one.
-use Rattle.std.proofs.Common.{◌≡◌, ◌≢◌, ℕ, suc, ◌+◌, ◌≤◌, Bool, true, false, cond, List, [], ◌∷◌, ◌++◌, length, take, drop, Option, Some, None, ℤ, ◌⊎◌, inl, inr, sym, refl, ap, ◌∙◌, subst, arith}
-use Rattle.std.specs.Prelude.{not}
-use Rattle.std.specs.List.{list_all}
-use Rattle.std.proofs.lemmas.Bool.{cases_Bool, and_parts, eq-eqb, not-true}
+use Rattle.std.proofs.Common.{◌≡◌, ◌≢◌, ℕ, suc, ◌+◌, ◌≤◌, Bool, true, false, List, [], ◌∷◌, ◌++◌, length, take, drop, Option, Some, None, ℤ, ◌⊎◌, inl, inr, sym, refl, ap, ◌∙◌, subst, arith}
+use Rattle.std.proofs.lemmas.Bool.{cases_Bool, eq-eqb}
 use Rattle.std.proofs.lemmas.List.{length-take-le, length-append, append_assoc, take-append-drop, take_at}
 use Rattle.pads_lex.specs.Bytes.{is_letter, is_digit}
-use Rattle.pads_lex.specs.Words.{double_mark, or_else, keyword_of, declaration_words, part_words, expression_words, double_marks, single_marks}
-use Rattle.pads_value.specs.Words.{is_word, find_word}
+use Rattle.pads_lex.specs.Words.{keyword_of}
 use Rattle.pads_lex.specs.Literals.{character_at, literal_from}
-use Rattle.pads_lex.specs.Spelling.{AreCharacters, Spells, IsLongest, word_kind, mark_of}
+use Rattle.pads_lex.specs.Spelling.{AreCharacters, Spells, IsLongest, word_kind}
 use Rattle.pads_lex.specs.Spelling.Spells.{char, text}
 use Rattle.pads_lex.specs.Steps.{closed_step, one_point}
+use Rattle.pads_lex.specs.declared.token.Keyword.{Keyword}
 use Rattle.pads_lex.specs.declared.token.TokenKind.{TokenKind}
 use Rattle.pads_lex.specs.declared.token.TokenKind.TheVariants as kind
 use Rattle.pads_lex.specs.declared.literal.Character.TheVariants.{Close}
 use Rattle.pads_lex.specs.declared.literal.Literal.TheVariants as literal_is
 use Rattle.pads_lex.specs.declared.step.Step.TheVariants as step_is
 use Rattle.pads_lex.proofs.ByteLemmas.{is_quote, quote_cases}
-use Rattle.pads_lex.proofs.TableLemmas.{or_else_some}
 use Rattle.pads_lex.proofs.LiteralLemmas.{literal_reads}
 use Rattle.pads_lex.proofs.LiteralLaws.{characters_read}
 use Rattle.pads_lex.proofs.SpelledLemmas.{spelled, spells_some, letter_spells, digit_spells, quote_spells, mark_spells, IsLiteralKind}
@@ -63,8 +60,11 @@ spells_same (b ∷ w) k l one other = by_letter (cases_Bool (is_letter b))
         let same_points : points ≡ points' = cc in
         literal_kind_same b points' k l (subst (λ ps. IsLiteralKind b ps k) same_points is) is'
     by_quote letter digit (inr quote) =
-        let found : Some k ≡ Some l = sym (mark_spells b w k letter digit quote (spelled b w k one)) ∙ mark_spells b w l letter digit quote (spelled b w l other) in
-        cc
+        let first = mark_spells b w k letter digit quote (spelled b w k one) in
+        let second = mark_spells b w l letter digit quote (spelled b w l other) in
+        let found : Some first.0 ≡ Some second.0 = sym first.1 ∙ second.1 in
+        let same : first.0 ≡ second.0 = cc in
+        first.2 ∙ ap kind.Mark same ∙ sym second.2
 
     by_digit : is_letter b ≡ false → (is_digit b ≡ true) ⊎ (is_digit b ≡ false) → k ≡ l
     by_digit letter (inl digit) = (digit_spells b w k digit (spelled b w k one)).1 ∙ sym (digit_spells b w l digit (spelled b w l other)).1
@@ -124,47 +124,12 @@ abbrev pub is_number : TokenKind → Bool
 is_number (kind.Number n) = true
 is_number _ = false
 
-kinds_pass : (table : List (List ℕ × TokenKind)) (word : List ℕ) (k : TokenKind) → list_all (λ e. not (is_number e.1)) table ≡ true → find_word word table ≡ Some k → is_number k ≡ false
-kinds_pass [] word k all found = cc
-kinds_pass ((spelling, token) ∷ table) word k all found =
-    let parts = and_parts (not (is_number token)) (list_all (λ e. not (is_number e.1)) table) all in
-    go (is_word word spelling) parts.0 (λ h. kinds_pass table word k parts.1 h) found
-  where
-    go : (t : Bool) → not (is_number token) ≡ true → (find_word word table ≡ Some k → is_number k ≡ false) → cond t (Some token) (find_word word table) ≡ Some k → is_number k ≡ false
-    go true here more found =
-        let same : token ≡ k = cc in
-        ap is_number (sym same) ∙ not-true _ here
-    go false here more found = more found
-
-keyword_no_number : (word : List ℕ) (k : TokenKind) → keyword_of word ≡ Some k → is_number k ≡ false
-unfolding keyword_of
-keyword_no_number word k found = one (or_else_some _ _ k found)
-  where
-    two : ((find_word word part_words ≡ Some k) ⊎ ((find_word word part_words ≡ None) × (find_word word expression_words ≡ Some k))) → is_number k ≡ false
-    two (inl h) = kinds_pass part_words word k refl h
-    two (inr h) = kinds_pass expression_words word k refl h.1
-
-    one : ((find_word word declaration_words ≡ Some k) ⊎ ((find_word word declaration_words ≡ None) × (or_else (find_word word part_words) (find_word word expression_words) ≡ Some k))) → is_number k ≡ false
-    one (inl h) = kinds_pass declaration_words word k refl h
-    one (inr h) = two (or_else_some _ _ k h.1)
-
 pub word_no_number : (word : List ℕ) → is_number (word_kind word) ≡ false
-word_no_number word = go (keyword_of word) refl
+word_no_number word = go (keyword_of word)
   where
-    go : (o : Option TokenKind) → keyword_of word ≡ o → is_number (elim o [ None ↦ kind.Name word | Some keyword ↦ keyword ]) ≡ false
-    go None e = refl
-    go (Some k) e = keyword_no_number word k e
-
-pub mark_no_number : (word : List ℕ) (k : TokenKind) → mark_of word ≡ Some k → is_number k ≡ false
-mark_no_number word k found = go (or_else_some _ _ k found)
-  where
-    go : ((find_word word double_marks ≡ Some k) ⊎ ((find_word word double_marks ≡ None) × (find_word word single_marks ≡ Some k))) → is_number k ≡ false
-    go (inl h) = kinds_pass double_marks word k refl h
-    go (inr h) = kinds_pass single_marks word k refl h.1
-
-pub double_no_number : (a b : ℕ) (k : TokenKind) → double_mark a b ≡ Some k → is_number k ≡ false
-unfolding double_mark
-double_no_number a b k found = kinds_pass double_marks (a ∷ b ∷ []) k refl found
+    go : (o : Option Keyword) → is_number (elim o [ None ↦ kind.Name word | Some keyword ↦ kind.Keyword keyword ]) ≡ false
+    go None = refl
+    go (Some keyword) = refl
 
 pub literal_no_number : (b : ℕ) (points : List ℕ) (k : TokenKind) → IsLiteralKind b points k → is_number k ≡ false
 literal_no_number b points k (one_character point _ _ token) = ap is_number token

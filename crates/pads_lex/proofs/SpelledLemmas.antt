@@ -7,6 +7,7 @@ use Rattle.pads_lex.specs.Bytes.{is_between, is_blank, is_letter, is_digit, is_w
 use Rattle.pads_lex.specs.Numbers.{value, word_value}
 use Rattle.pads_lex.specs.Spelling.{AreCharacters, Spells, word_kind, mark_of}
 use Rattle.pads_lex.specs.Spelling.Spells.{name, zero as zero_word, decimal, hexadecimal, char, text, mark}
+use Rattle.pads_lex.specs.declared.token.Mark.{Mark}
 use Rattle.pads_lex.specs.declared.token.TokenKind.{TokenKind}
 use Rattle.pads_lex.specs.declared.token.TokenKind.TheVariants as kind
 use Rattle.pads_lex.proofs.ByteLemmas.{is_quote, letter_only, digit_only, decimal_first}
@@ -19,7 +20,7 @@ pub data Spelled (b : ℕ) (w : List ℕ) (k : TokenKind) : Type 0 where
   a_hex : (ds : List ℕ) → b ≡ 0x30 → w ≡ 0x78 ∷ ds → 0 < length ds → list_all is_hex ds ≡ true → k ≡ kind.Number (pos (value 16 ds)) → Spelled b w k
   a_char : (bytes : List ℕ) (point : ℕ) → b ≡ 0x27 → w ≡ bytes ++ 0x27 ∷ [] → AreCharacters 0x27 bytes (point ∷ []) → k ≡ kind.Char point → Spelled b w k
   a_text : (bytes points : List ℕ) → b ≡ 0x22 → w ≡ bytes ++ 0x22 ∷ [] → AreCharacters 0x22 bytes points → k ≡ kind.Text points → Spelled b w k
-  a_mark : begins_mark b ≡ true → mark_of (b ∷ w) ≡ Some k → Spelled b w k
+  a_mark : (found : Mark) → begins_mark b ≡ true → mark_of (b ∷ w) ≡ Some found → k ≡ kind.Mark found → Spelled b w k
 
 pub spelled : (b : ℕ) (w : List ℕ) (k : TokenKind) → Spells (b ∷ w) k → Spelled b w k
 spelled b w k (name first others is letter all token) =
@@ -34,7 +35,7 @@ spelled b w k (decimal first others is digit all token) =
 spelled b w k (hexadecimal digits is some all token) = a_hex digits (cc) (cc) some all token
 spelled b w k (char bytes point is characters token) = a_char bytes point (cc) (cc) characters token
 spelled b w k (text bytes points is characters token) = a_text bytes points (cc) (cc) characters token
-spelled b w k (mark found) = a_mark (mark_begins (b ∷ w) k found) found
+spelled b w k (mark found is token) = a_mark found (mark_begins (b ∷ w) found is) is token
 
 pub spells_some : (k : TokenKind) → Spells [] k → ⊥
 spells_some k (name first others is letter all token) = cc
@@ -43,7 +44,7 @@ spells_some k (decimal first others is digit all token) = cc
 spells_some k (hexadecimal digits is some all token) = cc
 spells_some k (char bytes point is characters token) = cc
 spells_some k (text bytes points is characters token) = cc
-spells_some k (mark found) = let no : false ≡ true = mark_begins [] k found in cc
+spells_some k (mark found is token) = let no : false ≡ true = mark_begins [] found is in cc
 
 -- what a byte that begins a mark is not
 pub mark_only : (b : ℕ) → begins_mark b ≡ true → (is_blank b ≡ false) × (is_letter b ≡ false) × (is_digit b ≡ false) × (is_quote b ≡ false)
@@ -74,7 +75,7 @@ letter_spells b w k letter (a_decimal is _ _) = both (is_digit b) (decimal_first
 letter_spells b w k letter (a_hex _ is _ _ _ _) = both (is_digit b) (zero_is_digit b is) (letter_only b letter).1
 letter_spells b w k letter (a_char _ _ is _ _ _) = both (is_quote b) (single_is_quote b is) (letter_only b letter).2
 letter_spells b w k letter (a_text _ _ is _ _ _) = both (is_quote b) (double_is_quote b is) (letter_only b letter).2
-letter_spells b w k letter (a_mark is _) = both (is_letter b) letter (mark_only b is).1
+letter_spells b w k letter (a_mark _ is _ _) = both (is_letter b) letter (mark_only b is).1
 
 -- the words of numbers
 pub data IsNumberWord (b : ℕ) (w : List ℕ) : Type 0 where
@@ -105,7 +106,7 @@ digit_spells b w k digit (a_hex ds is tail some all token) =
     (base_sixteen ds is tail some all, token ∙ ap (λ n. kind.Number (pos n)) (sym (hex_value_is ds)) ∙ ap (λ v. kind.Number (pos (word_value v))) (ap (λ x. x ∷ 0x78 ∷ ds) (sym is) ∙ ap (λ t. b ∷ t) (sym tail)))
 digit_spells b w k digit (a_char _ _ is _ _ _) = both (is_quote b) (single_is_quote b is) (digit_only b digit).2
 digit_spells b w k digit (a_text _ _ is _ _ _) = both (is_quote b) (double_is_quote b is) (digit_only b digit).2
-digit_spells b w k digit (a_mark is _) = both (is_digit b) digit (mark_only b is).2
+digit_spells b w k digit (a_mark _ is _ _) = both (is_digit b) digit (mark_only b is).2
 
 -- and back: each such word spells its number
 pub number_word_spells : (b : ℕ) (w : List ℕ) → IsNumberWord b w → Spells (b ∷ w) (kind.Number (pos (word_value (b ∷ w))))
@@ -131,16 +132,16 @@ quote_spells b w k quote (a_char bytes point is tail are token) =
     (bytes, point ∷ [], tail ∙ ap (λ q. bytes ++ q ∷ []) (sym is), subst (λ q. AreCharacters q bytes (point ∷ [])) (sym is) are, one_character point is refl token)
 quote_spells b w k quote (a_text bytes points is tail are token) =
     (bytes, points, tail ∙ ap (λ q. bytes ++ q ∷ []) (sym is), subst (λ q. AreCharacters q bytes points) (sym is) are, characters is token)
-quote_spells b w k quote (a_mark is _) = both (is_quote b) quote (mark_only b is).3
+quote_spells b w k quote (a_mark _ is _ _) = both (is_quote b) quote (mark_only b is).3
 
-pub mark_spells : (b : ℕ) (w : List ℕ) (k : TokenKind) → is_letter b ≡ false → is_digit b ≡ false → is_quote b ≡ false → Spelled b w k → mark_of (b ∷ w) ≡ Some k
+pub mark_spells : (b : ℕ) (w : List ℕ) (k : TokenKind) → is_letter b ≡ false → is_digit b ≡ false → is_quote b ≡ false → Spelled b w k → (found : Mark) × (mark_of (b ∷ w) ≡ Some found) × (k ≡ kind.Mark found)
 mark_spells b w k letter digit quote (a_word is _ _) = both (is_letter b) is letter
 mark_spells b w k letter digit quote (a_zero is _ _) = both (is_digit b) (zero_is_digit b is) digit
 mark_spells b w k letter digit quote (a_decimal is _ _) = both (is_digit b) (decimal_first b is).0 digit
 mark_spells b w k letter digit quote (a_hex _ is _ _ _ _) = both (is_digit b) (zero_is_digit b is) digit
 mark_spells b w k letter digit quote (a_char _ _ is _ _ _) = both (is_quote b) (single_is_quote b is) quote
 mark_spells b w k letter digit quote (a_text _ _ is _ _ _) = both (is_quote b) (double_is_quote b is) quote
-mark_spells b w k letter digit quote (a_mark is found) = found
+mark_spells b w k letter digit quote (a_mark found _ is token) = (found, is, token)
 
 pub quote_no_blank : (b : ℕ) → (b ≡ 0x27) ⊎ (b ≡ 0x22) → is_blank b ≡ false
 unfolding is_blank
@@ -154,4 +155,4 @@ spelled_no_blank b w k (a_decimal is _ _) = (digit_only b (decimal_first b is).0
 spelled_no_blank b w k (a_hex _ is _ _ _ _) = (digit_only b (zero_is_digit b is)).0
 spelled_no_blank b w k (a_char _ _ is _ _ _) = quote_no_blank b (inl is)
 spelled_no_blank b w k (a_text _ _ is _ _ _) = quote_no_blank b (inr is)
-spelled_no_blank b w k (a_mark is _) = (mark_only b is).0
+spelled_no_blank b w k (a_mark _ is _ _) = (mark_only b is).0

@@ -15,6 +15,7 @@ use Rattle.pads_lex.specs.Steps.{word_step, by_number, number_step, closed_step,
 use Rattle.pads_lex.specs.Cut.{opens_comment, IsGap, goes_on, IsGoodNumber, StandsAt, IsLiteral, IsFault}
 use Rattle.pads_lex.specs.Cut.IsGap.{blank, line, block}
 use Rattle.pads_lex.specs.Cut.IsFault.{no_token, no_character, bad_number, wide_number, open_text, bad_char, bad_escape, open_comment}
+use Rattle.pads_lex.specs.declared.token.Mark.{Mark}
 use Rattle.pads_lex.specs.declared.token.TokenKind.{TokenKind}
 use Rattle.pads_lex.specs.declared.token.TokenKind.TheVariants as kind
 use Rattle.pads_lex.specs.declared.fault.LexKind.{LexKind}
@@ -30,8 +31,8 @@ use Rattle.pads_lex.proofs.SpelledLemmas.{IsLiteralKind}
 use Rattle.pads_lex.proofs.SpelledLemmas.IsLiteralKind.{one_character, characters}
 use Rattle.pads_lex.proofs.LiteralLaws.{Parses, literal_parses, IsFaulty, fault_at_front}
 use Rattle.pads_lex.proofs.LiteralLaws.IsFaulty.{no_byte, no_escape}
-use Rattle.pads_lex.proofs.SameLaws.{is_number, quote_no_escape, mark_no_number, double_no_number, word_no_number, no_number, literal_longest, literal_no_number}
-use Rattle.pads_lex.proofs.LongestLaws.{word_longest, word_run, number_longest, number_more, number_size_is, NoDouble, no_mark, one_mark, single_longest, double_longest}
+use Rattle.pads_lex.proofs.SameLaws.{quote_no_escape, word_no_number, no_number, literal_longest, literal_no_number}
+use Rattle.pads_lex.proofs.LongestLaws.{word_longest, word_run, number_longest, number_more, number_size_is, NoDouble, no_mark, single_longest, double_longest}
 
 -- what a step says, by the rules
 abbrev pub Holds : List ℕ → Step → Type 0
@@ -187,25 +188,25 @@ literal_holds b after none quote =
         faulty_holds b parsed.body parsed.points parsed.rest (b ∷ after) kind (at + 1) (literal_of parsed.body parsed.points parsed.rest parsed.split parsed.characters) (omega (arith, parsed.behind.0)) (fault_at_front b parsed.rest kind (quote_no_escape b quote) parsed.behind.1)
 
 -- marks
-marks_stand : (z : List ℕ) (n : ℕ) (k : TokenKind) → opens_comment z ≡ false → IsLongest z n k → is_number k ≡ false → StandsAt z n k
-marks_stand z n k none longest no_num = record { no_comment = none; longest = longest; numbers = λ number token. no_number k number no_num token }
+marks_stand : (z : List ℕ) (n : ℕ) (k : Mark) → opens_comment z ≡ false → IsLongest z n (kind.Mark k) → StandsAt z n (kind.Mark k)
+marks_stand z n k none longest = record { no_comment = none; longest = longest; numbers = λ number token. no_number (kind.Mark k) number refl token }
 
 single_holds : (a : ℕ) (after : List ℕ) → opens_comment (a ∷ after) ≡ false → is_blank a ≡ false → is_letter a ≡ false → is_digit a ≡ false → is_quote a ≡ false → NoDouble a after → Holds (a ∷ after) (single_step a)
 unfolding single_step
 single_holds a after none blank_no letter digit quote double = go (single_mark a) refl
   where
-    go : (o : Option TokenKind) → single_mark a ≡ o → Holds (a ∷ after) (by_mark 1 o (Fault fault.BadByte 0))
+    go : (o : Option Mark) → single_mark a ≡ o → Holds (a ∷ after) (by_mark 1 o (Fault fault.BadByte 0))
     go None e = no_token a after refl blank_no quote (no_mark a after letter digit quote double e)
-    go (Some k) e = marks_stand (a ∷ after) 1 k none (single_longest a after k letter digit quote double e) (mark_no_number (a ∷ []) k (one_mark a ∙ e))
+    go (Some k) e = marks_stand (a ∷ after) 1 k none (single_longest a after k letter digit quote double e)
 
 mark_holds : (a : ℕ) (after : List ℕ) → opens_comment (a ∷ after) ≡ false → is_blank a ≡ false → is_letter a ≡ false → is_digit a ≡ false → is_quote a ≡ false → Holds (a ∷ after) (mark_step (a ∷ after))
 unfolding mark_step
 mark_holds a [] none blank_no letter digit quote = single_holds a [] none blank_no letter digit quote tt
 mark_holds a (b ∷ z) none blank_no letter digit quote = go (double_mark a b) refl
   where
-    go : (o : Option TokenKind) → double_mark a b ≡ o → Holds (a ∷ b ∷ z) (by_mark 2 o (single_step a))
+    go : (o : Option Mark) → double_mark a b ≡ o → Holds (a ∷ b ∷ z) (by_mark 2 o (single_step a))
     go None e = single_holds a (b ∷ z) none blank_no letter digit quote e
-    go (Some k) e = marks_stand (a ∷ b ∷ z) 2 k none (double_longest a b z k letter digit quote e) (double_no_number a b k e)
+    go (Some k) e = marks_stand (a ∷ b ∷ z) 2 k none (double_longest a b z k letter digit quote e)
 
 token_holds : (b : ℕ) (after : List ℕ) → opens_comment (b ∷ after) ≡ false → Holds (b ∷ after) (token_step (b ∷ after))
 unfolding token_step

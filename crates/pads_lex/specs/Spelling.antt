@@ -6,11 +6,13 @@
 -- are those of their table.
 use Rattle.std.specs.Prelude.{◌≡◌, ◌≢◌, ℕ, ◌<◌, ◌≤◌, pos, IsTrue, Bool, false, not, ◌&&◌, List, [], ◌∷◌, ◌++◌, length, take, Option, Some, None, is_some}
 use Rattle.std.specs.List.{list_all}
+use Rattle.std.specs.Option.{option_or}
 use Rattle.pads_lex.specs.Bytes.{is_between, is_letter, is_digit, is_word_byte, is_hex}
-use Rattle.pads_lex.specs.Words.{keyword_of, double_marks, single_marks, or_else}
+use Rattle.pads_lex.specs.Words.{keyword_of, double_marks, single_marks}
 use Rattle.pads_value.specs.Words.{find_word}
 use Rattle.pads_lex.specs.Numbers.{value}
 use Rattle.pads_lex.specs.Literals.{is_printed, escape, hex_point}
+use Rattle.pads_lex.specs.declared.token.Mark.{Mark}
 use Rattle.pads_lex.specs.declared.token.TokenKind.{TokenKind}
 use Rattle.pads_lex.specs.declared.token.TokenKind.TheVariants as kind
 
@@ -28,7 +30,7 @@ AreCharacters quote bytes (point ∷ points) = (word : List ℕ) × (rest : List
 
 -- What a word of letters, digits and `_` is.
 abbrev pub word_kind : List ℕ → TokenKind
-word_kind word = elim (keyword_of word) [ None ↦ kind.Name word | Some keyword ↦ keyword ]
+word_kind word = elim (keyword_of word) [ None ↦ kind.Name word | Some keyword ↦ kind.Keyword keyword ]
 
 -- A word is spelled as a name: it begins with a letter or `_`, goes on with letters, digits and `_`, and is no keyword.
 unfoldable pub is_name : List ℕ → Bool
@@ -36,8 +38,8 @@ is_name [] = false
 is_name (first ∷ others) = is_letter first && list_all is_word_byte others && not (is_some (keyword_of (first ∷ others)))
 
 -- A mark's word, by its table.
-abbrev pub mark_of : List ℕ → Option TokenKind
-mark_of word = or_else (find_word word double_marks) (find_word word single_marks)
+abbrev pub mark_of : List ℕ → Option Mark
+mark_of word = option_or (find_word word double_marks) (find_word word single_marks)
 
 -- A word spells a token.
 pub data Spells (word : List ℕ) (token : TokenKind) : Type 0 where
@@ -47,7 +49,7 @@ pub data Spells (word : List ℕ) (token : TokenKind) : Type 0 where
   hexadecimal : (digits : List ℕ) → word ≡ 0x30 ∷ 0x78 ∷ digits → 0 < length digits → IsTrue (list_all is_hex digits) → token ≡ kind.Number (pos (value 16 digits)) → Spells word token
   char : (bytes : List ℕ) (point : ℕ) → word ≡ 0x27 ∷ (bytes ++ 0x27 ∷ []) → AreCharacters 0x27 bytes (point ∷ []) → token ≡ kind.Char point → Spells word token
   text : (bytes points : List ℕ) → word ≡ 0x22 ∷ (bytes ++ 0x22 ∷ []) → AreCharacters 0x22 bytes points → token ≡ kind.Text points → Spells word token
-  mark : mark_of word ≡ Some token → Spells word token
+  mark : (found : Mark) → mark_of word ≡ Some found → token ≡ kind.Mark found → Spells word token
 
 -- The first `size` bytes spell the token, and no longer front of the bytes spells one.
 pub record IsLongest (bytes : List ℕ) (size : ℕ) (token : TokenKind) : Type 0 where

@@ -8,7 +8,7 @@ use Rattle.pads_lex.specs.Literals.{literal_from}
 use Rattle.pads_lex.specs.Gaps.{comment}
 use Rattle.pads_lex.specs.Spelling.{word_kind}
 use Rattle.pads_lex.specs.Cut.{goes_on}
-use Rattle.pads_lex.specs.declared.token.TokenKind.{TokenKind}
+use Rattle.pads_lex.specs.declared.token.Mark.{Mark}
 use Rattle.pads_lex.specs.declared.token.TokenKind.TheVariants as kind
 use Rattle.pads_lex.specs.declared.fault.LexKind.TheVariants as fault
 use Rattle.pads_lex.specs.declared.literal.Literal.{Literal}
@@ -48,9 +48,9 @@ by_literal quote (literal_is.Fault kind at) = step_is.Fault kind (at + 1)
 unfoldable pub literal_step : ℕ → List ℕ → Step
 literal_step quote after = by_literal quote (literal_from quote 0 0 [] after)
 
-abbrev pub by_mark : ℕ → Option TokenKind → Step → Step
+abbrev pub by_mark : ℕ → Option Mark → Step → Step
 by_mark size None other = other
-by_mark size (Some token) other = step_is.Stands size token
+by_mark size (Some mark) other = step_is.Stands size (kind.Mark mark)
 
 -- a mark of one byte
 unfoldable pub single_step : ℕ → Step

@@ -1,48 +1,54 @@
--- The keywords and the marks of the language, each with its token.
-use Rattle.std.specs.Prelude.{ℕ, List, [], ◌∷◌, Option, Some, None, codes}
+-- How the keywords and the marks of the language are spelled.
+use Rattle.std.specs.Prelude.{ℕ, List, [], ◌∷◌, ◌++◌, map, Option, codes}
+use Rattle.std.specs.Option.{option_or}
 use Rattle.pads_value.specs.Words.{find_word}
-use Rattle.pads_lex.specs.declared.token.TokenKind.{TokenKind}
-use Rattle.pads_lex.specs.declared.token.TokenKind.TheVariants as kind
+use Rattle.pads_lex.specs.declared.token.Keyword.{Keyword}
+use Rattle.pads_lex.specs.declared.token.Keyword.TheVariants as keyword
+use Rattle.pads_lex.specs.declared.token.Mark.{Mark}
+use Rattle.pads_lex.specs.declared.token.Mark.TheVariants as mark
 
-abbrev pub declaration_words : List (List ℕ × TokenKind)
+abbrev pub declaration_words : List (List ℕ × Keyword)
 declaration_words =
-    (codes "Pstruct", kind.Pstruct) ∷ (codes "Punion", kind.Punion) ∷ (codes "Parray", kind.Parray) ∷ (codes "Penum", kind.Penum)
-    ∷ (codes "Popt", kind.Popt) ∷ (codes "Ptypedef", kind.Ptypedef) ∷ (codes "Precord", kind.Precord) ∷ (codes "Psource", kind.Psource) ∷ []
+    (codes "Pstruct", keyword.Pstruct) ∷ (codes "Punion", keyword.Punion) ∷ (codes "Parray", keyword.Parray) ∷ (codes "Penum", keyword.Penum)
+    ∷ (codes "Popt", keyword.Popt) ∷ (codes "Ptypedef", keyword.Ptypedef) ∷ (codes "Precord", keyword.Precord) ∷ (codes "Psource", keyword.Psource) ∷ []
 
-abbrev pub part_words : List (List ℕ × TokenKind)
+abbrev pub part_words : List (List ℕ × Keyword)
 part_words =
-    (codes "Pswitch", kind.Pswitch) ∷ (codes "Pcase", kind.Pcase) ∷ (codes "Pdefault", kind.Pdefault) ∷ (codes "Pwhere", kind.Pwhere)
-    ∷ (codes "Psep", kind.Psep) ∷ (codes "Pterm", kind.Pterm) ∷ (codes "Plast", kind.Plast) ∷ (codes "Peor", kind.Peor) ∷ []
+    (codes "Pswitch", keyword.Pswitch) ∷ (codes "Pcase", keyword.Pcase) ∷ (codes "Pdefault", keyword.Pdefault) ∷ (codes "Pwhere", keyword.Pwhere)
+    ∷ (codes "Psep", keyword.Psep) ∷ (codes "Pterm", keyword.Pterm) ∷ (codes "Plast", keyword.Plast) ∷ (codes "Peor", keyword.Peor) ∷ []
 
-abbrev pub expression_words : List (List ℕ × TokenKind)
+abbrev pub expression_words : List (List ℕ × Keyword)
 expression_words =
-    (codes "Pforall", kind.Pforall) ∷ (codes "Pin", kind.Pin) ∷ (codes "Pcompute", kind.Pcompute) ∷ (codes "Pfrom", kind.Pfrom)
-    ∷ (codes "Pis", kind.Pis) ∷ (codes "Plen", kind.Plen) ∷ (codes "true", kind.True) ∷ (codes "false", kind.False) ∷ []
-
-abbrev pub or_else : Option TokenKind → Option TokenKind → Option TokenKind
-or_else (Some token) other = Some token
-or_else None other = other
+    (codes "Pforall", keyword.Pforall) ∷ (codes "Pin", keyword.Pin) ∷ (codes "Pcompute", keyword.Pcompute) ∷ (codes "Pfrom", keyword.Pfrom)
+    ∷ (codes "Pis", keyword.Pis) ∷ (codes "Plen", keyword.Plen) ∷ (codes "true", keyword.True) ∷ (codes "false", keyword.False) ∷ []
 
 -- the keyword that a word is
-unfoldable pub keyword_of : List ℕ → Option TokenKind
-keyword_of word = or_else (find_word word declaration_words) (or_else (find_word word part_words) (find_word word expression_words))
+unfoldable pub keyword_of : List ℕ → Option Keyword
+keyword_of word = option_or (find_word word declaration_words) (option_or (find_word word part_words) (find_word word expression_words))
 
-abbrev pub double_marks : List (List ℕ × TokenKind)
+abbrev pub double_marks : List (List ℕ × Mark)
 double_marks =
-    (codes "(:", kind.OpenParams) ∷ (codes ":)", kind.CloseParams) ∷ (codes "..", kind.DotDot) ∷ (codes "==", kind.EqualTo)
-    ∷ (codes "=>", kind.Arrow) ∷ (codes "!=", kind.NotEqualTo) ∷ (codes "<=", kind.AtMost) ∷ (codes ">=", kind.AtLeast)
-    ∷ (codes "&&", kind.And) ∷ (codes "||", kind.Or) ∷ []
+    (codes "(:", mark.OpenParams) ∷ (codes ":)", mark.CloseParams) ∷ (codes "..", mark.DotDot) ∷ (codes "==", mark.EqualTo)
+    ∷ (codes "=>", mark.Arrow) ∷ (codes "!=", mark.NotEqualTo) ∷ (codes "<=", mark.AtMost) ∷ (codes ">=", mark.AtLeast)
+    ∷ (codes "&&", mark.And) ∷ (codes "||", mark.Or) ∷ []
 
-abbrev pub single_marks : List (List ℕ × TokenKind)
+abbrev pub single_marks : List (List ℕ × Mark)
 single_marks =
-    (codes "{", kind.OpenBrace) ∷ (codes "}", kind.CloseBrace) ∷ (codes "[", kind.OpenBracket) ∷ (codes "]", kind.CloseBracket)
-    ∷ (codes "(", kind.OpenParen) ∷ (codes ")", kind.CloseParen) ∷ (codes ";", kind.Semicolon) ∷ (codes ",", kind.Comma)
-    ∷ (codes ":", kind.Colon) ∷ (codes ".", kind.Dot) ∷ (codes "=", kind.Equals) ∷ (codes "!", kind.Not)
-    ∷ (codes "<", kind.LessThan) ∷ (codes ">", kind.GreaterThan) ∷ (codes "+", kind.Plus) ∷ (codes "-", kind.Minus)
-    ∷ (codes "*", kind.Star) ∷ (codes "/", kind.Slash) ∷ (codes "%", kind.Percent) ∷ (codes "$", kind.Dollar) ∷ []
+    (codes "{", mark.OpenBrace) ∷ (codes "}", mark.CloseBrace) ∷ (codes "[", mark.OpenBracket) ∷ (codes "]", mark.CloseBracket)
+    ∷ (codes "(", mark.OpenParen) ∷ (codes ")", mark.CloseParen) ∷ (codes ";", mark.Semicolon) ∷ (codes ",", mark.Comma)
+    ∷ (codes ":", mark.Colon) ∷ (codes ".", mark.Dot) ∷ (codes "=", mark.Equals) ∷ (codes "!", mark.Not)
+    ∷ (codes "<", mark.LessThan) ∷ (codes ">", mark.GreaterThan) ∷ (codes "+", mark.Plus) ∷ (codes "-", mark.Minus)
+    ∷ (codes "*", mark.Star) ∷ (codes "/", mark.Slash) ∷ (codes "%", mark.Percent) ∷ (codes "$", mark.Dollar) ∷ []
 
-unfoldable pub double_mark : ℕ → ℕ → Option TokenKind
+unfoldable pub double_mark : ℕ → ℕ → Option Mark
 double_mark first second = find_word (first ∷ second ∷ []) double_marks
 
-unfoldable pub single_mark : ℕ → Option TokenKind
+unfoldable pub single_mark : ℕ → Option Mark
 single_mark byte = find_word (byte ∷ []) single_marks
+
+-- All keywords and all marks, each once.
+abbrev pub keywords : List Keyword
+keywords = map (λ row. row.1) (declaration_words ++ (part_words ++ expression_words))
+
+abbrev pub marks : List Mark
+marks = map (λ row. row.1) (double_marks ++ single_marks)

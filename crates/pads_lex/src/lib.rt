@@ -21,5 +21,5 @@ mod words;
 
 pub use fault::{LexFault, LexKind};
 pub use laws::each_text_has_one_reading;
-pub use token::{Token, TokenKind, Tokens};
+pub use token::{Keyword, Mark, Token, TokenKind, Tokens};
 pub use tokens::lex;

@@ -21,8 +21,8 @@ fn word_step(alloc: Global, text: &[u8]) -> Result<Step, Memory>
 {
     let size = Class::Word.run(text);
     let word = &text[..size];
-    if let Some(kind) = keyword(word) {
-        return Ok(Step::Stands(size, kind));
+    if let Some(keyword) = keyword(word) {
+        return Ok(Step::Stands(size, TokenKind::Keyword(keyword)));
     }
     let name = Bytes::from_slice(alloc, word)?;
     Ok(Step::Stands(size, TokenKind::Name(name)))
@@ -34,7 +34,7 @@ fn single_step(byte: u8) -> Step
     ensures found { result ≡ single_step byte }
 {
     match single_mark(byte) {
-        Some(kind) => Step::Stands(1, kind),
+        Some(mark) => Step::Stands(1, TokenKind::Mark(mark)),
         None => Step::Fault(LexKind::BadByte, 0),
     }
 }
@@ -48,7 +48,7 @@ fn mark_step(text: &[u8]) -> Step
         [] => Step::Fault(LexKind::BadByte, 0),
         [first] => single_step(*first),
         [first, second, ..] => match double_mark(*first, *second) {
-            Some(kind) => Step::Stands(2, kind),
+            Some(mark) => Step::Stands(2, TokenKind::Mark(mark)),
             None => single_step(*first),
         },
     }

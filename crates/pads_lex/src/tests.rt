@@ -9,6 +9,8 @@ use std::test::Fail;
 /// What a token carries, in words.
 fn write_kind(alloc: Global, out: &mut String, kind: &TokenKind) -> Result<(), AllocError> {
     match kind {
+        TokenKind::Keyword(keyword) => write!(out, "{keyword:?}"),
+        TokenKind::Mark(mark) => write!(out, "{mark:?}"),
         TokenKind::Name(name) => {
             let name = String::from_utf8_lossy(alloc, name.as_slice())?;
             write!(out, "Name {name}")
@@ -19,7 +21,7 @@ fn write_kind(alloc: Global, out: &mut String, kind: &TokenKind) -> Result<(), A
             let points = points.as_slice();
             write!(out, "Text {points:?}")
         }
-        other => write!(out, "{other:?}"),
+        TokenKind::End => write!(out, "End"),
     }
 }
 

@@ -1,8 +1,8 @@
 use pads_value::{Bytes, Items};
 
-/// What a token is: one variant for each keyword and mark, and those that carry what was written.
-#[derive(Debug, Drop)]
-pub enum TokenKind {
+/// The keywords of the language.
+#[derive(Clone, Copy, Debug, PartialEq, Eq)]
+pub enum Keyword {
     // Keywords that begin or mark a declaration.
     Pstruct,
     Punion,
@@ -32,6 +32,11 @@ pub enum TokenKind {
     True,
     /// `false`
     False,
+}
+
+/// The marks of the language.
+#[derive(Clone, Copy, Debug, PartialEq, Eq)]
+pub enum Mark {
     /// `(:`
     OpenParams,
     /// `:)`
@@ -92,6 +97,13 @@ pub enum TokenKind {
     Or,
     /// `$`
     Dollar,
+}
+
+/// What a token is. A name, a number and a literal carry what was written.
+#[derive(Debug, Drop)]
+pub enum TokenKind {
+    Keyword(Keyword),
+    Mark(Mark),
     /// A name, as it is written.
     Name(Bytes),
     /// A number, from 0 to 2^127 - 1.

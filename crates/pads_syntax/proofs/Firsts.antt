@@ -1,6 +1,7 @@
 -- What begins each form of declaration, a switch and a declaration.
 use Rattle.std.proofs.Common.{◌≡◌, Bool, ◌||◌, refl}
 use Rattle.pads_grammar.specs.declared.kind.Kind.{Kind}
+use Rattle.pads_lex.specs.declared.token.Keyword.TheVariants.{Parray, Penum, Popt, Precord, Psource, Pstruct, Pswitch, Ptypedef, Punion}
 use Rattle.pads_grammar.specs.declared.kind.Kind.TheVariants as kind
 use Rattle.pads_grammar.specs.Kinds.{is}
 use Rattle.pads_grammar.specs.Grammar.{begins}
@@ -9,34 +10,34 @@ use Rattle.pads_syntax_parts.proofs.Outermost.{alike, agree}
 use Rattle.pads_syntax.specs.Switches.{switch}
 use Rattle.pads_syntax.specs.Declarations.{struct_decl, union_decl, array_decl, enum_decl, typedef_decl, opt_decl, other_body, decl_body, marked, decl}
 
-pub begins-struct_decl : (j : Kind) → begins struct_decl j ≡ is kind.Pstruct j
+pub begins-struct_decl : (j : Kind) → begins struct_decl j ≡ is (kind.Keyword Pstruct) j
 unfolding struct_decl
-begins-struct_decl j = agree (begins struct_decl j) (is kind.Pstruct j) (every_kind (λ i. alike (begins struct_decl i) (is kind.Pstruct i)) refl j)
+begins-struct_decl j = agree (begins struct_decl j) (is (kind.Keyword Pstruct) j) (every_kind (λ i. alike (begins struct_decl i) (is (kind.Keyword Pstruct) i)) refl j)
 
-pub begins-union_decl : (j : Kind) → begins union_decl j ≡ is kind.Punion j
+pub begins-union_decl : (j : Kind) → begins union_decl j ≡ is (kind.Keyword Punion) j
 unfolding union_decl
-begins-union_decl j = agree (begins union_decl j) (is kind.Punion j) (every_kind (λ i. alike (begins union_decl i) (is kind.Punion i)) refl j)
+begins-union_decl j = agree (begins union_decl j) (is (kind.Keyword Punion) j) (every_kind (λ i. alike (begins union_decl i) (is (kind.Keyword Punion) i)) refl j)
 
-pub begins-array_decl : (j : Kind) → begins array_decl j ≡ is kind.Parray j
+pub begins-array_decl : (j : Kind) → begins array_decl j ≡ is (kind.Keyword Parray) j
 unfolding array_decl
-begins-array_decl j = agree (begins array_decl j) (is kind.Parray j) (every_kind (λ i. alike (begins array_decl i) (is kind.Parray i)) refl j)
+begins-array_decl j = agree (begins array_decl j) (is (kind.Keyword Parray) j) (every_kind (λ i. alike (begins array_decl i) (is (kind.Keyword Parray) i)) refl j)
 
-pub begins-enum_decl : (j : Kind) → begins enum_decl j ≡ is kind.Penum j
+pub begins-enum_decl : (j : Kind) → begins enum_decl j ≡ is (kind.Keyword Penum) j
 unfolding enum_decl
-begins-enum_decl j = agree (begins enum_decl j) (is kind.Penum j) (every_kind (λ i. alike (begins enum_decl i) (is kind.Penum i)) refl j)
+begins-enum_decl j = agree (begins enum_decl j) (is (kind.Keyword Penum) j) (every_kind (λ i. alike (begins enum_decl i) (is (kind.Keyword Penum) i)) refl j)
 
-pub begins-typedef_decl : (j : Kind) → begins typedef_decl j ≡ is kind.Ptypedef j
+pub begins-typedef_decl : (j : Kind) → begins typedef_decl j ≡ is (kind.Keyword Ptypedef) j
 unfolding typedef_decl
-begins-typedef_decl j = agree (begins typedef_decl j) (is kind.Ptypedef j) (every_kind (λ i. alike (begins typedef_decl i) (is kind.Ptypedef i)) refl j)
+begins-typedef_decl j = agree (begins typedef_decl j) (is (kind.Keyword Ptypedef) j) (every_kind (λ i. alike (begins typedef_decl i) (is (kind.Keyword Ptypedef) i)) refl j)
 
-pub begins-switch : (j : Kind) → begins switch j ≡ is kind.Pswitch j
+pub begins-switch : (j : Kind) → begins switch j ≡ is (kind.Keyword Pswitch) j
 unfolding switch
-begins-switch j = agree (begins switch j) (is kind.Pswitch j) (every_kind (λ i. alike (begins switch i) (is kind.Pswitch i)) refl j)
+begins-switch j = agree (begins switch j) (is (kind.Keyword Pswitch) j) (every_kind (λ i. alike (begins switch i) (is (kind.Keyword Pswitch) i)) refl j)
 
 abbrev first-decl : Kind → Bool
-first-decl j = is kind.Precord j || (is kind.Psource j || (is kind.Pstruct j || (is kind.Punion j || (is kind.Parray j || (is kind.Penum j || (is kind.Ptypedef j || is kind.Popt j))))))
+first-decl j = is (kind.Keyword Precord) j || (is (kind.Keyword Psource) j || (is (kind.Keyword Pstruct) j || (is (kind.Keyword Punion) j || (is (kind.Keyword Parray) j || (is (kind.Keyword Penum) j || (is (kind.Keyword Ptypedef) j || is (kind.Keyword Popt) j))))))
 
-pub begins_decl : (j : Kind) → begins decl j ≡ (is kind.Precord j || (is kind.Psource j || (is kind.Pstruct j || (is kind.Punion j || (is kind.Parray j || (is kind.Penum j || (is kind.Ptypedef j || is kind.Popt j)))))))
+pub begins_decl : (j : Kind) → begins decl j ≡ (is (kind.Keyword Precord) j || (is (kind.Keyword Psource) j || (is (kind.Keyword Pstruct) j || (is (kind.Keyword Punion) j || (is (kind.Keyword Parray) j || (is (kind.Keyword Penum) j || (is (kind.Keyword Ptypedef) j || is (kind.Keyword Popt) j)))))))
 unfolding decl marked decl_body other_body struct_decl union_decl array_decl enum_decl typedef_decl opt_decl
 begins_decl j = agree (begins decl j) (first-decl j) (every_kind (λ i. alike (begins decl i) (first-decl i)) refl j)
 

@@ -5,10 +5,11 @@ use Rattle.std.specs.Prelude.{⊤, IfSome}
 use Rattle.pads_lex.specs.Answers.{HasSpelledNames}
 use Rattle.pads_lex.specs.Spelling.{is_name}
 use Rattle.pads_lex.specs.declared.token.TokenKind.TheVariants as token_kind
+use Rattle.pads_lex.specs.declared.token.Mark.{Mark}
 use Rattle.pads_lex.specs.declared.token.Token.{Token}
 use Rattle.pads_grammar.specs.declared.kind.Kind.{Kind}
 use Rattle.pads_grammar.specs.Kinds.{Tokens, kind_of}
-use Rattle.pads_grammar.specs.Grammar.{Grammar, Derives, Split, Maybe, Many, Rest, token, pair, apply, either, optional, many, rest_of, ◌<*◌, ◌*>◌}
+use Rattle.pads_grammar.specs.Grammar.{Grammar, Derives, Split, Maybe, Many, Rest, token, mark, pair, apply, either, optional, many, rest_of, ◌<*◌, ◌*>◌}
 use Rattle.pads_grammar.specs.Lists.{listed}
 
 -- A token that is a name is spelled as one.
@@ -89,5 +90,5 @@ keeps-rest_of {g} {P} k part = record { kept = go }
         let behind = subst HasSpelledNames is.whole fine in
         split-kept (P x) (Each P xs) is.back is.second (names-right is.front is.back behind) (λ front. part.kept x front) (λ back. go xs back)
 
-pub keeps-listed : {A : Type 0} {g : Grammar A} {P : A → Type 0} (k : Kind) → Keeps g P → Keeps (listed k g) (Each P)
-keeps-listed {P} k part = keeps-apply (Each P) (λ both. both.0 ∷ both.1) (keeps-pair part (keeps-many (keeps-second (token k (λ t. t.begin)) part))) (λ both fine. fine)
+pub keeps-listed : {A : Type 0} {g : Grammar A} {P : A → Type 0} (separator : Mark) → Keeps g P → Keeps (listed separator g) (Each P)
+keeps-listed {P} separator part = keeps-apply (Each P) (λ both. both.0 ∷ both.1) (keeps-pair part (keeps-many (keeps-second (mark separator) part))) (λ both fine. fine)

@@ -4,9 +4,11 @@ use Rattle.std.specs.List.{flat_map}
 use Rattle.std.specs.Prelude.{⊤}
 use Rattle.pads_lex.specs.declared.token.TokenKind.{TokenKind}
 use Rattle.pads_lex.specs.declared.token.TokenKind.TheVariants as token_kind
+use Rattle.pads_lex.specs.declared.token.Keyword.TheVariants.{False, Pforall, Pin, Pis, Plen, True}
+use Rattle.pads_lex.specs.declared.token.Mark.TheVariants.{CloseBracket, CloseParen, Colon, Comma, Dot, DotDot, OpenBracket, OpenParen}
 use Rattle.pads_grammar.specs.declared.kind.Kind.TheVariants as kind
 use Rattle.pads_grammar.specs.Kinds.{kind_of}
-use Rattle.pads_grammar.specs.Grammar.{Grammar, ◌*>◌}
+use Rattle.pads_grammar.specs.Grammar.{Grammar, ◌*>◌, mark, keyword}
 use Rattle.pads_ast.specs.Chains.{chain, post}
 use Rattle.pads_expr.specs.declared.expr.BinOp.{BinOp}
 use Rattle.pads_ast.specs.declared.expr.Expr.{Expr, Expr-F, roll-Expr, map-Expr}
@@ -20,7 +22,7 @@ use Rattle.pads_ast.specs.declared.name.Name.{Name}
 use Rattle.pads_ast.specs.declared.name.Word.{Word}
 use Rattle.pads_ast.specs.NameTokens.{Names, names_in_expr, names_in_form, names_in_step}
 use Rattle.pads_ast.proofs.ExprNames.{names_in_expr-roll}
-use Rattle.pads_syntax_expr.specs.Leaves.{text_of, mark, name, word, number}
+use Rattle.pads_syntax_expr.specs.Leaves.{text_of, name, word, number}
 use Rattle.pads_syntax_expr.specs.Expressions.{operators, link, chained, prod, sum, rel, eq, both, any, sign, signed, field, index, plain, paren, opened, branch_name, pis, plen, quantifier, body, pforall, nested_atom, nested_step, posts, unary, expr}
 use Rattle.pads_syntax_expr.specs.declared.level.Level.TheVariants as level_form
 use Rattle.std.specs.List.{AllByRecursion as Each}
@@ -114,31 +116,31 @@ module _ (inner : Grammar Expr) (each : Keeps inner SpelledExpr) where
 
   keeps-index : Keeps (index inner) SpelledStep
   keeps-index = keeps-apply SpelledStep (λ both. step_form.Index both.0 both.1)
-      (keeps-first (mark kind.CloseBracket) (keeps-pair (keeps-any (mark kind.OpenBracket)) each)) (λ both spelled. spelled.1)
+      (keeps-first (mark CloseBracket) (keeps-pair (keeps-any (mark OpenBracket)) each)) (λ both spelled. spelled.1)
 
   keeps-paren : Keeps (paren inner) SpelledExpr
   keeps-paren = keeps-apply SpelledExpr (λ both. expr_form.Paren both.0 both.1)
-      (keeps-first (mark kind.CloseParen) (keeps-pair (keeps-any (mark kind.OpenParen)) each)) (λ both spelled. spelled-Paren both.0 both.1 spelled.1)
+      (keeps-first (mark CloseParen) (keeps-pair (keeps-any (mark OpenParen)) each)) (λ both spelled. spelled-Paren both.0 both.1 spelled.1)
 
   keeps-pis : Keeps (pis inner) SpelledExpr
   keeps-pis =
-      let behind : Keeps branch_name SpelledName = keeps-first (mark kind.CloseParen) (keeps-second (mark kind.Comma) keeps-name) in
-      keeps-apply SpelledExpr (λ all. expr_form.Pis all.0.0 all.0.1 all.1) (keeps-pair (keeps-pair (keeps-any (opened kind.Pis)) each) behind)
+      let behind : Keeps branch_name SpelledName = keeps-first (mark CloseParen) (keeps-second (mark Comma) keeps-name) in
+      keeps-apply SpelledExpr (λ all. expr_form.Pis all.0.0 all.0.1 all.1) (keeps-pair (keeps-pair (keeps-any (opened Pis)) each) behind)
       (λ all spelled. spelled-Pis all.0.0 all.0.1 all.1 spelled.0.1 spelled.1)
 
   keeps-plen : Keeps (plen inner) SpelledExpr
   keeps-plen = keeps-apply SpelledExpr (λ both. expr_form.Plen both.0 both.1)
-      (keeps-first (mark kind.CloseParen) (keeps-pair (keeps-any (opened kind.Plen)) each)) (λ both spelled. spelled-Plen both.0 both.1 spelled.1)
+      (keeps-first (mark CloseParen) (keeps-pair (keeps-any (opened Plen)) each)) (λ both spelled. spelled-Plen both.0 both.1 spelled.1)
 
   keeps-quantifier : Keeps quantifier (λ both. ⊤ × SpelledName both.1)
-  keeps-quantifier = keeps-first (mark kind.OpenBracket) (keeps-first (mark kind.Pin) (keeps-pair (keeps-any (opened kind.Pforall)) keeps-name))
+  keeps-quantifier = keeps-first (mark OpenBracket) (keeps-first (keyword Pin) (keeps-pair (keeps-any (opened Pforall)) keeps-name))
 
   keeps-body : Keeps (body inner) SpelledExpr
-  keeps-body = keeps-first (mark kind.CloseParen) (keeps-second (mark kind.CloseBracket *> mark kind.Colon) each)
+  keeps-body = keeps-first (mark CloseParen) (keeps-second (mark CloseBracket *> mark Colon) each)
 
   keeps-pforall : Keeps (pforall inner) SpelledExpr
   keeps-pforall = keeps-apply SpelledExpr (λ all. expr_form.Pforall all.0.0.0.0 all.0.0.0.1 all.0.0.1 all.0.1 all.1)
-      (keeps-pair (keeps-pair (keeps-first (mark kind.DotDot) (keeps-pair keeps-quantifier each)) each) keeps-body)
+      (keeps-pair (keeps-pair (keeps-first (mark DotDot) (keeps-pair keeps-quantifier each)) each) keeps-body)
       (λ all spelled. spelled-Pforall all.0.0.0.0 all.0.0.0.1 all.0.0.1 all.0.1 all.1 spelled.0.0.0.1 spelled.0.0.1 spelled.0.1 spelled.1)
 
 keeps-any-level : (inner : Grammar Expr) → Keeps inner SpelledExpr → Keeps (any inner) SpelledExpr
@@ -153,12 +155,12 @@ keeps-any-level inner each =
 keeps-plain : Keeps plain SpelledExpr
 keeps-plain = keeps-either (keeps-apply SpelledExpr (λ found. expr_form.Number found.0 found.1) (keeps-any number) (λ found none. spelled-Number found.0 found.1))
     (keeps-either (keeps-apply SpelledExpr expr_form.Word (keeps-any word) (λ found none. spelled-Word found))
-    (keeps-either (keeps-token SpelledExpr kind.True (λ t. expr_form.Truth true t.begin) (λ t is fine. spelled-Truth true t.begin))
-    (keeps-either (keeps-token SpelledExpr kind.False (λ t. expr_form.Truth false t.begin) (λ t is fine. spelled-Truth false t.begin))
+    (keeps-either (keeps-token SpelledExpr (kind.Keyword True) (λ t. expr_form.Truth true t.begin) (λ t is fine. spelled-Truth true t.begin))
+    (keeps-either (keeps-token SpelledExpr (kind.Keyword False) (λ t. expr_form.Truth false t.begin) (λ t is fine. spelled-Truth false t.begin))
     (keeps-apply SpelledExpr expr_form.Name keeps-name (λ found spelled. spelled-Name found spelled)))))
 
 keeps-field : Keeps field SpelledStep
-keeps-field = keeps-apply SpelledStep step_form.Name (keeps-second (mark kind.Dot) keeps-name) (λ found spelled. spelled)
+keeps-field = keeps-apply SpelledStep step_form.Name (keeps-second (mark Dot) keeps-name) (λ found spelled. spelled)
 
 keeps-posts : (atom : Grammar Expr) (step : Grammar (Step Expr)) → Keeps atom SpelledExpr → Keeps step SpelledStep → Keeps (posts atom step) SpelledExpr
 keeps-posts atom step one all = keeps-apply SpelledExpr (λ both. post both.0 both.1) (keeps-pair one (keeps-many all)) (λ both spelled. spelled-post both.0 both.1 spelled.0 spelled.1)

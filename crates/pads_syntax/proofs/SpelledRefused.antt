@@ -10,10 +10,12 @@ use Rattle.pads_lex.specs.declared.token.Token.{Token}
 use Rattle.pads_lex.specs.declared.token.TokenKind.{TokenKind}
 use Rattle.pads_lex.specs.declared.token.TokenKind.TheVariants as token_kind
 use Rattle.pads_grammar.specs.declared.kind.Kind.{Kind}
+use Rattle.pads_lex.specs.declared.token.Keyword.TheVariants.{Penum}
+use Rattle.pads_lex.specs.declared.token.Mark.TheVariants.{CloseBrace, Comma, OpenBrace, Semicolon}
 use Rattle.pads_grammar.specs.declared.kind.Kind.TheVariants as kind
 use Rattle.pads_grammar.specs.Kinds.{Tokens, kind_of}
 use Rattle.pads_grammar.specs.Whole.{Whole}
-use Rattle.pads_grammar.specs.Grammar.{Grammar, Derives, pair, optional, many, rest_of, ◌<*◌, ◌*>◌}
+use Rattle.pads_grammar.specs.Grammar.{Grammar, Derives, token, pair, optional, many, rest_of, ◌<*◌, ◌*>◌, mark, keyword}
 use Rattle.pads_ast.specs.NameTokens.{names_in}
 use Rattle.pads_ast.specs.declared.decl.Ast.{Ast}
 use Rattle.pads_ast.specs.declared.decl.DeclBody.TheVariants as decl_form
@@ -21,7 +23,7 @@ use Rattle.pads_ast.specs.declared.decl.Decl.{Decl}
 use Rattle.pads_ast.specs.declared.decl.Enum.{Enum}
 use Rattle.pads_ast.specs.declared.decl.Label.{Label}
 use Rattle.pads_ast.specs.declared.name.Name.{Name}
-use Rattle.pads_syntax_expr.specs.Leaves.{mark, name}
+use Rattle.pads_syntax_expr.specs.Leaves.{name}
 use Rattle.pads_syntax_parts.specs.Parts.{spelling, label, labels}
 use Rattle.pads_syntax.specs.Declarations.{enum_heading, enum_decl, marked, other_body, decl_body, decl, decls}
 use Rattle.pads_syntax.specs.Trees.{description, IsTree}
@@ -33,19 +35,19 @@ at place kind = record { kind = kind; begin = place; «end» = place + 1 }
 
 -- Penum @ { a } ;
 abbrev opening : Tokens
-opening = at 0 token_kind.Penum ∷ at 1 (token_kind.Name (codes "@")) ∷ []
+opening = at 0 (token_kind.Keyword Penum) ∷ at 1 (token_kind.Name (codes "@")) ∷ []
 
 abbrev heading : Tokens
-heading = opening ++ at 2 token_kind.OpenBrace ∷ []
+heading = opening ++ at 2 (token_kind.Mark OpenBrace) ∷ []
 
 abbrev inside : Tokens
 inside = at 3 (token_kind.Name (codes "a")) ∷ []
 
 abbrev body : Tokens
-body = heading ++ inside ++ at 4 token_kind.CloseBrace ∷ []
+body = heading ++ inside ++ at 4 (token_kind.Mark CloseBrace) ∷ []
 
 abbrev written : Tokens
-written = body ++ at 5 token_kind.Semicolon ∷ []
+written = body ++ at 5 (token_kind.Mark Semicolon) ∷ []
 
 abbrev the_tokens : Tokens
 the_tokens = written ++ at 6 token_kind.End ∷ []
@@ -63,7 +65,7 @@ the_enum = record { name = the_name; labels = the_label ∷ [] }
 abbrev the_decl : Decl
 the_decl = record { mark = None; body = decl_form.Enum the_enum }
 
-marked-by : (k : Kind) (t : Token) → kind_of t.kind ≡ k → Derives (mark k) t.begin (t ∷ [])
+marked-by : (k : Kind) (t : Token) → kind_of t.kind ≡ k → Derives (token k (λ t. t.begin)) t.begin (t ∷ [])
 marked-by k t is = record { token = t; alone = refl; kind = is; taken = refl }
 
 named : (text : List ℕ) (place : ℕ) → Derives name (record { text = text; at = place }) (at place (token_kind.Name text) ∷ [])
@@ -79,11 +81,11 @@ module _ {A B : Type 0} (g : Grammar A) (h : Grammar B) (a : A) (b : B) (front b
   second-kept : Derives (g *> h) b (front ++ back)
   second-kept = record { value = (a, b); is = refl; derived = joined }
 
-opening-derived : Derives (mark kind.Penum *> name) the_name opening
-opening-derived = second-kept (mark kind.Penum) name 0 the_name (at 0 token_kind.Penum ∷ []) (at 1 (token_kind.Name (codes "@")) ∷ []) (marked-by kind.Penum (at 0 token_kind.Penum) refl) (named (codes "@") 1)
+opening-derived : Derives (keyword Penum *> name) the_name opening
+opening-derived = second-kept (keyword Penum) name 0 the_name (at 0 (token_kind.Keyword Penum) ∷ []) (at 1 (token_kind.Name (codes "@")) ∷ []) (marked-by (kind.Keyword Penum) (at 0 (token_kind.Keyword Penum)) refl) (named (codes "@") 1)
 
 heading-derived : Derives enum_heading the_name heading
-heading-derived = first-kept (mark kind.Penum *> name) (mark kind.OpenBrace) the_name 2 opening (at 2 token_kind.OpenBrace ∷ []) opening-derived (marked-by kind.OpenBrace (at 2 token_kind.OpenBrace) refl)
+heading-derived = first-kept (keyword Penum *> name) (mark OpenBrace) the_name 2 opening (at 2 (token_kind.Mark OpenBrace) ∷ []) opening-derived (marked-by (kind.Mark OpenBrace) (at 2 (token_kind.Mark OpenBrace)) refl)
 
 label-derived : Derives label the_label inside
 unfolding label
@@ -91,15 +93,15 @@ label-derived = record { value = (the_label.name, None); is = refl; derived = jo
 
 labels-derived : Derives labels (the_label ∷ []) inside
 unfolding labels
-labels-derived = record { value = (the_label, []); is = refl; derived = joined label (rest_of kind.Comma label) the_label [] inside [] label-derived (inl refl) }
+labels-derived = record { value = (the_label, []); is = refl; derived = joined label (rest_of (kind.Mark Comma) label) the_label [] inside [] label-derived (inl refl) }
 
 enum-derived : Derives enum_decl the_enum body
 unfolding enum_decl
 enum-derived = record {
   value = (the_name, the_label ∷ []);
   is = refl;
-  derived = first-kept (pair enum_heading labels) (mark kind.CloseBrace) (the_name, the_label ∷ []) 4 (heading ++ inside) (at 4 token_kind.CloseBrace ∷ [])
-      (joined enum_heading labels the_name (the_label ∷ []) heading inside heading-derived labels-derived) (marked-by kind.CloseBrace (at 4 token_kind.CloseBrace) refl);
+  derived = first-kept (pair enum_heading labels) (mark CloseBrace) (the_name, the_label ∷ []) 4 (heading ++ inside) (at 4 (token_kind.Mark CloseBrace) ∷ [])
+      (joined enum_heading labels the_name (the_label ∷ []) heading inside heading-derived labels-derived) (marked-by (kind.Mark CloseBrace) (at 4 (token_kind.Mark CloseBrace)) refl);
 }
 
 body-derived : Derives decl_body (decl_form.Enum the_enum) body
@@ -115,8 +117,8 @@ unfolding decl
 decl-derived = record {
   value = (None, decl_form.Enum the_enum);
   is = refl;
-  derived = first-kept (pair marked decl_body) (mark kind.Semicolon) (None, decl_form.Enum the_enum) 5 body (at 5 token_kind.Semicolon ∷ [])
-      (joined marked decl_body None (decl_form.Enum the_enum) [] body unmarked body-derived) (marked-by kind.Semicolon (at 5 token_kind.Semicolon) refl);
+  derived = first-kept (pair marked decl_body) (mark Semicolon) (None, decl_form.Enum the_enum) 5 body (at 5 (token_kind.Mark Semicolon) ∷ [])
+      (joined marked decl_body None (decl_form.Enum the_enum) [] body unmarked body-derived) (marked-by (kind.Mark Semicolon) (at 5 (token_kind.Mark Semicolon)) refl);
 }
 
 -- The grammar alone doesn't keep such a name out.

@@ -1,14 +1,15 @@
 -- The names in the parts that declarations share.
 use Rattle.std.proofs.Common.{[], ◌∷◌}
+use Rattle.pads_lex.specs.declared.token.Keyword.TheVariants.{Peor, Popt}
+use Rattle.pads_lex.specs.declared.token.Mark.TheVariants.{CloseParams, Colon, Comma, OpenParams, Semicolon}
 use Rattle.pads_grammar.specs.declared.kind.Kind.TheVariants as kind
-use Rattle.pads_grammar.specs.Grammar.{optional}
+use Rattle.pads_grammar.specs.Grammar.{optional, mark, keyword}
 use Rattle.pads_ast.specs.declared.types.Arg.{Arg}
 use Rattle.pads_ast.specs.declared.types.Arg.TheVariants as arg_form
 use Rattle.pads_ast.specs.declared.types.Branch.{Branch}
 use Rattle.pads_ast.specs.declared.types.Param.{Param}
 use Rattle.pads_ast.specs.declared.types.Type.{«Type»}
 use Rattle.pads_ast.specs.NameTokens.{names_in_expr, names_in_option, names_in_arg, names_in_type, names_in_param, names_in_branch}
-use Rattle.pads_syntax_expr.specs.Leaves.{mark}
 use Rattle.pads_syntax_parts.specs.Types.{expression, arg, args, type_use, param, params, constraint, branch}
 use Rattle.std.specs.List.{AllByRecursion as Each}
 use Rattle.pads_syntax.proofs.SpelledExpressions.{SpelledExpr, keeps-name, keeps-expr}
@@ -24,10 +25,10 @@ SpelledArg a = AreSpelled (names_in_arg a)
 
 keeps-arg : Keeps arg SpelledArg
 unfolding arg
-keeps-arg = keeps-either (keeps-token SpelledArg kind.Peor (λ t. arg_form.Peor t.begin) (λ t is fine. tt)) (keeps-apply SpelledArg arg_form.Expr keeps-expression (λ e spelled. spelled))
+keeps-arg = keeps-either (keeps-token SpelledArg (kind.Keyword Peor) (λ t. arg_form.Peor t.begin) (λ t is fine. tt)) (keeps-apply SpelledArg arg_form.Expr keeps-expression (λ e spelled. spelled))
 
 keeps-args : Keeps args (Each SpelledArg)
-keeps-args = keeps-first (mark kind.CloseParams) (keeps-second (mark kind.OpenParams) (keeps-listed kind.Comma keeps-arg))
+keeps-args = keeps-first (mark CloseParams) (keeps-second (mark OpenParams) (keeps-listed Comma keeps-arg))
 
 abbrev pub SpelledType : «Type» → Type 0
 SpelledType t = AreSpelled (names_in_type t)
@@ -35,7 +36,7 @@ SpelledType t = AreSpelled (names_in_type t)
 pub keeps-type : Keeps type_use SpelledType
 unfolding type_use
 keeps-type = keeps-apply SpelledType (λ all. record { optional = all.0.0; name = all.0.1; args = all.1 })
-    (keeps-pair (keeps-pair (keeps-any (optional (mark kind.Popt))) keeps-name) (keeps-optional keeps-args))
+    (keeps-pair (keeps-pair (keeps-any (optional (keyword Popt))) keeps-name) (keeps-optional keeps-args))
     (λ all spelled. (spelled.0.1, each-written IsSpelled names_in_arg all.1 spelled.1))
 
 abbrev pub SpelledParam : Param → Type 0
@@ -47,16 +48,16 @@ keeps-param = keeps-apply SpelledParam (λ both. record { of = both.0; name = bo
     (λ both spelled. each-both IsSpelled (names_in_type both.0) (both.1.text ∷ []) spelled.0 (spelled.1, tt))
 
 pub keeps-params : Keeps params (Each SpelledParam)
-keeps-params = keeps-first (mark kind.CloseParams) (keeps-second (mark kind.OpenParams) (keeps-listed kind.Comma keeps-param))
+keeps-params = keeps-first (mark CloseParams) (keeps-second (mark OpenParams) (keeps-listed Comma keeps-param))
 
 abbrev pub SpelledBranch : Branch → Type 0
 SpelledBranch b = AreSpelled (names_in_branch b)
 
 keeps-constraint : Keeps constraint (IfThere SpelledExpr)
-keeps-constraint = keeps-optional (keeps-second (mark kind.Colon) keeps-expression)
+keeps-constraint = keeps-optional (keeps-second (mark Colon) keeps-expression)
 
 pub keeps-branch : Keeps branch SpelledBranch
 unfolding branch
 keeps-branch = keeps-apply SpelledBranch (λ all. record { of = all.0.0; name = all.0.1; constraint = all.1 })
-    (keeps-first (mark kind.Semicolon) (keeps-pair (keeps-pair keeps-type keeps-name) keeps-constraint))
+    (keeps-first (mark Semicolon) (keeps-pair (keeps-pair keeps-type keeps-name) keeps-constraint))
     (λ all spelled. each-both IsSpelled (names_in_type all.0.0) (all.0.1.text ∷ names_in_option all.1) spelled.0.0 (spelled.0.1, each-listed IsSpelled names_in_expr all.1 spelled.1))

@@ -1,5 +1,5 @@
 -- What a call answers about a list of tokens.
-use Rattle.std.specs.Prelude.{◌≡◌, [], ◌∷◌, Result, Ok, Err, cond}
+use Rattle.std.specs.Prelude.{[], ◌∷◌, Result, Ok, Err, cond}
 use Rattle.pads_value.specs.declared.memory.Refusal.{Refusal}
 use Rattle.pads_value.specs.declared.memory.Refusal.TheVariants as refusal
 use Rattle.pads_lex.specs.declared.token.Token.{Token}

@@ -1,5 +1,4 @@
 ghost use Rattle.std.specs.Prelude.{◌≡◌};
-ghost use Rattle.pads_grammar.specs.declared.kind.Kind.TheVariants as kind;
 ghost use Rattle.pads_grammar.specs.Grammar.{reads, begins, optional, many, apply, either, token};
 ghost use Rattle.pads_grammar.specs.Reads.{Reads};
 ghost use Rattle.pads_ast.specs.declared.decl.DeclBody.TheVariants as decl_form;
@@ -12,6 +11,7 @@ use crate::typedef::{opt_decl, typedef_decl};
 use crate::unions::union_decl;
 use pads_ast::{Decl, DeclBody, DeclMark};
 use pads_grammar::{Cursor, Kind, Reading};
+use pads_lex::{Keyword, Mark};
 use pads_syntax_parts::with_mark;
 use pads_value::Items;
 use std::alloc::Global;
@@ -22,11 +22,11 @@ fn marked(cursor: &mut Cursor<'_>) -> Reading<Option<DeclMark>>
     ensures reads { Reads (reads marked cursor.old) result cursor.new }
 {
     let next = cursor.peek();
-    if Kind::Precord.is(next) {
-        let _mark = cursor.mark(Kind::Precord)?;
+    if next.is_keyword(Keyword::Precord) {
+        let _mark = cursor.keyword(Keyword::Precord)?;
         Ok(Some(DeclMark::Precord))
-    } else if Kind::Psource.is(next) {
-        let _mark = cursor.mark(Kind::Psource)?;
+    } else if next.is_keyword(Keyword::Psource) {
+        let _mark = cursor.keyword(Keyword::Psource)?;
         Ok(Some(DeclMark::Psource))
     } else {
         Ok(None)
@@ -39,9 +39,9 @@ fn other_body(alloc: Global, cursor: &mut Cursor<'_>) -> Reading<DeclBody>
     ensures reads { Reads (reads other_body cursor.old) result cursor.new }
 {
     let next = cursor.peek();
-    if Kind::Penum.is(next) {
+    if next.is_keyword(Keyword::Penum) {
         Ok(DeclBody::Enum(enum_decl(alloc, cursor)?))
-    } else if Kind::Ptypedef.is(next) {
+    } else if next.is_keyword(Keyword::Ptypedef) {
         Ok(DeclBody::Typedef(typedef_decl(alloc, cursor)?))
     } else {
         Ok(DeclBody::Opt(opt_decl(alloc, cursor)?))
@@ -70,11 +70,11 @@ fn decl_body(alloc: Global, cursor: &mut Cursor<'_>) -> Reading<DeclBody>
     ensures reads { Reads (reads decl_body cursor.old) result cursor.new }
 {
     let next = cursor.peek();
-    if Kind::Pstruct.is(next) {
+    if next.is_keyword(Keyword::Pstruct) {
         struct_body(alloc, cursor)
-    } else if Kind::Punion.is(next) {
+    } else if next.is_keyword(Keyword::Punion) {
         union_body(alloc, cursor)
-    } else if Kind::Parray.is(next) {
+    } else if next.is_keyword(Keyword::Parray) {
         array_body(alloc, cursor)
     } else {
         other_body(alloc, cursor)
@@ -87,7 +87,7 @@ fn decl(alloc: Global, cursor: &mut Cursor<'_>) -> Reading<Decl>
 {
     let mark = marked(cursor)?;
     let body = decl_body(alloc, cursor)?;
-    let (body, _end) = with_mark(body, cursor, Kind::Semicolon)?;
+    let (body, _end) = with_mark(body, cursor, Mark::Semicolon)?;
     Ok(Decl { mark, body })
 }
 
@@ -96,14 +96,14 @@ fn decl(alloc: Global, cursor: &mut Cursor<'_>) -> Reading<Decl>
 fn begins_decl(kind: Kind) -> bool
     ensures begins { result ≡ begins decl kind }
 {
-    Kind::Precord.is(kind)
-        || Kind::Psource.is(kind)
-        || Kind::Pstruct.is(kind)
-        || Kind::Punion.is(kind)
-        || Kind::Parray.is(kind)
-        || Kind::Penum.is(kind)
-        || Kind::Ptypedef.is(kind)
-        || Kind::Popt.is(kind)
+    kind.is_keyword(Keyword::Precord)
+        || kind.is_keyword(Keyword::Psource)
+        || kind.is_keyword(Keyword::Pstruct)
+        || kind.is_keyword(Keyword::Punion)
+        || kind.is_keyword(Keyword::Parray)
+        || kind.is_keyword(Keyword::Penum)
+        || kind.is_keyword(Keyword::Ptypedef)
+        || kind.is_keyword(Keyword::Popt)
 }
 
 /// Any number of declarations.

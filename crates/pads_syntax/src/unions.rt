@@ -1,5 +1,4 @@
 ghost use Rattle.std.specs.Prelude.{◌≡◌};
-ghost use Rattle.pads_grammar.specs.declared.kind.Kind.TheVariants as kind;
 ghost use Rattle.pads_grammar.specs.Grammar.{reads, begins, optional, many, apply, ◌&◌};
 ghost use Rattle.pads_grammar.specs.Reads.{Reads};
 ghost use Rattle.pads_ast.specs.declared.decl.UnionBody.TheVariants as union_form;
@@ -9,6 +8,7 @@ ghost use Rattle.pads_syntax.specs.Declarations.{union_body, union_decl};
 use crate::structure::heading;
 use pads_ast::{Branch, Case, Const, Expr, Switch, Union, UnionBody};
 use pads_grammar::{Cursor, Kind, Reading};
+use pads_lex::{Keyword, Mark};
 use pads_syntax_parts::{branch, branches, constant, expression, with_mark};
 use pads_value::Items;
 use std::alloc::Global;
@@ -20,9 +20,9 @@ type SwitchBody = ((Expr, Items<Case>), Option<Branch>);
 fn case_key(alloc: Global, cursor: &mut Cursor<'_>) -> Reading<Const>
     ensures reads { Reads (reads case_key cursor.old) result cursor.new }
 {
-    let _keyword = cursor.mark(Kind::Pcase)?;
+    let _keyword = cursor.keyword(Keyword::Pcase)?;
     let key = constant(alloc, cursor)?;
-    let _colon = cursor.mark(Kind::Colon)?;
+    let _colon = cursor.mark(Mark::Colon)?;
     Ok(key)
 }
 
@@ -52,18 +52,18 @@ fn cases(alloc: Global, cursor: &mut Cursor<'_>) -> Reading<Items<Case>>
 fn begins_case(kind: Kind) -> bool
     ensures begins { result ≡ begins case_rule kind }
 {
-    Kind::Pcase.is(kind)
+    kind.is_keyword(Keyword::Pcase)
 }
 
 /// The case of every other value, where it is written.
 fn default_case(alloc: Global, cursor: &mut Cursor<'_>) -> Reading<Option<Branch>>
     ensures reads { Reads (reads (optional default_case) cursor.old) result cursor.new }
 {
-    if !Kind::Pdefault.is(cursor.peek()) {
+    if !cursor.peek().is_keyword(Keyword::Pdefault) {
         return Ok(None);
     }
-    let _keyword = cursor.mark(Kind::Pdefault)?;
-    let _colon = cursor.mark(Kind::Colon)?;
+    let _keyword = cursor.keyword(Keyword::Pdefault)?;
+    let _colon = cursor.mark(Mark::Colon)?;
     Ok(Some(branch(alloc, cursor)?))
 }
 
@@ -71,11 +71,11 @@ fn default_case(alloc: Global, cursor: &mut Cursor<'_>) -> Reading<Option<Branch
 fn switch_value(alloc: Global, cursor: &mut Cursor<'_>) -> Reading<Expr>
     ensures reads { Reads (reads switch_value cursor.old) result cursor.new }
 {
-    let _keyword = cursor.mark(Kind::Pswitch)?;
-    let _open = cursor.mark(Kind::OpenParen)?;
+    let _keyword = cursor.keyword(Keyword::Pswitch)?;
+    let _open = cursor.mark(Mark::OpenParen)?;
     let value = expression(alloc, cursor)?;
-    let (value, _close) = with_mark(value, cursor, Kind::CloseParen)?;
-    let (value, _brace) = with_mark(value, cursor, Kind::OpenBrace)?;
+    let (value, _close) = with_mark(value, cursor, Mark::CloseParen)?;
+    let (value, _brace) = with_mark(value, cursor, Mark::OpenBrace)?;
     Ok(value)
 }
 
@@ -94,7 +94,7 @@ fn switch(alloc: Global, cursor: &mut Cursor<'_>) -> Reading<Switch>
     ensures reads { Reads (reads switch cursor.old) result cursor.new }
 {
     let body = switch_body(alloc, cursor)?;
-    let (((value, cases), default), _close) = with_mark(body, cursor, Kind::CloseBrace)?;
+    let (((value, cases), default), _close) = with_mark(body, cursor, Mark::CloseBrace)?;
     Ok(Switch {
         value,
         cases,
@@ -106,7 +106,7 @@ fn switch(alloc: Global, cursor: &mut Cursor<'_>) -> Reading<Switch>
 fn union_body(alloc: Global, cursor: &mut Cursor<'_>) -> Reading<UnionBody>
     ensures reads { Reads (reads union_body cursor.old) result cursor.new }
 {
-    if Kind::Pswitch.is(cursor.peek()) {
+    if cursor.peek().is_keyword(Keyword::Pswitch) {
         Ok(UnionBody::Switch(switch(alloc, cursor)?))
     } else {
         Ok(UnionBody::Branches(branches(alloc, cursor)?))
@@ -117,8 +117,8 @@ fn union_body(alloc: Global, cursor: &mut Cursor<'_>) -> Reading<UnionBody>
 pub fn union_decl(alloc: Global, cursor: &mut Cursor<'_>) -> Reading<Union>
     ensures reads { Reads (reads union_decl cursor.old) result cursor.new }
 {
-    let (name, params) = heading(alloc, cursor, Kind::Punion)?;
+    let (name, params) = heading(alloc, cursor, Keyword::Punion)?;
     let body = union_body(alloc, cursor)?;
-    let (body, _close) = with_mark(body, cursor, Kind::CloseBrace)?;
+    let (body, _close) = with_mark(body, cursor, Mark::CloseBrace)?;
     Ok(Union { name, params, body })
 }

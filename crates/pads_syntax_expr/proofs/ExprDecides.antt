@@ -2,6 +2,7 @@
 use Rattle.std.proofs.Common.{◌≡◌, ℕ, zero, suc, Bool, false, ◌||◌, refl}
 use Rattle.std.proofs.lemmas.Bool.{or_left, or_right}
 use Rattle.pads_grammar.specs.declared.kind.Kind.{Kind}
+use Rattle.pads_lex.specs.declared.token.Mark.TheVariants.{Dot, OpenBracket}
 use Rattle.pads_grammar.specs.declared.kind.Kind.TheVariants as kind
 use Rattle.pads_grammar.specs.Kinds.{is}
 use Rattle.pads_grammar.specs.Grammar.{Grammar, many, nullable, begins, ahead, Apart, Decides}
@@ -15,7 +16,7 @@ use Rattle.pads_syntax_expr.specs.Expressions.{operators, link, chained, prod, s
 
 -- What a unary expression goes on with, and an expression of each level.
 abbrev pub unary_on : Kind → Bool
-unary_on j = is kind.Dot j || is kind.OpenBracket j
+unary_on j = is (kind.Mark Dot) j || is (kind.Mark OpenBracket) j
 
 abbrev pub prod_on : Kind → Bool
 prod_on j = begins (operators level_form.Prod) j || unary_on j

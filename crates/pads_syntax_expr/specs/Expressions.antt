@@ -16,8 +16,12 @@
 -- left, the alternatives that open one are not there.
 use Rattle.std.specs.Prelude.{◌≡◌, refl, ℕ, zero, suc, Bool, true, false, ◌||◌, Option, Some, None}
 use Rattle.pads_grammar.specs.declared.kind.Kind.{Kind}
+use Rattle.pads_lex.specs.declared.token.Keyword.{Keyword}
+use Rattle.pads_lex.specs.declared.token.Keyword.TheVariants.{False, Pforall, Pin, Pis, Plen, True}
+use Rattle.pads_lex.specs.declared.token.Mark.{Mark}
+use Rattle.pads_lex.specs.declared.token.Mark.TheVariants.{And, AtLeast, AtMost, CloseBracket, CloseParen, Colon, Comma, Dot, DotDot, EqualTo, GreaterThan, LessThan, Minus, Not, NotEqualTo, OpenBracket, OpenParen, Or, Percent, Plus, Slash, Star}
 use Rattle.pads_grammar.specs.declared.kind.Kind.TheVariants as kind
-use Rattle.pads_grammar.specs.Grammar.{Grammar, begins, token, apply, many, ◌&◌, ◌<*◌, ◌*>◌, ◌or◌}
+use Rattle.pads_grammar.specs.Grammar.{Grammar, begins, token, apply, many, ◌&◌, ◌<*◌, ◌*>◌, ◌or◌, mark, keyword}
 use Rattle.pads_ast.specs.Chains.{chain, post}
 use Rattle.pads_ast.specs.declared.expr.Expr.{Expr}
 use Rattle.pads_ast.specs.declared.expr.Expr.TheVariants as expr_form
@@ -31,17 +35,21 @@ use Rattle.pads_ast.specs.declared.expr.UnaryOperator.TheVariants as unary_form
 use Rattle.pads_ast.specs.declared.name.Name.{Name}
 use Rattle.pads_syntax_expr.specs.declared.level.Level.{Level}
 use Rattle.pads_syntax_expr.specs.declared.level.Level.TheVariants as level_form
-use Rattle.pads_syntax_expr.specs.Leaves.{mark, name, word, number}
+use Rattle.pads_syntax_expr.specs.Leaves.{name, word, number}
+
+-- A mark, by what it means.
+abbrev pub means : {A : Type 0} → Mark → A → Grammar A
+means m meaning = token (kind.Mark m) (λ _. meaning)
 
 -- The operators of a level. A unary expression has none; it is given those of products, which is not used.
 abbrev pub operators : Level → Grammar BinOp
-operators level_form.Unary = token kind.Star (λ _. binary.Mul) or token kind.Slash (λ _. binary.Div) or token kind.Percent (λ _. binary.Rem)
-operators level_form.Prod = token kind.Star (λ _. binary.Mul) or token kind.Slash (λ _. binary.Div) or token kind.Percent (λ _. binary.Rem)
-operators level_form.Sum = token kind.Plus (λ _. binary.Add) or token kind.Minus (λ _. binary.Sub)
-operators level_form.Rel = token kind.LessThan (λ _. binary.Lt) or token kind.AtMost (λ _. binary.Le) or token kind.GreaterThan (λ _. binary.Gt) or token kind.AtLeast (λ _. binary.Ge)
-operators level_form.Eq = token kind.EqualTo (λ _. binary.Eq) or token kind.NotEqualTo (λ _. binary.Ne)
-operators level_form.And = token kind.And (λ _. binary.And)
-operators level_form.Or = token kind.Or (λ _. binary.Or)
+operators level_form.Unary = means Star binary.Mul or means Slash binary.Div or means Percent binary.Rem
+operators level_form.Prod = means Star binary.Mul or means Slash binary.Div or means Percent binary.Rem
+operators level_form.Sum = means Plus binary.Add or means Minus binary.Sub
+operators level_form.Rel = means LessThan binary.Lt or means AtMost binary.Le or means GreaterThan binary.Gt or means AtLeast binary.Ge
+operators level_form.Eq = means EqualTo binary.Eq or means NotEqualTo binary.Ne
+operators level_form.And = means And binary.And
+operators level_form.Or = means Or binary.Or
 
 abbrev pub link : Grammar BinOp → Grammar Expr → Grammar (Link Expr)
 link operator part = apply (λ both. record { operator = both.0; operand = both.1 }) (operator & part)
@@ -80,52 +88,52 @@ level level_form.Or unary = any unary
 
 -- Sign and operand.
 abbrev pub sign : Grammar (UnaryOperator × ℕ)
-sign = token kind.Minus (λ t. (unary_form.Minus, t.begin)) or token kind.Not (λ t. (unary_form.Not, t.begin))
+sign = token (kind.Mark Minus) (λ t. (unary_form.Minus, t.begin)) or token (kind.Mark Not) (λ t. (unary_form.Not, t.begin))
 
 abbrev pub signed : Grammar Expr → Grammar Expr
 signed operand = apply (λ both. expr_form.Unary both.0.0 both.0.1 both.1) (sign & operand)
 
 abbrev pub field : Grammar (Step Expr)
-field = apply step_form.Name (mark kind.Dot *> name)
+field = apply step_form.Name (mark Dot *> name)
 
 abbrev pub index : Grammar Expr → Grammar (Step Expr)
-index inner = apply (λ both. step_form.Index both.0 both.1) ((mark kind.OpenBracket & inner) <* mark kind.CloseBracket)
+index inner = apply (λ both. step_form.Index both.0 both.1) ((mark OpenBracket & inner) <* mark CloseBracket)
 
 -- An atom that opens no level.
 abbrev pub plain : Grammar Expr
 plain = apply (λ found. expr_form.Number found.0 found.1) number
     or apply expr_form.Word word
-    or token kind.True (λ t. expr_form.Truth true t.begin)
-    or token kind.False (λ t. expr_form.Truth false t.begin)
+    or token (kind.Keyword True) (λ t. expr_form.Truth true t.begin)
+    or token (kind.Keyword False) (λ t. expr_form.Truth false t.begin)
     or apply expr_form.Name name
 
 abbrev pub paren : Grammar Expr → Grammar Expr
-paren inner = apply (λ both. expr_form.Paren both.0 both.1) ((mark kind.OpenParen & inner) <* mark kind.CloseParen)
+paren inner = apply (λ both. expr_form.Paren both.0 both.1) ((mark OpenParen & inner) <* mark CloseParen)
 
 -- A keyword and the bracket behind it, by the place of the keyword.
-abbrev pub opened : Kind → Grammar ℕ
-opened keyword = mark keyword <* mark kind.OpenParen
+abbrev pub opened : Keyword → Grammar ℕ
+opened k = keyword k <* mark OpenParen
 
 -- What stands behind the value of a `Pis`.
 abbrev pub branch_name : Grammar Name
-branch_name = (mark kind.Comma *> name) <* mark kind.CloseParen
+branch_name = (mark Comma *> name) <* mark CloseParen
 
 abbrev pub pis : Grammar Expr → Grammar Expr
-pis inner = apply (λ all. expr_form.Pis all.0.0 all.0.1 all.1) (opened kind.Pis & inner & branch_name)
+pis inner = apply (λ all. expr_form.Pis all.0.0 all.0.1 all.1) (opened Pis & inner & branch_name)
 
 abbrev pub plen : Grammar Expr → Grammar Expr
-plen inner = apply (λ both. expr_form.Plen both.0 both.1) ((opened kind.Plen & inner) <* mark kind.CloseParen)
+plen inner = apply (λ both. expr_form.Plen both.0 both.1) ((opened Plen & inner) <* mark CloseParen)
 
 -- What stands before the bounds of a `Pforall`, between them and behind them.
 abbrev pub quantifier : Grammar (ℕ × Name)
-quantifier = ((opened kind.Pforall & name) <* mark kind.Pin) <* mark kind.OpenBracket
+quantifier = ((opened Pforall & name) <* keyword Pin) <* mark OpenBracket
 
 abbrev pub body : Grammar Expr → Grammar Expr
-body inner = ((mark kind.CloseBracket *> mark kind.Colon) *> inner) <* mark kind.CloseParen
+body inner = ((mark CloseBracket *> mark Colon) *> inner) <* mark CloseParen
 
 abbrev pub pforall : Grammar Expr → Grammar Expr
 pforall inner = apply (λ all. expr_form.Pforall all.0.0.0.0 all.0.0.0.1 all.0.0.1 all.0.1 all.1)
-    (((quantifier & inner) <* mark kind.DotDot) & inner & body inner)
+    (((quantifier & inner) <* mark DotDot) & inner & body inner)
 
 -- An atom and a step where a level is left for what stands inside.
 abbrev pub nested_atom : Grammar Expr → Grammar Expr

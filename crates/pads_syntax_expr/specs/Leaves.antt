@@ -2,7 +2,6 @@
 use Rattle.std.specs.Prelude.{ℕ, List, []}
 use Rattle.pads_lex.specs.declared.token.TokenKind.{TokenKind}
 use Rattle.pads_lex.specs.declared.token.TokenKind.TheVariants as token_kind
-use Rattle.pads_grammar.specs.declared.kind.Kind.{Kind}
 use Rattle.pads_grammar.specs.declared.kind.Kind.TheVariants as kind
 use Rattle.pads_grammar.specs.Grammar.{Grammar, token, either}
 use Rattle.pads_ast.specs.Numbers.{natural}
@@ -23,10 +22,6 @@ point_of _ = 0
 abbrev pub number_of : TokenKind → ℕ
 number_of (token_kind.Number number) = natural number
 number_of _ = 0
-
--- A mark or a keyword, by the place of its first byte.
-abbrev pub mark : Kind → Grammar ℕ
-mark k = token k (λ t. t.begin)
 
 abbrev pub name : Grammar Name
 name = token kind.Name (λ t. record { text = text_of t.kind; at = t.begin })

@@ -1,4 +1,5 @@
 ghost use Rattle.std.specs.Prelude.{◌≡◌, true, false};
+ghost use Rattle.pads_lex.specs.declared.token.Keyword.TheVariants.{False, True};
 ghost use Rattle.pads_grammar.specs.declared.kind.Kind.TheVariants as kind;
 ghost use Rattle.pads_grammar.specs.Grammar.{reads, token, apply};
 ghost use Rattle.pads_grammar.specs.Reads.{Reads};
@@ -9,7 +10,7 @@ ghost use Rattle.pads_syntax_expr.specs.Expressions.{plain};
 
 use pads_ast::{Expr, Name, Number, Word};
 use pads_grammar::{Cursor, Kind, Reading, Unexpected};
-use pads_lex::TokenKind;
+use pads_lex::{Keyword, TokenKind};
 use pads_value::{Items, Refusal};
 use std::alloc::Global;
 
@@ -95,16 +96,16 @@ fn number_expr(cursor: &mut Cursor<'_>) -> Reading<Expr>
 }
 
 fn truth(cursor: &mut Cursor<'_>) -> Reading<Expr>
-    ensures reads { Reads (reads (token kind.True (λ t. expr_form.Truth true t.begin)) cursor.old) result cursor.new }
+    ensures reads { Reads (reads (token (kind.Keyword True) (λ t. expr_form.Truth true t.begin)) cursor.old) result cursor.new }
 {
-    let at = cursor.mark(Kind::True)?;
+    let at = cursor.keyword(Keyword::True)?;
     Ok(Expr::Truth { value: true, at })
 }
 
 fn falsehood(cursor: &mut Cursor<'_>) -> Reading<Expr>
-    ensures reads { Reads (reads (token kind.False (λ t. expr_form.Truth false t.begin)) cursor.old) result cursor.new }
+    ensures reads { Reads (reads (token (kind.Keyword False) (λ t. expr_form.Truth false t.begin)) cursor.old) result cursor.new }
 {
-    let at = cursor.mark(Kind::False)?;
+    let at = cursor.keyword(Keyword::False)?;
     Ok(Expr::Truth { value: false, at })
 }
 
@@ -129,9 +130,9 @@ pub fn plain(alloc: Global, cursor: &mut Cursor<'_>) -> Reading<Expr>
         number_expr(cursor)
     } else if Kind::Char.is(next) || Kind::Text.is(next) {
         word_expr(alloc, cursor)
-    } else if Kind::True.is(next) {
+    } else if next.is_keyword(Keyword::True) {
         truth(cursor)
-    } else if Kind::False.is(next) {
+    } else if next.is_keyword(Keyword::False) {
         falsehood(cursor)
     } else {
         name_expr(alloc, cursor)

@@ -8,6 +8,7 @@ use crate::leaf::{name, plain};
 use crate::operator::{is_sign, joins, operator, sign};
 use pads_ast::{Expr, Link, Links, Name, Step, Steps};
 use pads_grammar::{Cursor, Kind, Reading};
+use pads_lex::{Keyword, Mark};
 use pads_value::Items;
 use std::alloc::Global;
 
@@ -30,15 +31,15 @@ pub fn begins_expr(kind: Kind) -> bool
     ensures begins { result ≡ begins_expr kind }
 {
     is_sign(kind)
-        || Kind::OpenParen.is(kind)
-        || Kind::Pis.is(kind)
-        || Kind::Plen.is(kind)
-        || Kind::Pforall.is(kind)
+        || kind.is_mark(Mark::OpenParen)
+        || kind.is_keyword(Keyword::Pis)
+        || kind.is_keyword(Keyword::Plen)
+        || kind.is_keyword(Keyword::Pforall)
         || Kind::Number.is(kind)
         || Kind::Char.is(kind)
         || Kind::Text.is(kind)
-        || Kind::True.is(kind)
-        || Kind::False.is(kind)
+        || kind.is_keyword(Keyword::True)
+        || kind.is_keyword(Keyword::False)
         || Kind::Name.is(kind)
 }
 
@@ -143,8 +144,8 @@ fn begins_step(kind: Kind, inner: Option<u64>) -> bool
     ensures begins { result ≡ begins (step inner) kind }
 {
     match inner {
-        Some(_) => Kind::OpenBracket.is(kind) || Kind::Dot.is(kind),
-        None => Kind::Dot.is(kind),
+        Some(_) => kind.is_mark(Mark::OpenBracket) || kind.is_mark(Mark::Dot),
+        None => kind.is_mark(Mark::Dot),
     }
 }
 
@@ -155,12 +156,12 @@ fn step(alloc: Global, cursor: &mut Cursor<'_>, inner: Option<u64>) -> Reading<S
     let Some(inner) = inner else {
         return field(alloc, cursor);
     };
-    if !Kind::OpenBracket.is(cursor.peek()) {
+    if !cursor.peek().is_mark(Mark::OpenBracket) {
         return field(alloc, cursor);
     }
-    let at = cursor.mark(Kind::OpenBracket)?;
+    let at = cursor.mark(Mark::OpenBracket)?;
     let index = level(alloc, cursor, inner, Level::Or)?;
-    let _close = cursor.mark(Kind::CloseBracket)?;
+    let _close = cursor.mark(Mark::CloseBracket)?;
     Ok(Step::Index { at, index })
 }
 
@@ -168,7 +169,7 @@ fn step(alloc: Global, cursor: &mut Cursor<'_>, inner: Option<u64>) -> Reading<S
 fn field(alloc: Global, cursor: &mut Cursor<'_>) -> Reading<Step<Expr>>
     ensures reads { Reads (reads field cursor.old) result cursor.new }
 {
-    let _dot = cursor.mark(Kind::Dot)?;
+    let _dot = cursor.mark(Mark::Dot)?;
     Ok(Step::Name(name(alloc, cursor)?))
 }
 
@@ -180,13 +181,13 @@ fn atom(alloc: Global, cursor: &mut Cursor<'_>, inner: Option<u64>) -> Reading<E
         return plain(alloc, cursor);
     };
     let next = cursor.peek();
-    if Kind::OpenParen.is(next) {
+    if next.is_mark(Mark::OpenParen) {
         paren(alloc, cursor, inner)
-    } else if Kind::Pis.is(next) {
+    } else if next.is_keyword(Keyword::Pis) {
         pis(alloc, cursor, inner)
-    } else if Kind::Plen.is(next) {
+    } else if next.is_keyword(Keyword::Plen) {
         plen(alloc, cursor, inner)
-    } else if Kind::Pforall.is(next) {
+    } else if next.is_keyword(Keyword::Pforall) {
         pforall(alloc, cursor, inner)
     } else {
         plain(alloc, cursor)
@@ -197,9 +198,9 @@ fn atom(alloc: Global, cursor: &mut Cursor<'_>, inner: Option<u64>) -> Reading<E
 fn paren(alloc: Global, cursor: &mut Cursor<'_>, inner: u64) -> Reading<Expr>
     ensures reads { Reads (reads (paren (expr inner)) cursor.old) result cursor.new }
 {
-    let at = cursor.mark(Kind::OpenParen)?;
+    let at = cursor.mark(Mark::OpenParen)?;
     let value = level(alloc, cursor, inner, Level::Or)?;
-    let _close = cursor.mark(Kind::CloseParen)?;
+    let _close = cursor.mark(Mark::CloseParen)?;
     Ok(Expr::paren(alloc, at, value)?)
 }
 
@@ -207,7 +208,7 @@ fn paren(alloc: Global, cursor: &mut Cursor<'_>, inner: u64) -> Reading<Expr>
 fn pis(alloc: Global, cursor: &mut Cursor<'_>, inner: u64) -> Reading<Expr>
     ensures reads { Reads (reads (pis (expr inner)) cursor.old) result cursor.new }
 {
-    let at = opened(cursor, Kind::Pis)?;
+    let at = opened(cursor, Keyword::Pis)?;
     let value = level(alloc, cursor, inner, Level::Or)?;
     let name = branch_name(alloc, cursor)?;
     Ok(Expr::pis(alloc, at, value, name)?)
@@ -217,9 +218,9 @@ fn pis(alloc: Global, cursor: &mut Cursor<'_>, inner: u64) -> Reading<Expr>
 fn plen(alloc: Global, cursor: &mut Cursor<'_>, inner: u64) -> Reading<Expr>
     ensures reads { Reads (reads (plen (expr inner)) cursor.old) result cursor.new }
 {
-    let at = opened(cursor, Kind::Plen)?;
+    let at = opened(cursor, Keyword::Plen)?;
     let value = level(alloc, cursor, inner, Level::Or)?;
-    let _close = cursor.mark(Kind::CloseParen)?;
+    let _close = cursor.mark(Mark::CloseParen)?;
     Ok(Expr::plen(alloc, at, value)?)
 }
 
@@ -229,7 +230,7 @@ fn pforall(alloc: Global, cursor: &mut Cursor<'_>, inner: u64) -> Reading<Expr>
 {
     let (at, variable) = quantifier(alloc, cursor)?;
     let low = level(alloc, cursor, inner, Level::Or)?;
-    let _dots = cursor.mark(Kind::DotDot)?;
+    let _dots = cursor.mark(Mark::DotDot)?;
     let high = level(alloc, cursor, inner, Level::Or)?;
     let body = body(alloc, cursor, inner)?;
     Ok(Expr::pforall(alloc, at, variable, low, high, body)?)
@@ -239,19 +240,19 @@ fn pforall(alloc: Global, cursor: &mut Cursor<'_>, inner: u64) -> Reading<Expr>
 fn body(alloc: Global, cursor: &mut Cursor<'_>, inner: u64) -> Reading<Expr>
     ensures reads { Reads (reads (body (expr inner)) cursor.old) result cursor.new }
 {
-    let _close = cursor.mark(Kind::CloseBracket)?;
-    let _colon = cursor.mark(Kind::Colon)?;
+    let _close = cursor.mark(Mark::CloseBracket)?;
+    let _colon = cursor.mark(Mark::Colon)?;
     let body = level(alloc, cursor, inner, Level::Or)?;
-    let _end = cursor.mark(Kind::CloseParen)?;
+    let _end = cursor.mark(Mark::CloseParen)?;
     Ok(body)
 }
 
 /// A keyword and the bracket behind it, by the place of the keyword.
-pub fn opened(cursor: &mut Cursor<'_>, keyword: Kind) -> Reading<u64>
+pub fn opened(cursor: &mut Cursor<'_>, keyword: Keyword) -> Reading<u64>
     ensures reads { Reads (reads (opened keyword) cursor.old) result cursor.new }
 {
-    let at = cursor.mark(keyword)?;
-    let _open = cursor.mark(Kind::OpenParen)?;
+    let at = cursor.keyword(keyword)?;
+    let _open = cursor.mark(Mark::OpenParen)?;
     Ok(at)
 }
 
@@ -259,9 +260,9 @@ pub fn opened(cursor: &mut Cursor<'_>, keyword: Kind) -> Reading<u64>
 fn branch_name(alloc: Global, cursor: &mut Cursor<'_>) -> Reading<Name>
     ensures reads { Reads (reads branch_name cursor.old) result cursor.new }
 {
-    let _comma = cursor.mark(Kind::Comma)?;
+    let _comma = cursor.mark(Mark::Comma)?;
     let name = name(alloc, cursor)?;
-    let _close = cursor.mark(Kind::CloseParen)?;
+    let _close = cursor.mark(Mark::CloseParen)?;
     Ok(name)
 }
 
@@ -269,9 +270,9 @@ fn branch_name(alloc: Global, cursor: &mut Cursor<'_>) -> Reading<Name>
 fn quantifier(alloc: Global, cursor: &mut Cursor<'_>) -> Reading<(u64, Name)>
     ensures reads { Reads (reads quantifier cursor.old) result cursor.new }
 {
-    let at = opened(cursor, Kind::Pforall)?;
+    let at = opened(cursor, Keyword::Pforall)?;
     let variable = name(alloc, cursor)?;
-    let _in = cursor.mark(Kind::Pin)?;
-    let _open = cursor.mark(Kind::OpenBracket)?;
+    let _in = cursor.keyword(Keyword::Pin)?;
+    let _open = cursor.mark(Mark::OpenBracket)?;
     Ok((at, variable))
 }

@@ -4,19 +4,20 @@ ghost use Rattle.pads_grammar.specs.Grammar.{reads, token, begins};
 ghost use Rattle.pads_grammar.specs.Kinds.{is};
 ghost use Rattle.pads_grammar.specs.Reads.{Reads};
 ghost use Rattle.pads_syntax_expr.specs.declared.level.Level.TheVariants as level_form;
-ghost use Rattle.pads_syntax_expr.specs.Expressions.{operators, sign};
+ghost use Rattle.pads_syntax_expr.specs.Expressions.{means, operators, sign};
 
 use crate::Level;
 use pads_ast::UnaryOperator;
 use pads_expr::BinOp;
 use pads_grammar::{Cursor, Kind, Reading, Unexpected};
+use pads_lex::Mark;
 use pads_value::Refusal;
 
 #[tactic(auto, using(pads_grammar::proofs::Leaves::leaves))]
-fn one(cursor: &mut Cursor<'_>, kind: Kind, operator: BinOp) -> Reading<BinOp>
-    ensures reads { Reads (reads (token kind (λ _. operator)) cursor.old) result cursor.new }
+fn one(cursor: &mut Cursor<'_>, mark: Mark, operator: BinOp) -> Reading<BinOp>
+    ensures reads { Reads (reads (means mark operator) cursor.old) result cursor.new }
 {
-    match cursor.take(kind) {
+    match cursor.take(Kind::Mark(mark)) {
         Some(_) => Ok(operator),
         None => Err(Refusal::Fault(Unexpected)),
     }
@@ -26,22 +27,22 @@ fn product(cursor: &mut Cursor<'_>) -> Reading<BinOp>
     ensures reads { Reads (reads (operators level_form.Prod) cursor.old) result cursor.new }
 {
     let next = cursor.peek();
-    if Kind::Star.is(next) {
-        one(cursor, Kind::Star, BinOp::Mul)
-    } else if Kind::Slash.is(next) {
-        one(cursor, Kind::Slash, BinOp::Div)
+    if next.is_mark(Mark::Star) {
+        one(cursor, Mark::Star, BinOp::Mul)
+    } else if next.is_mark(Mark::Slash) {
+        one(cursor, Mark::Slash, BinOp::Div)
     } else {
-        one(cursor, Kind::Percent, BinOp::Rem)
+        one(cursor, Mark::Percent, BinOp::Rem)
     }
 }
 
 fn summand(cursor: &mut Cursor<'_>) -> Reading<BinOp>
     ensures reads { Reads (reads (operators level_form.Sum) cursor.old) result cursor.new }
 {
-    if Kind::Plus.is(cursor.peek()) {
-        one(cursor, Kind::Plus, BinOp::Add)
+    if cursor.peek().is_mark(Mark::Plus) {
+        one(cursor, Mark::Plus, BinOp::Add)
     } else {
-        one(cursor, Kind::Minus, BinOp::Sub)
+        one(cursor, Mark::Minus, BinOp::Sub)
     }
 }
 
@@ -49,24 +50,24 @@ fn relation(cursor: &mut Cursor<'_>) -> Reading<BinOp>
     ensures reads { Reads (reads (operators level_form.Rel) cursor.old) result cursor.new }
 {
     let next = cursor.peek();
-    if Kind::LessThan.is(next) {
-        one(cursor, Kind::LessThan, BinOp::Lt)
-    } else if Kind::AtMost.is(next) {
-        one(cursor, Kind::AtMost, BinOp::Le)
-    } else if Kind::GreaterThan.is(next) {
-        one(cursor, Kind::GreaterThan, BinOp::Gt)
+    if next.is_mark(Mark::LessThan) {
+        one(cursor, Mark::LessThan, BinOp::Lt)
+    } else if next.is_mark(Mark::AtMost) {
+        one(cursor, Mark::AtMost, BinOp::Le)
+    } else if next.is_mark(Mark::GreaterThan) {
+        one(cursor, Mark::GreaterThan, BinOp::Gt)
     } else {
-        one(cursor, Kind::AtLeast, BinOp::Ge)
+        one(cursor, Mark::AtLeast, BinOp::Ge)
     }
 }
 
 fn equation(cursor: &mut Cursor<'_>) -> Reading<BinOp>
     ensures reads { Reads (reads (operators level_form.Eq) cursor.old) result cursor.new }
 {
-    if Kind::EqualTo.is(cursor.peek()) {
-        one(cursor, Kind::EqualTo, BinOp::Eq)
+    if cursor.peek().is_mark(Mark::EqualTo) {
+        one(cursor, Mark::EqualTo, BinOp::Eq)
     } else {
-        one(cursor, Kind::NotEqualTo, BinOp::Ne)
+        one(cursor, Mark::NotEqualTo, BinOp::Ne)
     }
 }
 
@@ -79,8 +80,8 @@ pub fn operator(cursor: &mut Cursor<'_>, level: Level) -> Reading<BinOp>
         Level::Sum => summand(cursor),
         Level::Rel => relation(cursor),
         Level::Eq => equation(cursor),
-        Level::And => one(cursor, Kind::And, BinOp::And),
-        Level::Or => one(cursor, Kind::Or, BinOp::Or),
+        Level::And => one(cursor, Mark::And, BinOp::And),
+        Level::Or => one(cursor, Mark::Or, BinOp::Or),
     }
 }
 
@@ -90,30 +91,30 @@ pub fn joins(kind: Kind, level: Level) -> bool
 {
     match level {
         Level::Unary | Level::Prod => {
-            Kind::Star.is(kind) || Kind::Slash.is(kind) || Kind::Percent.is(kind)
+            kind.is_mark(Mark::Star) || kind.is_mark(Mark::Slash) || kind.is_mark(Mark::Percent)
         }
-        Level::Sum => Kind::Plus.is(kind) || Kind::Minus.is(kind),
+        Level::Sum => kind.is_mark(Mark::Plus) || kind.is_mark(Mark::Minus),
         Level::Rel => {
-            Kind::LessThan.is(kind)
-                || Kind::AtMost.is(kind)
-                || Kind::GreaterThan.is(kind)
-                || Kind::AtLeast.is(kind)
+            kind.is_mark(Mark::LessThan)
+                || kind.is_mark(Mark::AtMost)
+                || kind.is_mark(Mark::GreaterThan)
+                || kind.is_mark(Mark::AtLeast)
         }
-        Level::Eq => Kind::EqualTo.is(kind) || Kind::NotEqualTo.is(kind),
-        Level::And => Kind::And.is(kind),
-        Level::Or => Kind::Or.is(kind),
+        Level::Eq => kind.is_mark(Mark::EqualTo) || kind.is_mark(Mark::NotEqualTo),
+        Level::And => kind.is_mark(Mark::And),
+        Level::Or => kind.is_mark(Mark::Or),
     }
 }
 
 #[tactic(auto, using(pads_grammar::proofs::Leaves::leaves))]
 fn one_sign(
     cursor: &mut Cursor<'_>,
-    kind: Kind,
+    mark: Mark,
     operator: UnaryOperator,
 ) -> Reading<(UnaryOperator, u64)>
-    ensures reads { Reads (reads (token kind (λ t. (operator, t.begin))) cursor.old) result cursor.new }
+    ensures reads { Reads (reads (token (kind.Mark mark) (λ t. (operator, t.begin))) cursor.old) result cursor.new }
 {
-    match cursor.take(kind) {
+    match cursor.take(Kind::Mark(mark)) {
         Some(token) => Ok((operator, token.begin)),
         None => Err(Refusal::Fault(Unexpected)),
     }
@@ -123,10 +124,10 @@ fn one_sign(
 pub fn sign(cursor: &mut Cursor<'_>) -> Reading<(UnaryOperator, u64)>
     ensures reads { Reads (reads sign cursor.old) result cursor.new }
 {
-    if Kind::Minus.is(cursor.peek()) {
-        one_sign(cursor, Kind::Minus, UnaryOperator::Minus)
+    if cursor.peek().is_mark(Mark::Minus) {
+        one_sign(cursor, Mark::Minus, UnaryOperator::Minus)
     } else {
-        one_sign(cursor, Kind::Not, UnaryOperator::Not)
+        one_sign(cursor, Mark::Not, UnaryOperator::Not)
     }
 }
 
@@ -134,5 +135,5 @@ pub fn sign(cursor: &mut Cursor<'_>) -> Reading<(UnaryOperator, u64)>
 pub fn is_sign(kind: Kind) -> bool
     ensures begins { result ≡ begins sign kind }
 {
-    Kind::Minus.is(kind) || Kind::Not.is(kind)
+    kind.is_mark(Mark::Minus) || kind.is_mark(Mark::Not)
 }

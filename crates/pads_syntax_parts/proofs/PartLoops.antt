@@ -1,5 +1,6 @@
 -- The laws of the loops over parts, branches and options.
 use Rattle.std.proofs.Common.{◌≡◌, false, refl}
+use Rattle.pads_lex.specs.declared.token.Mark.TheVariants.{And}
 use Rattle.pads_grammar.specs.declared.kind.Kind.TheVariants as kind
 use Rattle.pads_grammar.specs.Grammar.{nullable, begins}
 use Rattle.pads_grammar.proofs.ListLoops.{many_begins, many_goes, many_ends, many_fails, many_shorter}
@@ -63,22 +64,22 @@ branches_shorten = many_shorter branch branch_solid branch_quiet
 
 pub ruleset branch_loop = (branches_begin, branches_end, branches_fail)
 
-pub options_begin : ListBegins kind.And array_option
-options_begin = list_begins kind.And array_option refl
+pub options_begin : ListBegins And array_option
+options_begin = list_begins And array_option
 
-pub options_fault : ListFault kind.And array_option
-options_fault = list_fault kind.And array_option refl
+pub options_fault : ListFault And array_option
+options_fault = list_fault And array_option
 
-pub options_go : ListGoes kind.And array_option
-options_go = list_goes kind.And array_option refl
+pub options_go : ListGoes And array_option
+options_go = list_goes And array_option
 
-pub options_end : ListEnds kind.And array_option
-options_end = list_ends kind.And array_option refl
+pub options_end : ListEnds And array_option
+options_end = list_ends And array_option
 
-pub options_fail : ListFails kind.And array_option
-options_fail = list_fails kind.And array_option refl
+pub options_fail : ListFails And array_option
+options_fail = list_fails And array_option
 
-pub options_shorten : ListShortens kind.And array_option
-options_shorten = list_shortens kind.And array_option refl
+pub options_shorten : ListShortens And array_option
+options_shorten = list_shortens And array_option
 
 pub ruleset option_loop = (options_begin, options_fault, options_end, options_fail)

@@ -1,11 +1,11 @@
 ghost use Rattle.std.specs.Prelude.{◌≡◌};
-ghost use Rattle.pads_grammar.specs.declared.kind.Kind.TheVariants as kind;
 ghost use Rattle.pads_grammar.specs.Grammar.{reads, begins, optional};
 ghost use Rattle.pads_grammar.specs.Reads.{Reads};
 ghost use Rattle.pads_syntax_parts.specs.Parts.{spelling, label, labels};
 
 use pads_ast::{Label, Word};
 use pads_grammar::{Cursor, Kind, Reading};
+use pads_lex::{Keyword, Mark};
 use pads_syntax_expr::{name, opened, word};
 use pads_value::Items;
 use std::alloc::Global;
@@ -14,12 +14,12 @@ use std::alloc::Global;
 fn spelling(alloc: Global, cursor: &mut Cursor<'_>) -> Reading<Option<Word>>
     ensures reads { Reads (reads (optional spelling) cursor.old) result cursor.new }
 {
-    if !Kind::Pfrom.is(cursor.peek()) {
+    if !cursor.peek().is_keyword(Keyword::Pfrom) {
         return Ok(None);
     }
-    let _at = opened(cursor, Kind::Pfrom)?;
+    let _at = opened(cursor, Keyword::Pfrom)?;
     let spelling = word(alloc, cursor)?;
-    let _close = cursor.mark(Kind::CloseParen)?;
+    let _close = cursor.mark(Mark::CloseParen)?;
     Ok(Some(spelling))
 }
 
@@ -40,8 +40,8 @@ pub fn labels(alloc: Global, cursor: &mut Cursor<'_>) -> Reading<Items<Label>>
 {
     let mut labels = Items::new(alloc);
     labels.push(label(alloc, cursor)?)?;
-    'labels: while Kind::Comma.is(cursor.peek()) {
-        let _comma = cursor.mark(Kind::Comma)?;
+    'labels: while cursor.peek().is_mark(Mark::Comma) {
+        let _comma = cursor.mark(Mark::Comma)?;
         if !Kind::Name.is(cursor.peek()) {
             return Ok(labels);
         }

@@ -1,12 +1,11 @@
 ghost use Rattle.std.specs.Prelude.{◌≡◌};
-ghost use Rattle.pads_grammar.specs.declared.kind.Kind.TheVariants as kind;
 ghost use Rattle.pads_grammar.specs.Grammar.{reads, begins, optional, token};
 ghost use Rattle.pads_grammar.specs.Reads.{Reads};
-ghost use Rattle.pads_syntax_expr.specs.Leaves.{mark};
 ghost use Rattle.pads_syntax_parts.specs.Types.{expression, constraint};
 
 use pads_ast::Expr;
 use pads_grammar::{Cursor, Kind, Reading};
+use pads_lex::Mark;
 use pads_syntax_expr::{begins_expr, expr};
 use std::alloc::Global;
 
@@ -40,9 +39,9 @@ pub fn optional_expression(alloc: Global, cursor: &mut Cursor<'_>) -> Reading<Op
 pub fn constraint(alloc: Global, cursor: &mut Cursor<'_>) -> Reading<Option<Expr>>
     ensures reads { Reads (reads constraint cursor.old) result cursor.new }
 {
-    if !Kind::Colon.is(cursor.peek()) {
+    if !cursor.peek().is_mark(Mark::Colon) {
         return Ok(None);
     }
-    let _colon = cursor.mark(Kind::Colon)?;
+    let _colon = cursor.mark(Mark::Colon)?;
     Ok(Some(expression(alloc, cursor)?))
 }

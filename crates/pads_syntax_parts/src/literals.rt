@@ -1,4 +1,5 @@
 ghost use Rattle.std.specs.Prelude.{◌≡◌};
+ghost use Rattle.pads_lex.specs.declared.token.Keyword.TheVariants.{Peor};
 ghost use Rattle.pads_grammar.specs.declared.kind.Kind.TheVariants as kind;
 ghost use Rattle.pads_grammar.specs.Grammar.{reads, begins, apply, token};
 ghost use Rattle.pads_grammar.specs.Reads.{Reads};
@@ -10,6 +11,7 @@ ghost use Rattle.pads_syntax_parts.specs.Types.{literal, number_const, constant,
 use crate::marks::optional_mark;
 use pads_ast::{Const, Literal};
 use pads_grammar::{Cursor, Kind, Reading};
+use pads_lex::{Keyword, Mark};
 use pads_syntax_expr::{number, word};
 use std::alloc::Global;
 
@@ -27,9 +29,9 @@ pub fn literal(alloc: Global, cursor: &mut Cursor<'_>) -> Reading<Literal>
 }
 
 fn record_end(cursor: &mut Cursor<'_>) -> Reading<Literal>
-    ensures reads { Reads (reads (token kind.Peor (λ t. literal_form.Peor t.begin)) cursor.old) result cursor.new }
+    ensures reads { Reads (reads (token (kind.Keyword Peor) (λ t. literal_form.Peor t.begin)) cursor.old) result cursor.new }
 {
-    let at = cursor.mark(Kind::Peor)?;
+    let at = cursor.keyword(Keyword::Peor)?;
     Ok(Literal::Peor { at })
 }
 
@@ -37,7 +39,7 @@ fn record_end(cursor: &mut Cursor<'_>) -> Reading<Literal>
 fn number_const(cursor: &mut Cursor<'_>) -> Reading<Const>
     ensures reads { Reads (reads number_const cursor.old) result cursor.new }
 {
-    let sign = optional_mark(cursor, Kind::Minus)?;
+    let sign = optional_mark(cursor, Mark::Minus)?;
     let (value, place) = number(cursor)?;
     Ok(Const::Number {
         negative: is_negative(sign),
@@ -74,7 +76,7 @@ pub fn constant(alloc: Global, cursor: &mut Cursor<'_>) -> Reading<Const>
     ensures reads { Reads (reads constant cursor.old) result cursor.new }
 {
     let next = cursor.peek();
-    if Kind::Minus.is(next) || Kind::Number.is(next) {
+    if next.is_mark(Mark::Minus) || Kind::Number.is(next) {
         number_const(cursor)
     } else {
         word_const(alloc, cursor)

@@ -1,5 +1,4 @@
 ghost use Rattle.std.specs.Prelude.{◌≡◌};
-ghost use Rattle.pads_grammar.specs.declared.kind.Kind.TheVariants as kind;
 ghost use Rattle.pads_grammar.specs.Grammar.{reads, begins, optional, many, apply};
 ghost use Rattle.pads_grammar.specs.Reads.{Reads};
 ghost use Rattle.pads_ast.specs.declared.decl.Part.TheVariants as part_form;
@@ -12,6 +11,7 @@ use crate::marks::{optional_mark, with_mark};
 use crate::types::{branch, type_use};
 use pads_ast::{Expr, Name, Part, Type};
 use pads_grammar::{Cursor, Kind, Reading};
+use pads_lex::{Keyword, Mark};
 use pads_syntax_expr::name;
 use pads_value::Items;
 use std::alloc::Global;
@@ -20,7 +20,7 @@ fn literal_part(alloc: Global, cursor: &mut Cursor<'_>) -> Reading<Part>
     ensures reads { Reads (reads literal_part cursor.old) result cursor.new }
 {
     let literal = literal(alloc, cursor)?;
-    let _end = cursor.mark(Kind::Semicolon)?;
+    let _end = cursor.mark(Mark::Semicolon)?;
     Ok(Part::Literal(literal))
 }
 
@@ -28,10 +28,10 @@ fn literal_part(alloc: Global, cursor: &mut Cursor<'_>) -> Reading<Part>
 fn computed_name(alloc: Global, cursor: &mut Cursor<'_>) -> Reading<(Type, Name)>
     ensures reads { Reads (reads computed_name cursor.old) result cursor.new }
 {
-    let _keyword = cursor.mark(Kind::Pcompute)?;
+    let _keyword = cursor.keyword(Keyword::Pcompute)?;
     let of = type_use(alloc, cursor)?;
     let name = name(alloc, cursor)?;
-    let _equals = cursor.mark(Kind::Equals)?;
+    let _equals = cursor.mark(Mark::Equals)?;
     Ok((of, name))
 }
 
@@ -40,7 +40,7 @@ fn computed_part(alloc: Global, cursor: &mut Cursor<'_>) -> Reading<Part>
 {
     let (of, name) = computed_name(alloc, cursor)?;
     let value = expression(alloc, cursor)?;
-    let (value, _end) = with_mark(value, cursor, Kind::Semicolon)?;
+    let (value, _end) = with_mark(value, cursor, Mark::Semicolon)?;
     Ok(Part::Pcompute { of, name, value })
 }
 
@@ -55,7 +55,7 @@ fn field(alloc: Global, cursor: &mut Cursor<'_>) -> Reading<Part>
 fn begins_literal(kind: Kind) -> bool
     ensures begins { result ≡ begins literal kind }
 {
-    Kind::Char.is(kind) || Kind::Text.is(kind) || Kind::Peor.is(kind)
+    Kind::Char.is(kind) || Kind::Text.is(kind) || kind.is_keyword(Keyword::Peor)
 }
 
 #[tactic(auto, using(crate::proofs::PartLaws::part_laws))]
@@ -65,7 +65,7 @@ fn part(alloc: Global, cursor: &mut Cursor<'_>) -> Reading<Part>
     let next = cursor.peek();
     if begins_literal(next) {
         literal_part(alloc, cursor)
-    } else if Kind::Pcompute.is(next) {
+    } else if next.is_keyword(Keyword::Pcompute) {
         computed_part(alloc, cursor)
     } else {
         field(alloc, cursor)
@@ -79,9 +79,9 @@ fn begins_part(kind: Kind) -> bool
 {
     Kind::Char.is(kind)
         || Kind::Text.is(kind)
-        || Kind::Peor.is(kind)
-        || Kind::Pcompute.is(kind)
-        || Kind::Popt.is(kind)
+        || kind.is_keyword(Keyword::Peor)
+        || kind.is_keyword(Keyword::Pcompute)
+        || kind.is_keyword(Keyword::Popt)
         || Kind::Name.is(kind)
 }
 
@@ -102,7 +102,7 @@ pub fn parts(alloc: Global, cursor: &mut Cursor<'_>) -> Reading<Items<Part>>
 pub fn optional_condition(alloc: Global, cursor: &mut Cursor<'_>) -> Reading<Option<Expr>>
     ensures reads { Reads (reads (optional condition) cursor.old) result cursor.new }
 {
-    if !Kind::Pwhere.is(cursor.peek()) {
+    if !cursor.peek().is_keyword(Keyword::Pwhere) {
         return Ok(None);
     }
     Ok(Some(condition(alloc, cursor)?))
@@ -112,10 +112,10 @@ pub fn optional_condition(alloc: Global, cursor: &mut Cursor<'_>) -> Reading<Opt
 fn condition(alloc: Global, cursor: &mut Cursor<'_>) -> Reading<Expr>
     ensures reads { Reads (reads condition cursor.old) result cursor.new }
 {
-    let _keyword = cursor.mark(Kind::Pwhere)?;
-    let _open = cursor.mark(Kind::OpenBrace)?;
+    let _keyword = cursor.keyword(Keyword::Pwhere)?;
+    let _open = cursor.mark(Mark::OpenBrace)?;
     let condition = expression(alloc, cursor)?;
-    let _end = optional_mark(cursor, Kind::Semicolon)?;
-    let (condition, _close) = with_mark(condition, cursor, Kind::CloseBrace)?;
+    let _end = optional_mark(cursor, Mark::Semicolon)?;
+    let (condition, _close) = with_mark(condition, cursor, Mark::CloseBrace)?;
     Ok(condition)
 }

@@ -1,5 +1,4 @@
 ghost use Rattle.std.specs.Prelude.{◌≡◌};
-ghost use Rattle.pads_grammar.specs.declared.kind.Kind.TheVariants as kind;
 ghost use Rattle.pads_grammar.specs.Grammar.{reads, begins, optional};
 ghost use Rattle.pads_grammar.specs.Reads.{Reads};
 ghost use Rattle.pads_syntax_parts.specs.Parts.{refined_names, refinement};
@@ -7,7 +6,8 @@ ghost use Rattle.pads_syntax_parts.specs.Parts.{refined_names, refinement};
 use crate::expressions::expression;
 use crate::marks::with_mark;
 use pads_ast::{Constraint, Name};
-use pads_grammar::{Cursor, Kind, Reading};
+use pads_grammar::{Cursor, Reading};
+use pads_lex::Mark;
 use pads_syntax_expr::name;
 use std::alloc::Global;
 
@@ -15,11 +15,11 @@ use std::alloc::Global;
 fn refined_names(alloc: Global, cursor: &mut Cursor<'_>) -> Reading<(Name, Name)>
     ensures reads { Reads (reads refined_names cursor.old) result cursor.new }
 {
-    let _colon = cursor.mark(Kind::Colon)?;
+    let _colon = cursor.mark(Mark::Colon)?;
     let of = name(alloc, cursor)?;
     let variable = name(alloc, cursor)?;
-    let _arrow = cursor.mark(Kind::Arrow)?;
-    let _open = cursor.mark(Kind::OpenBrace)?;
+    let _arrow = cursor.mark(Mark::Arrow)?;
+    let _open = cursor.mark(Mark::OpenBrace)?;
     Ok((of, variable))
 }
 
@@ -29,7 +29,7 @@ fn refinement(alloc: Global, cursor: &mut Cursor<'_>) -> Reading<Constraint>
 {
     let (name, variable) = refined_names(alloc, cursor)?;
     let condition = expression(alloc, cursor)?;
-    let (condition, _close) = with_mark(condition, cursor, Kind::CloseBrace)?;
+    let (condition, _close) = with_mark(condition, cursor, Mark::CloseBrace)?;
     Ok(Constraint {
         name,
         variable,
@@ -42,7 +42,7 @@ fn refinement(alloc: Global, cursor: &mut Cursor<'_>) -> Reading<Constraint>
 pub fn optional_refinement(alloc: Global, cursor: &mut Cursor<'_>) -> Reading<Option<Constraint>>
     ensures reads { Reads (reads (optional refinement) cursor.old) result cursor.new }
 {
-    if !Kind::Colon.is(cursor.peek()) {
+    if !cursor.peek().is_mark(Mark::Colon) {
         return Ok(None);
     }
     Ok(Some(refinement(alloc, cursor)?))

@@ -1,16 +1,16 @@
 ghost use Rattle.std.specs.Prelude.{◌≡◌};
-ghost use Rattle.pads_grammar.specs.declared.kind.Kind.TheVariants as kind;
-ghost use Rattle.pads_grammar.specs.Grammar.{reads, begins, optional, token, apply, ◌*>◌};
+ghost use Rattle.pads_lex.specs.declared.token.Mark.TheVariants.{Comma};
+ghost use Rattle.pads_grammar.specs.Grammar.{reads, begins, optional, token, apply, ◌*>◌, mark};
 ghost use Rattle.pads_grammar.specs.Lists.{listed};
 ghost use Rattle.pads_grammar.specs.Reads.{Reads};
 ghost use Rattle.pads_ast.specs.declared.types.Arg.TheVariants as arg_form;
-ghost use Rattle.pads_syntax_expr.specs.Leaves.{mark};
 ghost use Rattle.pads_syntax_parts.specs.Types.{arg, args, type_use, param, params, branch};
 
 use crate::expressions::{constraint, expression};
-use crate::marks::{optional_mark, with_mark};
+use crate::marks::{optional_keyword, with_mark};
 use pads_ast::{Arg, Branch, Param, Params, Type};
-use pads_grammar::{Cursor, Kind, Reading};
+use pads_grammar::{Cursor, Reading};
+use pads_lex::{Keyword, Mark};
 use pads_syntax_expr::name;
 use pads_value::Items;
 use std::alloc::Global;
@@ -19,8 +19,8 @@ use std::alloc::Global;
 fn arg(alloc: Global, cursor: &mut Cursor<'_>) -> Reading<Arg>
     ensures reads { Reads (reads arg cursor.old) result cursor.new }
 {
-    if Kind::Peor.is(cursor.peek()) {
-        let at = cursor.mark(Kind::Peor)?;
+    if cursor.peek().is_keyword(Keyword::Peor) {
+        let at = cursor.keyword(Keyword::Peor)?;
         return Ok(Arg::Peor { at });
     }
     Ok(Arg::Expr(expression(alloc, cursor)?))
@@ -28,20 +28,20 @@ fn arg(alloc: Global, cursor: &mut Cursor<'_>) -> Reading<Arg>
 
 /// A comma, and an argument behind it.
 fn next_arg(alloc: Global, cursor: &mut Cursor<'_>) -> Reading<Arg>
-    ensures reads { Reads (reads (mark kind.Comma *> arg) cursor.old) result cursor.new }
+    ensures reads { Reads (reads (mark Comma *> arg) cursor.old) result cursor.new }
 {
-    let _comma = cursor.mark(Kind::Comma)?;
+    let _comma = cursor.mark(Mark::Comma)?;
     arg(alloc, cursor)
 }
 
 /// One argument or more.
 #[tactic(auto, using(crate::proofs::TypeLoops::arg_loop))]
 fn arg_list(alloc: Global, cursor: &mut Cursor<'_>) -> Reading<Items<Arg>>
-    ensures reads { Reads (reads (listed kind.Comma arg) cursor.old) result cursor.new }
+    ensures reads { Reads (reads (listed Comma arg) cursor.old) result cursor.new }
 {
     let mut args = Items::new(alloc);
     args.push(arg(alloc, cursor)?)?;
-    'more: while Kind::Comma.is(cursor.peek()) {
+    'more: while cursor.peek().is_mark(Mark::Comma) {
         args.push(next_arg(alloc, cursor)?)?;
     }
     Ok(args)
@@ -51,12 +51,12 @@ fn arg_list(alloc: Global, cursor: &mut Cursor<'_>) -> Reading<Items<Arg>>
 fn args(alloc: Global, cursor: &mut Cursor<'_>) -> Reading<Option<Items<Arg>>>
     ensures reads { Reads (reads (optional args) cursor.old) result cursor.new }
 {
-    if !Kind::OpenParams.is(cursor.peek()) {
+    if !cursor.peek().is_mark(Mark::OpenParams) {
         return Ok(None);
     }
-    let _open = cursor.mark(Kind::OpenParams)?;
+    let _open = cursor.mark(Mark::OpenParams)?;
     let args = arg_list(alloc, cursor)?;
-    let _close = cursor.mark(Kind::CloseParams)?;
+    let _close = cursor.mark(Mark::CloseParams)?;
     Ok(Some(args))
 }
 
@@ -65,7 +65,7 @@ fn args(alloc: Global, cursor: &mut Cursor<'_>) -> Reading<Option<Items<Arg>>>
 pub fn type_use(alloc: Global, cursor: &mut Cursor<'_>) -> Reading<Type>
     ensures reads { Reads (reads type_use cursor.old) result cursor.new }
 {
-    let optional = optional_mark(cursor, Kind::Popt)?;
+    let optional = optional_keyword(cursor, Keyword::Popt)?;
     let name = name(alloc, cursor)?;
     let args = args(alloc, cursor)?;
     Ok(Type {
@@ -86,20 +86,20 @@ fn param(alloc: Global, cursor: &mut Cursor<'_>) -> Reading<Param>
 
 /// A comma, and a parameter behind it.
 fn next_param(alloc: Global, cursor: &mut Cursor<'_>) -> Reading<Param>
-    ensures reads { Reads (reads (mark kind.Comma *> param) cursor.old) result cursor.new }
+    ensures reads { Reads (reads (mark Comma *> param) cursor.old) result cursor.new }
 {
-    let _comma = cursor.mark(Kind::Comma)?;
+    let _comma = cursor.mark(Mark::Comma)?;
     param(alloc, cursor)
 }
 
 /// One parameter or more.
 #[tactic(auto, using(crate::proofs::TypeLoops::param_loop))]
 fn param_list(alloc: Global, cursor: &mut Cursor<'_>) -> Reading<Items<Param>>
-    ensures reads { Reads (reads (listed kind.Comma param) cursor.old) result cursor.new }
+    ensures reads { Reads (reads (listed Comma param) cursor.old) result cursor.new }
 {
     let mut params = Items::new(alloc);
     params.push(param(alloc, cursor)?)?;
-    'more: while Kind::Comma.is(cursor.peek()) {
+    'more: while cursor.peek().is_mark(Mark::Comma) {
         params.push(next_param(alloc, cursor)?)?;
     }
     Ok(params)
@@ -109,12 +109,12 @@ fn param_list(alloc: Global, cursor: &mut Cursor<'_>) -> Reading<Items<Param>>
 pub fn params(alloc: Global, cursor: &mut Cursor<'_>) -> Reading<Params>
     ensures reads { Reads (reads (optional params) cursor.old) result cursor.new }
 {
-    if !Kind::OpenParams.is(cursor.peek()) {
+    if !cursor.peek().is_mark(Mark::OpenParams) {
         return Ok(None);
     }
-    let _open = cursor.mark(Kind::OpenParams)?;
+    let _open = cursor.mark(Mark::OpenParams)?;
     let params = param_list(alloc, cursor)?;
-    let _close = cursor.mark(Kind::CloseParams)?;
+    let _close = cursor.mark(Mark::CloseParams)?;
     Ok(Some(params))
 }
 
@@ -126,7 +126,7 @@ pub fn branch(alloc: Global, cursor: &mut Cursor<'_>) -> Reading<Branch>
     let of = type_use(alloc, cursor)?;
     let name = name(alloc, cursor)?;
     let constraint = constraint(alloc, cursor)?;
-    let (constraint, _end) = with_mark(constraint, cursor, Kind::Semicolon)?;
+    let (constraint, _end) = with_mark(constraint, cursor, Mark::Semicolon)?;
     Ok(Branch {
         of,
         name,

@@ -6,6 +6,7 @@ ghost use Rattle.pads_syntax_parts.specs.Types.{branch};
 use crate::types::branch;
 use pads_ast::Branch;
 use pads_grammar::{Cursor, Kind, Reading};
+use pads_lex::Keyword;
 use pads_value::Items;
 use std::alloc::Global;
 
@@ -14,7 +15,7 @@ use std::alloc::Global;
 fn begins_branch(kind: Kind) -> bool
     ensures begins { result ≡ begins branch kind }
 {
-    Kind::Popt.is(kind) || Kind::Name.is(kind)
+    kind.is_keyword(Keyword::Popt) || Kind::Name.is(kind)
 }
 
 /// Any number of branches.
