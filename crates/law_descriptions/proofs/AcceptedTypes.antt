@@ -1,5 +1,5 @@
 -- The sorts of types and declarations of a description without violations.
-use Rattle.std.proofs.Common.{◌≡◌, ◌∙◌, sym, ap, refl, subst, arith, ℕ, zero, suc, ◌+◌, ◌*◌, ◌-◌, ◌^◌, min, ◌<◌, ◌≤◌, Bool, true, false, not, ◌&&◌, ◌||◌, ◌==◌, if◌then◌else◌, nat_le, nat_lt, List, [], ◌∷◌, map, length, take, position, Option, Some, None, option_and_then, unwrap_or, is_some, slice_get, eqb-true, leb-false}
+use Rattle.std.proofs.Common.{◌≡◌, ◌∙◌, sym, ap, refl, subst, arith, ◌⊎◌, inl, inr, ⊎_elim, ℕ, zero, suc, ◌+◌, ◌*◌, ◌-◌, ◌^◌, min, ◌<◌, ◌≤◌, Bool, true, false, not, ◌&&◌, ◌||◌, ◌==◌, if◌then◌else◌, nat_le, nat_lt, List, [], ◌∷◌, map, length, take, position, Option, Some, None, option_and_then, unwrap_or, is_some, slice_get, eqb-true, leb-false}
 use Rattle.std.specs.Prelude.{⊤}
 use Rattle.std.proofs.lemmas.Bool.{or_parts}
 use Rattle.pads_ast.specs.declared.decl.Ast.{Ast}
@@ -23,7 +23,7 @@ use Rattle.pads_resolution.specs.Expressions.{sort_known}
 use Rattle.pads_resolution.specs.Numbers.{short, declared_number}
 use Rattle.pads_resolution.specs.Resolution.{role_of, params_scope as made_params, decl_at}
 use Rattle.pads_resolution.specs.Scopes.{NameScope as Names}
-use Rattle.pads_resolution.specs.Types.{is_end, base_type_of, declared_type, type_name_of, named_type, type_at}
+use Rattle.pads_resolution.specs.Types.{declared_type, type_name_of, named_type, type_at}
 use Rattle.pads_rules.specs.DeclRules.{part_count, scope_count, token_count, decl_name}
 use Rattle.pads_rules.specs.Faults.{breaks, when}
 use Rattle.pads_rules.specs.Judging.{Scope as Judging}
@@ -33,7 +33,7 @@ use Rattle.pads_rules.specs.Pieces.{Site, sites, Used, Computed, OfParam, body_p
 use Rattle.pads_rules.specs.Resolving.{Base, Earlier, declared_as, of_declared, unless_base, meaning, meaning_sort, behind_popt, type_sort, is_precord_type, is_record_list_type, is_record_list_body, is_record_list, param_named, content_in, sort_in, declare, declared}
 use Rattle.pads_rules.specs.Sorts as rules
 use Rattle.pads_rules.specs.Texts.{same_text}
-use Rattle.pads_ast.specs.Trees.{args_of, params_of, is_precord, is_psource}
+use Rattle.pads_ast.specs.Trees.{params_of, is_precord, is_psource}
 use Rattle.pads_rules.specs.Violations.{violations}
 use Rattle.pads_rules.specs.declared.declared.Declared.{Declared}
 use Rattle.pads_rules.specs.declared.expr_sort.ExprSort.{ExprSort}
@@ -49,6 +49,18 @@ use Rattle.pads_rules.proofs.Faultless.{not-when}
 use Rattle.law_descriptions.proofs.Free.{Free, FreePiece, free-at}
 use Rattle.law_descriptions.proofs.AcceptedLists.{get-there, taken-there, length-taken, found-place}
 use Rattle.law_calculus.proofs.Bases.{there-below}
+
+-- a base type is a number or a text
+pub base-plain : (b : BaseName) → (rules.base_sort b ≡ expr_sort.Known sorts_of.num) ⊎ (rules.base_sort b ≡ expr_sort.Known sorts_of.text)
+base-plain (base.Int c kind) = inl refl
+base-plain (base.IntFw c kind) = inl refl
+base-plain (base.Bin kind) = inl refl
+base-plain (base.SizedBin order kind) = inl refl
+base-plain (base.Until c) = inr refl
+base-plain (base.Fixed c) = inr refl
+base-plain (base.Class c) = inr refl
+base-plain (base.Char c) = inr refl
+base-plain (base.Ip c) = inl refl
 
 neither : (u l : Bool) → (u && not l) ≡ false → (u && l) ≡ false → u ≡ false
 neither true true a b = b
@@ -228,15 +240,7 @@ module _ (tree : Ast) (none : violations tree ≡ []) where
   wider a b sort less h = let bound = h.3 in (h.0, h.1, h.2, omega arith)
 
   base-settled : (bound : ℕ) (b : BaseName) → Settled bound (rules.base_sort b)
-  base-settled bound (base.Int c kind) = (sorts_of.num, refl, tt, omega arith)
-  base-settled bound (base.IntFw c kind) = (sorts_of.num, refl, tt, omega arith)
-  base-settled bound (base.Bin kind) = (sorts_of.num, refl, tt, omega arith)
-  base-settled bound (base.SizedBin order kind) = (sorts_of.num, refl, tt, omega arith)
-  base-settled bound (base.Until c) = (sorts_of.text, refl, tt, omega arith)
-  base-settled bound (base.Fixed c) = (sorts_of.text, refl, tt, omega arith)
-  base-settled bound (base.Class c) = (sorts_of.text, refl, tt, omega arith)
-  base-settled bound (base.Char c) = (sorts_of.text, refl, tt, omega arith)
-  base-settled bound (base.Ip c) = (sorts_of.num, refl, tt, omega arith)
+  base-settled bound b = ⊎_elim (λ is. (sorts_of.num, is, tt, omega arith)) (λ is. (sorts_of.text, is, tt, omega arith)) (base-plain b)
 
   optional-settled : (bound : ℕ) (sort : ExprSort) → Settled bound sort → Settled (bound + 1) (rules.optional sort)
   optional-settled bound sort h =
@@ -324,24 +328,15 @@ module _ (tree : Ast) (none : violations tree ≡ []) where
   pub decl-settled : (n : ℕ) (d : WrittenDecl) → slice_get decls n ≡ Some d → IsReadAt decls n d → Settled (2 * n + 2) (sort_in (take n env) d.body)
   decl-settled n d there reads = all-before (n + 1) n d (omega arith) there reads
 
-  -- the sort of a type of the resolved tree is the one that the rules know
-  base-same : (to_end : Bool) (b : BaseName) → rules.base_sort b ≡ expr_sort.Known (sorts_of.base_sort (base_type_of to_end b))
-  base-same to_end (base.Int c kind) = refl
-  base-same to_end (base.IntFw c kind) = refl
-  base-same to_end (base.Bin kind) = refl
-  base-same to_end (base.SizedBin order kind) = refl
-  base-same true (base.Until c) = refl
-  base-same false (base.Until c) = refl
-  base-same to_end (base.Fixed c) = refl
-  base-same to_end (base.Class c) = refl
-  base-same to_end (base.Char c) = refl
-  base-same to_end (base.Ip c) = refl
-
   pub sort-here : (n : ℕ) (d : WrittenDecl) → slice_get decls n ≡ Some d → slice_get sorts n ≡ Some (sort_known (sort_in (take n env) d.body))
   sort-here n d there = there-mapped (λ (x : Declared). sort_known x.sort) env n (declare (take n env) d) (env-at decls n d there)
 
   known-sort : (bound : ℕ) (sort : ExprSort) → Settled bound sort → sort ≡ expr_sort.Known (sort_known sort)
   known-sort bound sort h = h.1 ∙ ap (λ s. expr_sort.Known (sort_known s)) (sym h.1)
+
+  -- the sort of a type of the resolved tree is the one that the rules know
+  base-same : (b : BaseName) → rules.base_sort b ≡ expr_sort.Known (sorts_of.base_sort b)
+  base-same b = known-sort 0 (rules.base_sort b) (base-settled 0 b)
 
   pub short-is : (k : ℕ) → k < 4096 → short k ≡ k
   short-is k less = omega arith
@@ -350,8 +345,8 @@ module _ (tree : Ast) (none : violations tree ≡ []) where
       → meaning_sort (meaning (take n env) t.name.text) ≡ expr_sort.Known (sorts_of.named_sort sorts (named_type (take n env) t))
   unfolding named_type
   name-same n d t there (base-named b is) list =
-      ap meaning_sort (meaning-base (take n env) t.name.text b is) ∙ base-same (is_end (args_of t)) b
-      ∙ ap (λ o. expr_sort.Known (sorts_of.named_sort sorts (type_name_of (is_end (args_of t)) o (declared_number (take n env) t.name.text)))) (sym is)
+      ap meaning_sort (meaning-base (take n env) t.name.text b is) ∙ base-same b
+      ∙ ap (λ o. expr_sort.Known (sorts_of.named_sort sorts (type_name_of o (declared_number (take n env) t.name.text)))) (sym is)
   name-same n d t there (earlier-named k e none_base less named found place) list =
       let reads = earlier-read n k d e t.name.text there named less none_base found list in
       let number = short-is k (few k e named) in
@@ -360,7 +355,7 @@ module _ (tree : Ast) (none : violations tree ≡ []) where
       ∙ ap (λ o. expr_sort.Known (unwrap_or o sorts_of.num)) (sym (sort-here k e named))
       ∙ ap (λ k. expr_sort.Known (unwrap_or (slice_get sorts k) sorts_of.num)) (sym number)
       ∙ ap (λ o. expr_sort.Known (sorts_of.named_sort sorts (declared_type o))) (sym place)
-      ∙ ap (λ o. expr_sort.Known (sorts_of.named_sort sorts (type_name_of (is_end (args_of t)) o (declared_number (take n env) t.name.text)))) (sym none_base)
+      ∙ ap (λ o. expr_sort.Known (sorts_of.named_sort sorts (type_name_of o (declared_number (take n env) t.name.text)))) (sym none_base)
 
   pub optional-same : (o : ℕ) → o ≤ 8192 → min (o + 1) (2 ^ 64 - 1) ≡ suc o
   optional-same o within = omega arith

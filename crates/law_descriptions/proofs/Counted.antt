@@ -15,8 +15,8 @@ use Rattle.pads_dispatch.specs.Labels.{labels_fit}
 use Rattle.pads_dispatch.specs.declared.base.Base.TheVariants as base
 use Rattle.pads_expr.specs.declared.expr.Expr.{Expr}
 use Rattle.pads_rules.specs.declared.sort.Sort.{Sort}
-use Rattle.pads_typed_tree.specs.declared.base_type.BaseType.{BaseType}
-use Rattle.pads_typed_tree.specs.declared.base_type.BaseType.TheVariants as base_type
+use Rattle.pads_base_names.specs.declared.meaning.BaseName.{BaseName}
+use Rattle.pads_base_names.specs.declared.meaning.BaseName.TheVariants as base_name
 use Rattle.pads_typed_tree.specs.declared.decl.Array.{Array}
 use Rattle.pads_typed_tree.specs.declared.decl.Case.{Case as CaseTree}
 use Rattle.pads_typed_tree.specs.declared.decl.Constraint.{Constraint}
@@ -56,19 +56,20 @@ module _ (names : List Name) (ambient : Coding) where
   abbrev Fits : Term → Type 0
   Fits t = counts_fit t ≡ true
 
-  base-labels : (b : BaseType) → labels_fit (base_of ambient b) ≡ true
-  base-labels (base_type.Int prefix kind) = refl
-  base-labels (base_type.IntFw prefix kind) = refl
-  base-labels (base_type.Bin order kind) = refl
-  base-labels (base_type.Until prefix) = refl
-  base-labels (base_type.UntilEor prefix) = refl
-  base-labels (base_type.Fixed prefix) = refl
-  base-labels (base_type.Class prefix) = refl
-  base-labels (base_type.Char prefix) = refl
-  base-labels (base_type.Ip prefix) = refl
+  base-labels : (b : BaseName) (args : List Expr) → labels_fit (base_of ambient b args) ≡ true
+  base-labels (base_name.Int prefix kind) args = refl
+  base-labels (base_name.IntFw prefix kind) args = refl
+  base-labels (base_name.Bin kind) args = refl
+  base-labels (base_name.SizedBin order kind) args = refl
+  base-labels (base_name.Until prefix) [] = refl
+  base-labels (base_name.Until prefix) (stop ∷ more) = refl
+  base-labels (base_name.Fixed prefix) args = refl
+  base-labels (base_name.Class prefix) args = refl
+  base-labels (base_name.Char prefix) args = refl
+  base-labels (base_name.Ip prefix) args = refl
 
   named-fits : (name : TypeName) (args : List Expr) → Fits (named_type ambient name args)
-  named-fits (type_name.Base b) args = counts-Base (base_of ambient b) args ∙ base-labels b
+  named-fits (type_name.Base b) args = counts-Base (base_of ambient b args) args ∙ base-labels b args
   named-fits (type_name.Declared n) args = counts-Call n args
 
   optional-fits : (inner : Term) → Fits inner → Fits (optional names inner)

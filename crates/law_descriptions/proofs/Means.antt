@@ -13,8 +13,8 @@ use Rattle.pads_expr.specs.declared.expr.Expr.{Expr}
 use Rattle.pads_rules.specs.declared.sort.Form.{Form}
 use Rattle.pads_rules.specs.declared.sort.Form.TheVariants as form
 use Rattle.pads_rules.specs.declared.sort.Sort.{Sort}
-use Rattle.pads_typed_tree.specs.declared.base_type.BaseType.{BaseType}
-use Rattle.pads_typed_tree.specs.declared.base_type.BaseType.TheVariants as base_type
+use Rattle.pads_base_names.specs.declared.meaning.BaseName.{BaseName}
+use Rattle.pads_base_names.specs.declared.meaning.BaseName.TheVariants as base_name
 use Rattle.pads_typed_tree.specs.declared.decl.Array.{Array as ArrayTree}
 use Rattle.pads_typed_tree.specs.declared.decl.Case.{Case as CaseTree}
 use Rattle.pads_typed_tree.specs.declared.decl.Constraint.{Constraint}
@@ -135,21 +135,22 @@ module _ (declared : List TermSort) where
       abbrev pub ReadMeans : ℕ → Type 0
       ReadMeans n = (d : DeclTree) → slice_get decls n ≡ Some d → if_read d.role d.body ≡ Some d.body → DeclMeans n
 
-      base-means : (b : BaseType) → Means (sorts_of.base_sort b) (base_sort (base_of ambient b))
-      base-means (base_type.Int prefix kind) = refl
-      base-means (base_type.IntFw prefix kind) = refl
-      base-means (base_type.Bin order kind) = refl
-      base-means (base_type.Until prefix) = refl
-      base-means (base_type.UntilEor prefix) = refl
-      base-means (base_type.Fixed prefix) = refl
-      base-means (base_type.Class prefix) = refl
-      base-means (base_type.Char prefix) = refl
-      base-means (base_type.Ip prefix) = refl
+      base-means : (b : BaseName) (args : List Expr) → Means (sorts_of.base_sort b) (base_sort (base_of ambient b args))
+      base-means (base_name.Int prefix kind) args = refl
+      base-means (base_name.IntFw prefix kind) args = refl
+      base-means (base_name.Bin kind) args = refl
+      base-means (base_name.SizedBin order kind) args = refl
+      base-means (base_name.Until prefix) [] = refl
+      base-means (base_name.Until prefix) (stop ∷ more) = refl
+      base-means (base_name.Fixed prefix) args = refl
+      base-means (base_name.Class prefix) args = refl
+      base-means (base_name.Char prefix) args = refl
+      base-means (base_name.Ip prefix) args = refl
 
       named-means : (number : ℕ) → ((n : ℕ) → n < number → ReadMeans n) → (scope : SortScope) (given : List ExprTree) (args : List Expr) (name : TypeName) → IsNamed decls sorts number scope given name
           → Means (named_sort sorts name) (sort_of declared (named_type ambient name args))
       named-means number before scope given args (type_name.Base b) h =
-          subst (Means (sorts_of.base_sort b)) (sym (sort-by (term.Base (base_of ambient b) args) (Term-F.Base (base_of ambient b) args) (out-Base (base_of ambient b) args))) (base-means b)
+          subst (Means (sorts_of.base_sort b)) (sym (sort-by (term.Base (base_of ambient b args) args) (Term-F.Base (base_of ambient b args) args) (out-Base (base_of ambient b args) args))) (base-means b args)
       named-means number before scope given args (type_name.Declared n) h =
           subst (Means (unwrap_or (slice_get sorts n) num)) (sym (sort-by (term.Call n args) (Term-F.Call n args) (out-Call n args))) (before n h.0 h.1 h.2 h.3)
 

@@ -7,8 +7,8 @@ use Rattle.pads_code.specs.declared.Coding.{Coding}
 use Rattle.pads_dispatch.specs.declared.base.Base.TheVariants as base
 use Rattle.pads_expr.specs.declared.expr.Expr.{Expr}
 use Rattle.pads_rules.specs.declared.sort.Sort.{Sort}
-use Rattle.pads_typed_tree.specs.declared.base_type.BaseType.{BaseType}
-use Rattle.pads_typed_tree.specs.declared.base_type.BaseType.TheVariants as base_type
+use Rattle.pads_base_names.specs.declared.meaning.BaseName.{BaseName}
+use Rattle.pads_base_names.specs.declared.meaning.BaseName.TheVariants as base_name
 use Rattle.pads_typed_tree.specs.declared.decl.Array.{Array}
 use Rattle.pads_typed_tree.specs.declared.decl.Case.{Case as CaseTree}
 use Rattle.pads_typed_tree.specs.declared.decl.Constraint.{Constraint}
@@ -51,19 +51,20 @@ module _ (names : List Name) (ambient : Coding) (decls : List DeclTree) (sorts :
   unit-plain = plain-as number term.Unit Term-F.Unit out-Unit tt tt
 
   -- types
-  base-labels : (b : BaseType) → HasPlainLabels (base_of ambient b)
-  base-labels (base_type.Int prefix kind) = tt
-  base-labels (base_type.IntFw prefix kind) = tt
-  base-labels (base_type.Bin order kind) = tt
-  base-labels (base_type.Until prefix) = tt
-  base-labels (base_type.UntilEor prefix) = tt
-  base-labels (base_type.Fixed prefix) = tt
-  base-labels (base_type.Class prefix) = tt
-  base-labels (base_type.Char prefix) = tt
-  base-labels (base_type.Ip prefix) = tt
+  base-labels : (b : BaseName) (args : List Expr) → HasPlainLabels (base_of ambient b args)
+  base-labels (base_name.Int prefix kind) args = tt
+  base-labels (base_name.IntFw prefix kind) args = tt
+  base-labels (base_name.Bin kind) args = tt
+  base-labels (base_name.SizedBin order kind) args = tt
+  base-labels (base_name.Until prefix) [] = tt
+  base-labels (base_name.Until prefix) (stop ∷ more) = tt
+  base-labels (base_name.Fixed prefix) args = tt
+  base-labels (base_name.Class prefix) args = tt
+  base-labels (base_name.Char prefix) args = tt
+  base-labels (base_name.Ip prefix) args = tt
 
   named-plain : (scope : SortScope) (given : List ExprTree) (args : List Expr) (name : TypeName) → IsNamed decls sorts number scope given name → IsPlainTerm (named_type ambient name args)
-  named-plain scope given args (type_name.Base b) h = plain-as number (term.Base (base_of ambient b) args) (Term-F.Base (base_of ambient b) args) (out-Base (base_of ambient b) args) (base-labels b) tt
+  named-plain scope given args (type_name.Base b) h = plain-as number (term.Base (base_of ambient b args) args) (Term-F.Base (base_of ambient b args) args) (out-Base (base_of ambient b args) args) (base-labels b args) tt
   named-plain scope given args (type_name.Declared n) h = plain-as number (term.Call n args) (Term-F.Call n args) (out-Call n args) h.0 tt
 
   optional-plain : (inner : Term) → IsPlainTerm inner → IsPlainTerm (optional names inner)

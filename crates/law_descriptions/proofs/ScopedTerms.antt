@@ -15,8 +15,9 @@ use Rattle.pads_code.specs.declared.Coding.{Coding}
 use Rattle.pads_dispatch.specs.declared.base.Base.TheVariants as base
 use Rattle.pads_rules.specs.declared.sort.Form.TheVariants as form
 use Rattle.pads_rules.specs.declared.sort.Sort.{Sort}
-use Rattle.pads_typed_tree.specs.declared.base_type.BaseType.{BaseType}
-use Rattle.pads_typed_tree.specs.declared.base_type.BaseType.TheVariants as base_type
+use Rattle.pads_base_names.specs.Names.{takes}
+use Rattle.pads_base_names.specs.declared.meaning.Takes.{Takes}
+use Rattle.pads_base_names.specs.declared.meaning.Takes.TheVariants as takes_form
 use Rattle.pads_typed_tree.specs.declared.decl.Array.{Array}
 use Rattle.pads_typed_tree.specs.declared.decl.ArrayOption.{ArrayOption}
 use Rattle.pads_typed_tree.specs.declared.decl.ArrayOption.TheVariants as option
@@ -47,23 +48,19 @@ use Rattle.pads_trans_expr.specs.Met.{Met, in_expr, in_option, in_type, in_branc
 use Rattle.pads_trans_expr.specs.Names.{Name, at_sign, some_name, none_name, number_of}
 use Rattle.law_descriptions.specs.Expressions.{SortScope, if_read, if_default}
 use Rattle.law_descriptions.specs.Sorts.{plain, num, computed_sort, type_sort}
-use Rattle.law_descriptions.specs.WellSorted.{Each, IfThere, Takes, HaveSorts, IsTruth, IsNumber, IsConstraint, IsNamed, IsType, IsBranch, IsPart, behind, AreParts, IsStruct, Chooses, IsUnion, IsOption, IsArray, IsBody, IsDecl, params_scope, param_sorts}
+use Rattle.law_descriptions.specs.WellSorted.{Each, IfThere, AreTaken, HaveSorts, IsTruth, IsNumber, IsConstraint, IsNamed, IsType, IsBranch, IsPart, behind, AreParts, IsStruct, Chooses, IsUnion, IsOption, IsArray, IsBody, IsDecl, params_scope, param_sorts}
 use Rattle.law_descriptions.proofs.Lists.{each-left, each-right, each-weaker, there-mapped}
 use Rattle.law_descriptions.proofs.SortedNames.{Known, number-below}
 use Rattle.law_descriptions.proofs.Options.{first-holds}
 use Rattle.law_descriptions.proofs.Scoped.{Covers, covers-also, covers-more, scoped}
 
 -- the arguments of a base type have some sorts
-pub takes-some : (b : BaseType) (Given : List Sort → Type 0) → Takes b Given → (wanted : List Sort) × Given wanted
-takes-some (base_type.Int prefix kind) Given h = (_, h)
-takes-some (base_type.IntFw prefix kind) Given h = (_, h)
-takes-some (base_type.Bin order kind) Given h = ⊎_elim (λ none. (_, none)) (λ one. (_, one)) h
-takes-some (base_type.Until prefix) Given h = (_, h)
-takes-some (base_type.UntilEor prefix) Given h = (_, h)
-takes-some (base_type.Fixed prefix) Given h = (_, h)
-takes-some (base_type.Class prefix) Given h = (_, h)
-takes-some (base_type.Char prefix) Given h = (_, h)
-takes-some (base_type.Ip prefix) Given h = (_, h)
+pub takes-some : (t : Takes) (Given : List Sort → Type 0) → AreTaken t Given → (wanted : List Sort) × Given wanted
+takes-some takes_form.Nothing Given h = (_, h)
+takes-some takes_form.Number Given h = (_, h)
+takes-some takes_form.NumberOrNothing Given h = ⊎_elim (λ none. (_, none)) (λ one. (_, one)) h
+takes-some takes_form.Text Given h = (_, h)
+takes-some takes_form.TextOrEnd Given h = ⊎_elim (λ none. (_, none)) (λ one. (_, one)) h
 
 module _ (names : List Name) (ambient : Coding) (decls : List DeclTree) (sorts : List Sort) where
   abbrev arities : List ℕ
@@ -111,8 +108,8 @@ module _ (names : List Name) (ambient : Coding) (decls : List DeclTree) (sorts :
   named-scoped : (number : ℕ) (scope : SortScope) (bound : List ℕ) (args : List ExprTree) (name : TypeName) → Covers names scope bound → AllKnown (flat_map in_expr args)
       → IsNamed decls sorts number scope args name → Fits (named_type ambient name (map (expr_of names) args)) bound
   named-scoped number scope bound args (type_name.Base b) covers met h =
-      let given = takes-some b (HaveSorts decls sorts scope args) h in
-      in-Base count arities (base_of ambient b) (map (expr_of names) args) bound ∙ args-scoped scope bound args given.0 covers met given.1
+      let given = takes-some (takes b) (HaveSorts decls sorts scope args) h in
+      in-Base count arities (base_of ambient b (map (expr_of names) args)) (map (expr_of names) args) bound ∙ args-scoped scope bound args given.0 covers met given.1
   named-scoped number scope bound args (type_name.Declared n) covers met h =
       in-Call count arities n (map (expr_of names) args) bound
       ∙ and_from (has_arity (slice_get arities n) (length (map (expr_of names) args))) (exprs_in_scope count (map (expr_of names) args) bound)

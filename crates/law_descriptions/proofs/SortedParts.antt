@@ -11,8 +11,9 @@ use Rattle.pads_code.specs.declared.Coding.{Coding}
 use Rattle.pads_rules.specs.declared.sort.Form.{Form}
 use Rattle.pads_rules.specs.declared.sort.Form.TheVariants as form
 use Rattle.pads_rules.specs.declared.sort.Sort.{Sort}
-use Rattle.pads_typed_tree.specs.declared.base_type.BaseType.{BaseType}
-use Rattle.pads_typed_tree.specs.declared.base_type.BaseType.TheVariants as base_type
+use Rattle.pads_base_names.specs.Names as base_names
+use Rattle.pads_base_names.specs.declared.meaning.BaseName.{BaseName}
+use Rattle.pads_base_names.specs.declared.meaning.BaseName.TheVariants as base_name
 use Rattle.pads_typed_tree.specs.declared.decl.Case.{Case as CaseTree}
 use Rattle.pads_typed_tree.specs.declared.decl.Computed.{Computed}
 use Rattle.pads_typed_tree.specs.declared.decl.Computed.TheVariants as computed
@@ -44,7 +45,7 @@ use Rattle.pads_trans_expr.specs.Met.{Met, in_expr, in_option, in_type, in_branc
 use Rattle.pads_trans_expr.specs.Names.{Name, at_sign, some_name, none_name, number_of}
 use Rattle.law_descriptions.specs.Expressions.{SortScope, if_default}
 use Rattle.law_descriptions.specs.Sorts.{plain, num, text, truth, computed_sort, type_sort}
-use Rattle.law_descriptions.specs.WellSorted.{AreSorts as AreSortsOf, Each, IsNumberKey, IsTextKey, Takes, HasSort, HaveSorts, IsTruth, IsConstraint, IsNamed, IsType, IsBranch, IsPart, IsParam, behind, AreParts, IsStruct, Chooses, IsUnion, IsDecl, param_sorts}
+use Rattle.law_descriptions.specs.WellSorted.{AreSorts as AreSortsOf, Each, IsNumberKey, IsTextKey, AreTaken, HasSort, HaveSorts, IsTruth, IsConstraint, IsNamed, IsType, IsBranch, IsPart, IsParam, behind, AreParts, IsStruct, Chooses, IsUnion, IsDecl, param_sorts}
 use Rattle.law_descriptions.proofs.Lists.{each-left, each-right, either-one, there-mapped}
 use Rattle.law_descriptions.proofs.Means.{Means, sort-by, struct-sort, any-type-means}
 use Rattle.law_descriptions.proofs.Meant.{ScopeMeans, scope-more, meant}
@@ -134,19 +135,21 @@ module _ (declared : List TermSort) (names : List Name) (ambient : Coding) (decl
       (text-has declared (sort_made e bound) (expr-meant e scope bound text means (each-left (Known names) (in_expr e) (flat_map in_expr args) met) h.0))
       (none-given scope bound args h.1)
 
-  base-takes : (scope : SortScope) (bound : made.SortScope) (args : List ExprTree) (b : BaseType) → ScopeIs scope bound → AllKnown (flat_map in_expr args) → Takes b (HaveSorts decls sorts scope args)
-      → takes (base_of ambient b) (given_sorts args bound) ≡ true
-  base-takes scope bound args (base_type.Int prefix kind) means met h = none-given scope bound args h
-  base-takes scope bound args (base_type.IntFw prefix kind) means met h = number-given scope bound args means met h
-  base-takes scope bound args (base_type.Bin order kind) means met h = ⊎_elim
+  base-takes : (scope : SortScope) (bound : made.SortScope) (b : BaseName) (args : List ExprTree) → ScopeIs scope bound → AllKnown (flat_map in_expr args) → AreTaken (base_names.takes b) (HaveSorts decls sorts scope args)
+      → takes (base_of ambient b (map (expr_of names) args)) (given_sorts args bound) ≡ true
+  base-takes scope bound (base_name.Int prefix kind) args means met h = none-given scope bound args h
+  base-takes scope bound (base_name.IntFw prefix kind) args means met h = number-given scope bound args means met h
+  base-takes scope bound (base_name.Bin kind) args means met h =
+      or_left (no_argument (given_sorts args bound)) (one_number (given_sorts args bound)) (none-given scope bound args h)
+  base-takes scope bound (base_name.SizedBin order kind) args means met h = ⊎_elim
       (λ none. or_left (no_argument (given_sorts args bound)) (one_number (given_sorts args bound)) (none-given scope bound args none))
       (λ one. or_right (no_argument (given_sorts args bound)) (one_number (given_sorts args bound)) (number-given scope bound args means met one)) h
-  base-takes scope bound args (base_type.Until prefix) means met h = text-given scope bound args means met h
-  base-takes scope bound args (base_type.UntilEor prefix) means met h = none-given scope bound args h
-  base-takes scope bound args (base_type.Fixed prefix) means met h = number-given scope bound args means met h
-  base-takes scope bound args (base_type.Class prefix) means met h = text-given scope bound args means met h
-  base-takes scope bound args (base_type.Char prefix) means met h = none-given scope bound args h
-  base-takes scope bound args (base_type.Ip prefix) means met h = none-given scope bound args h
+  base-takes scope bound (base_name.Until prefix) [] means met h = refl
+  base-takes scope bound (base_name.Until prefix) (stop ∷ more) means met h = ⊎_elim (λ none. absurd none) (λ one. text-given scope bound (stop ∷ more) means met one) h
+  base-takes scope bound (base_name.Fixed prefix) args means met h = number-given scope bound args means met h
+  base-takes scope bound (base_name.Class prefix) args means met h = text-given scope bound args means met h
+  base-takes scope bound (base_name.Char prefix) args means met h = none-given scope bound args h
+  base-takes scope bound (base_name.Ip prefix) args means met h = none-given scope bound args h
 
   argument-is : (scope : SortScope) (bound : made.SortScope) (e : ExprTree) (param : Param) → IsParam param → ScopeIs scope bound → AllKnown (in_expr e) → HasSort decls sorts scope e param.sort
       → is_argument (param_sort param) (sort_made e bound) ≡ true
@@ -170,8 +173,9 @@ module _ (declared : List TermSort) (names : List Name) (ambient : Coding) (decl
   named-sorted : (number : ℕ) (scope : SortScope) (bound : made.SortScope) (args : List ExprTree) (name : TypeName) → ScopeIs scope bound → AllKnown (flat_map in_expr args)
       → IsNamed decls sorts number scope args name → IsMade bound (named_type ambient name (map (expr_of names) args))
   named-sorted number scope bound args (type_name.Base b) means met h =
-      sorted-as made_sorts bound (term.Base (base_of ambient b) (map (expr_of names) args)) (Term-F.Base (base_of ambient b) (map (expr_of names) args)) (out-Base (base_of ambient b) (map (expr_of names) args))
-      (base-takes scope bound args b means met h) tt
+      let base = base_of ambient b (map (expr_of names) args) in
+      sorted-as made_sorts bound (term.Base base (map (expr_of names) args)) (Term-F.Base base (map (expr_of names) args)) (out-Base base (map (expr_of names) args))
+      (base-takes scope bound b args means met h) tt
   named-sorted number scope bound args (type_name.Declared n) means met h =
       sorted-as made_sorts bound (term.Call n (map (expr_of names) args)) (Term-F.Call n (map (expr_of names) args)) (out-Call n (map (expr_of names) args))
       (ap (λ o. calls o (given_sorts args bound)) (there-mapped (λ (d : DeclTree). map param_sort d.params) decls n h.1 h.2)

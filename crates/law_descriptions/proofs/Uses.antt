@@ -1,5 +1,5 @@
 -- What types, arguments and conditions of a description without violations are.
-use Rattle.std.proofs.Common.{◌≡◌, ◌∙◌, sym, ap, ap₂, refl, subst, arith, ◌⊎◌, inl, inr, ℕ, zero, suc, ◌+◌, Bool, true, false, not, ◌&&◌, ◌||◌, ◌==◌, List, [], ◌∷◌, map, flat_map, length, take, Option, Some, None, slice_get, eqb-true}
+use Rattle.std.proofs.Common.{◌≡◌, ◌∙◌, sym, ap, ap₂, refl, subst, arith, ◌⊎◌, inl, inr, ⊎_elim, ℕ, zero, suc, ◌+◌, Bool, true, false, not, ◌&&◌, ◌||◌, ◌==◌, List, [], ◌∷◌, map, flat_map, length, take, Option, Some, None, slice_get, eqb-true}
 use Rattle.std.specs.List.{enumerate_from}
 use Rattle.std.proofs.lemmas.List.{length-map}
 use Rattle.std.proofs.lemmas.Bool.{not-false, and_parts}
@@ -12,8 +12,8 @@ use Rattle.pads_ast.specs.declared.types.Param.{Param as WrittenParam}
 use Rattle.pads_ast.specs.declared.types.Type.{«Type»}
 use Rattle.pads_base_names.specs.Names.{takes}
 use Rattle.pads_base_names.specs.declared.meaning.BaseName.{BaseName}
-use Rattle.pads_base_names.specs.declared.meaning.BaseName.TheVariants as base
-use Rattle.pads_base_names.specs.declared.meaning.NamedCoding.{NamedCoding}
+use Rattle.pads_base_names.specs.declared.meaning.Takes.{Takes}
+use Rattle.pads_base_names.specs.declared.meaning.Takes.TheVariants as takes_form
 use Rattle.pads_rules.specs.declared.sort.Form.{Form}
 use Rattle.pads_rules.specs.declared.sort.Form.TheVariants as form
 use Rattle.pads_rules.specs.declared.sort.Sort.{Sort}
@@ -24,12 +24,12 @@ use Rattle.pads_resolution.specs.Expressions.{expression, expr_of, sort_known}
 use Rattle.pads_resolution.specs.Numbers.{declared_number}
 use Rattle.pads_resolution.specs.Resolution.{role_of, params_scope as made_params, decl_at}
 use Rattle.pads_resolution.specs.Scopes.{NameScope as Names}
-use Rattle.pads_resolution.specs.Types.{is_end, base_type_of, declared_type, type_name_of, named_type, args, type_at, param_of}
+use Rattle.pads_resolution.specs.Types.{declared_type, type_name_of, named_type, args, type_at, param_of}
 use Rattle.pads_resolution.specs.JudgedNames.{judging_scope}
 use Rattle.pads_rules.specs.Faults.{breaks, when, each}
 use Rattle.pads_rules.specs.Judging.{Judged, judged, wrong_sort, no_truth}
 use Rattle.pads_ast.specs.NameTokens.{names_in_expr, names_in_arg}
-use Rattle.pads_rules.specs.PieceRules.{takes_so_many, is_count_of, params_in, takes_end, agrees_with, argument_sort, argument_faults, is_bare, is_base, is_param_base}
+use Rattle.pads_rules.specs.PieceRules.{takes_so_many, is_count_of, base_params, params_in, takes_end, agrees_with, argument_sort, argument_faults, is_bare, is_base, is_param_base}
 use Rattle.pads_rules.specs.Pieces.{Site, Used, OfParam}
 use Rattle.pads_rules.specs.Resolving.{Meaning, Base, Earlier, meaning, meaning_sort, behind_popt, type_sort, plain_meaning, declare}
 use Rattle.pads_rules.specs.Sorts as rules
@@ -42,7 +42,7 @@ use Rattle.pads_rules.specs.declared.expr_sort.ExprSort.TheVariants as expr_sort
 use Rattle.pads_rules.specs.declared.rule.Rule.TheVariants as rule
 use Rattle.law_descriptions.specs.Expressions.{SortScope, sort_in}
 use Rattle.law_descriptions.specs.Sorts as sorts_of
-use Rattle.law_descriptions.specs.WellSorted.{Takes, HaveSorts, IsCall, IsNamed, IsType, param_sorts}
+use Rattle.law_descriptions.specs.WellSorted.{AreTaken, HaveSorts, IsCall, IsNamed, IsType, param_sorts}
 use Rattle.law_descriptions.proofs.Lists.{each-left, each-right, each-there, there-mapped, mapped-there}
 use Rattle.law_descriptions.specs.Described.{AreSpelled, IsSpelled, Typed, Sees}
 use Rattle.law_descriptions.proofs.Described.{described}
@@ -53,7 +53,7 @@ use Rattle.law_descriptions.proofs.Forms.{num-form, truth-form}
 use Rattle.law_descriptions.proofs.Free.{FreePiece}
 use Rattle.law_descriptions.proofs.Typed.{lawful}
 use Rattle.law_descriptions.proofs.TypedOperators.{known-operand}
-use Rattle.law_descriptions.proofs.AcceptedTypes.{IsReadAt, shape-off, Named, base-named, earlier-named, named-at, meaning-base, meaning-earlier, used-known, param-known, no-list, read-if, env, made, sorts, free, few, made-there, earlier-read, short-is}
+use Rattle.law_descriptions.proofs.AcceptedTypes.{base-plain, IsReadAt, shape-off, Named, base-named, earlier-named, named-at, meaning-base, meaning-earlier, used-known, param-known, no-list, read-if, env, made, sorts, free, few, made-there, earlier-read, short-is}
 
 -- sorts that are the same
 pub sort-is : (s : Sort) (f : Form) → s.optional ≡ 0 → s.form ≡ f → s ≡ sorts_of.plain f
@@ -82,20 +82,18 @@ no-arguments : {A : Type 0} (xs : List A) → (length xs == 0) ≡ true → xs �
 no-arguments [] h = refl
 no-arguments (x ∷ xs) h = let e = eqb-true (suc (length xs)) 0 h in absurd (omega arith)
 
+-- `Peor` is taken where a text up to a stop is
+abbrev takes_the_end : Takes → Bool
+takes_the_end takes_form.TextOrEnd = true
+takes_the_end takes_form.Nothing = false
+takes_the_end takes_form.Number = false
+takes_the_end takes_form.NumberOrNothing = false
+takes_the_end takes_form.Text = false
+
 -- a parameter's base type
 param-base : (o : Option ℕ) (b : BaseName) (m : Meaning) → m ≡ Base b → is_base is_param_base (unless_popt o m) ≡ true → (s : Sort) × (behind_popt o (meaning_sort m) ≡ expr_sort.Known s) × ((s ≡ sorts_of.num) ⊎ (s ≡ sorts_of.text))
-param-base None b m is h = by b (ap meaning_sort is) (sym (ap (is_base is_param_base) is) ∙ h)
-  where
-    by : (b : BaseName) → meaning_sort m ≡ rules.base_sort b → is_param_base b ≡ true → (s : Sort) × (meaning_sort m ≡ expr_sort.Known s) × ((s ≡ sorts_of.num) ⊎ (s ≡ sorts_of.text))
-    by (base.Int c kind) is h = (sorts_of.num, is, inl refl)
-    by (base.IntFw c kind) is h = (sorts_of.num, is, inl refl)
-    by (base.Bin kind) is h = (sorts_of.num, is, inl refl)
-    by (base.SizedBin order kind) is h = (sorts_of.num, is, inl refl)
-    by (base.Until c) is h = (sorts_of.text, is, inr refl)
-    by (base.Fixed c) is h = (sorts_of.text, is, inr refl)
-    by (base.Class c) is h = (sorts_of.text, is, inr refl)
-    by (base.Char c) is h = (sorts_of.text, is, inr refl)
-    by (base.Ip c) is h = (sorts_of.num, is, inl refl)
+param-base None b m is h =
+    ⊎_elim (λ number. (sorts_of.num, ap meaning_sort is ∙ number, inl refl)) (λ words. (sorts_of.text, ap meaning_sort is ∙ words, inr refl)) (base-plain b)
 param-base (Some place) b m is h = cc
 
 param-earlier : (o : Option ℕ) (x : Declared) (m : Meaning) → m ≡ Earlier x → is_base is_param_base (unless_popt o m) ≡ true → ⊥
@@ -235,35 +233,36 @@ module _ (tree : Ast) (none : violations tree ≡ []) where
     one-typed m p written params no_end long spelled free sorted =
         arguments-typed m (length written) written 0 (p ∷ []) no_end (λ k q there. ap (λ ps. slice_get ps (0 + k)) params ∙ one-param p k q there) (eqb-true (length written) 1 long) spelled free sorted
 
-    stop-typed : (c : NamedCoding) (written : List Arg) → (length written == 1) ≡ true → Spelled written → FreeArgs written → SortedArgs (Base (base.Until c)) written
-        → Takes (base_type_of (is_end written) (base.Until c)) (Haves w (made_args written))
+    stop-typed : (b : BaseName) (written : List Arg) → takes b ≡ takes_form.TextOrEnd → (length written == 1) ≡ true → Spelled written → FreeArgs written → SortedArgs (Base b) written
+        → AreTaken takes_form.TextOrEnd (Haves w (made_args written))
     unfolding args expr_at
-    stop-typed c [] long spelled free sorted = cc
-    stop-typed c (arg.Peor at ∷ []) long spelled free sorted = tt
-    stop-typed c (arg.Expr e ∷ []) long spelled free sorted =
+    stop-typed b [] is long spelled free sorted = cc
+    stop-typed b (arg.Peor at ∷ []) is long spelled free sorted = inl tt
+    stop-typed b (arg.Expr e ∷ []) is long spelled free sorted =
         let j = judged_here e names later in
-        let m = Base (base.Until c) in
-        let kept = none-left (argument_sort (env tree none) (judging_scope names later) m 1 (0, arg.Expr e)) [] sorted in
-        let agreed = not-false (agree rules.text j.sort) (not-when (not (agree rules.text j.sort)) (breaks rule.ArgumentSort j.first) kept) in
-        (agreed-typed n d e names later w sorts_of.text sees (each-left IsSpelled (names_in_expr e) [] spelled) (none-left j.faults [] free) agreed, tt)
-    stop-typed c (a ∷ b ∷ rest) long spelled free sorted = let e = eqb-true (suc (suc (length rest))) 1 long in absurd (omega arith)
+        let kept = none-left (argument_sort (env tree none) (judging_scope names later) (Base b) 1 (0, arg.Expr e)) [] sorted in
+        let agreed = not-false (agrees_with (slice_get (params_in (Base b)) 0) j.sort) (not-when (not (agrees_with (slice_get (params_in (Base b)) 0) j.sort)) (breaks rule.ArgumentSort j.first) kept) in
+        let text_agreed : agree rules.text j.sort ≡ true = subst (λ t. agrees_with (slice_get (base_params t) 0) j.sort ≡ true) is agreed in
+        inr (agreed-typed n d e names later w sorts_of.text sees (each-left IsSpelled (names_in_expr e) [] spelled) (none-left j.faults [] free) text_agreed, tt)
+    stop-typed b (a ∷ c ∷ rest) is long spelled free sorted = let e = eqb-true (suc (suc (length rest))) 1 long in absurd (omega arith)
+
+    -- by what the base type takes
+    taken : (b : BaseName) (t : Takes) (written : List Arg) → takes b ≡ t → takes_so_many t (length written) ≡ true → Spelled written → FreeArgs written → SortedArgs (Base b) written
+        → AreTaken t (Haves w (made_args written))
+    taken b takes_form.Nothing written is long spelled free sorted = none-typed (Base b) written (ap takes_the_end is) long spelled free sorted
+    taken b takes_form.Number written is long spelled free sorted = one-typed (Base b) sorts_of.num written (ap base_params is) (ap takes_the_end is) long spelled free sorted
+    taken b takes_form.NumberOrNothing written is long spelled free sorted = by (length written == 0) (length written == 1) refl refl long
+      where
+        by : (none one : Bool) → (length written == 0) ≡ none → (length written == 1) ≡ one → (none || one) ≡ true → Haves w (made_args written) [] ⊎ Haves w (made_args written) (sorts_of.num ∷ [])
+        by true one none_is one_is h = inl (none-typed (Base b) written (ap takes_the_end is) none_is spelled free sorted)
+        by false true none_is one_is h = inr (one-typed (Base b) sorts_of.num written (ap base_params is) (ap takes_the_end is) one_is spelled free sorted)
+        by false false none_is one_is h = cc
+    taken b takes_form.Text written is long spelled free sorted = one-typed (Base b) sorts_of.text written (ap base_params is) (ap takes_the_end is) long spelled free sorted
+    taken b takes_form.TextOrEnd written is long spelled free sorted = stop-typed b written is long spelled free sorted
 
     base-typed : (b : BaseName) (written : List Arg) → takes_so_many (takes b) (length written) ≡ true → Spelled written → FreeArgs written → SortedArgs (Base b) written
-        → Takes (base_type_of (is_end written) b) (Haves w (made_args written))
-    base-typed (base.Int c kind) written long spelled free sorted = none-typed (Base (base.Int c kind)) written refl long spelled free sorted
-    base-typed (base.IntFw c kind) written long spelled free sorted = one-typed (Base (base.IntFw c kind)) sorts_of.num written refl refl long spelled free sorted
-    base-typed (base.Bin kind) written long spelled free sorted = inl (none-typed (Base (base.Bin kind)) written refl long spelled free sorted)
-    base-typed (base.SizedBin order kind) written long spelled free sorted = by (length written == 0) (length written == 1) refl refl long
-      where
-        by : (a b : Bool) → (length written == 0) ≡ a → (length written == 1) ≡ b → (a || b) ≡ true → Haves w (made_args written) [] ⊎ Haves w (made_args written) (sorts_of.num ∷ [])
-        by true b is was h = inl (none-typed (Base (base.SizedBin order kind)) written refl is spelled free sorted)
-        by false true is was h = inr (one-typed (Base (base.SizedBin order kind)) sorts_of.num written refl refl was spelled free sorted)
-        by false false is was h = cc
-    base-typed (base.Until c) written long spelled free sorted = stop-typed c written long spelled free sorted
-    base-typed (base.Fixed c) written long spelled free sorted = one-typed (Base (base.Fixed c)) sorts_of.num written refl refl long spelled free sorted
-    base-typed (base.Class c) written long spelled free sorted = one-typed (Base (base.Class c)) sorts_of.text written refl refl long spelled free sorted
-    base-typed (base.Char c) written long spelled free sorted = none-typed (Base (base.Char c)) written refl long spelled free sorted
-    base-typed (base.Ip c) written long spelled free sorted = none-typed (Base (base.Ip c)) written refl long spelled free sorted
+        → AreTaken (takes b) (Haves w (made_args written))
+    base-typed b written long spelled free sorted = taken b (takes b) written refl long spelled free sorted
 
     -- the parameters of a declaration
     abbrev made_params_of : ℕ → WrittenDecl → List Param
@@ -298,7 +297,7 @@ module _ (tree : Ast) (none : violations tree ≡ []) where
     unfolding named_type decl_at
     named-typed there reads t piece spelled (base-named b is) =
         let m = meaning-base (take n (env tree none)) t.name.text b is in
-        subst (λ o. IsNamed (made tree none) (sorts tree none) n w (made_args (args_of t)) (type_name_of (is_end (args_of t)) o (declared_number (take n (env tree none)) t.name.text))) (sym is)
+        subst (λ o. IsNamed (made tree none) (sorts tree none) n w (made_args (args_of t)) (type_name_of o (declared_number (take n (env tree none)) t.name.text))) (sym is)
         (base-typed b (args_of t) (sym (ap (λ m. is_count_of m (length (args_of t))) m) ∙ count-rule t piece) spelled piece.expressions
         (subst (λ m. SortedArgs m (args_of t)) m piece.arguments))
     named-typed there reads t piece spelled (earlier-named k e none_base less named found place) =
@@ -316,7 +315,7 @@ module _ (tree : Ast) (none : violations tree ≡ []) where
         (subst (λ m. SortedArgs m (args_of t)) m piece.arguments) in
         let call : IsCall (made tree none) (sorts tree none) n w (made_args (args_of t)) k =
         (less, decl_at (site_of tree.decls k e), made-there tree none k e named, read-if (role_of (site_of tree.decls k e)) (made_body (site_of tree.decls k e) (made_params (site_of tree.decls k e)) e.body) read, given) in
-        subst (λ o. IsNamed (made tree none) (sorts tree none) n w (made_args (args_of t)) (type_name_of (is_end (args_of t)) o (declared_number types t.name.text))) (sym none_base)
+        subst (λ o. IsNamed (made tree none) (sorts tree none) n w (made_args (args_of t)) (type_name_of o (declared_number types t.name.text))) (sym none_base)
         (subst (λ o. IsNamed (made tree none) (sorts tree none) n w (made_args (args_of t)) (declared_type o)) (sym place)
         (subst (IsCall (made tree none) (sorts tree none) n w (made_args (args_of t))) (sym number) call))
 

@@ -1,10 +1,11 @@
 -- The sorts of the values of types and of declarations.
 use Rattle.std.specs.Prelude.{ℕ, suc, if◌then◌else◌, List, unwrap_or, slice_get}
+use Rattle.pads_base_names.specs.declared.meaning.BaseName.{BaseName}
+use Rattle.pads_resolution.specs.Expressions.{sort_known}
+use Rattle.pads_rules.specs.Sorts as rules
 use Rattle.pads_rules.specs.declared.sort.Form.{Form}
 use Rattle.pads_rules.specs.declared.sort.Form.TheVariants as form
 use Rattle.pads_rules.specs.declared.sort.Sort.{Sort}
-use Rattle.pads_typed_tree.specs.declared.base_type.BaseType.{BaseType}
-use Rattle.pads_typed_tree.specs.declared.base_type.BaseType.TheVariants as base_type
 use Rattle.pads_typed_tree.specs.declared.decl.Computed.{Computed}
 use Rattle.pads_typed_tree.specs.declared.decl.Computed.TheVariants as computed
 use Rattle.pads_typed_tree.specs.declared.decl.DeclBody.{DeclBody}
@@ -30,17 +31,9 @@ truth = plain form.Truth
 abbrev pub optional : Sort → Sort
 optional sort = record { optional = suc sort.optional; form = sort.form }
 
--- Texts, characters and classes are texts, all others numbers.
-abbrev pub base_sort : BaseType → Sort
-base_sort (base_type.Int prefix kind) = num
-base_sort (base_type.IntFw prefix kind) = num
-base_sort (base_type.Bin order kind) = num
-base_sort (base_type.Until prefix) = text
-base_sort (base_type.UntilEor prefix) = text
-base_sort (base_type.Fixed prefix) = text
-base_sort (base_type.Class prefix) = text
-base_sort (base_type.Char prefix) = text
-base_sort (base_type.Ip prefix) = num
+-- The sort that the rules give a base type.
+abbrev pub base_sort : BaseName → Sort
+base_sort b = sort_known (rules.base_sort b)
 
 abbrev pub computed_sort : Computed → Sort
 computed_sort (computed.Int kind) = num

@@ -1,12 +1,13 @@
 -- Well-sorted descriptions: each expression has the sort that its use asks for, calls name earlier
 -- declarations, and 16 bits count what is counted.
 use Rattle.std.specs.Prelude.{◌≡◌, ◌⊎◌, ⊤, ℕ, ◌<◌, true, List, [], ◌∷◌, map, length, Option, Some, None, slice_get}
+use Rattle.pads_base_names.specs.Names.{takes}
+use Rattle.pads_base_names.specs.declared.meaning.Takes.{Takes}
+use Rattle.pads_base_names.specs.declared.meaning.Takes.TheVariants as takes_form
 use Rattle.pads_bases.specs.Enums.{SpellingsDiffer}
 use Rattle.pads_calc.specs.Counts.{few}
 use Rattle.pads_rules.specs.declared.sort.Form.TheVariants as form
 use Rattle.pads_rules.specs.declared.sort.Sort.{Sort}
-use Rattle.pads_typed_tree.specs.declared.base_type.BaseType.{BaseType}
-use Rattle.pads_typed_tree.specs.declared.base_type.BaseType.TheVariants as base_type
 use Rattle.pads_typed_tree.specs.declared.decl.Array.{Array}
 use Rattle.pads_typed_tree.specs.declared.decl.ArrayOption.{ArrayOption}
 use Rattle.pads_typed_tree.specs.declared.decl.ArrayOption.TheVariants as option
@@ -45,17 +46,13 @@ abbrev pub IfThere : {A : Type 0} → (A → Type 0) → Option A → Type 0
 IfThere P None = ⊤
 IfThere P (Some x) = P x
 
--- The arguments that a base type takes, where arguments of such sorts are given.
-abbrev pub Takes : BaseType → (List Sort → Type 0) → Type 0
-Takes (base_type.Int prefix kind) Given = Given []
-Takes (base_type.IntFw prefix kind) Given = Given (num ∷ [])
-Takes (base_type.Bin order kind) Given = Given [] ⊎ Given (num ∷ [])
-Takes (base_type.Until prefix) Given = Given (text ∷ [])
-Takes (base_type.UntilEor prefix) Given = Given []
-Takes (base_type.Fixed prefix) Given = Given (num ∷ [])
-Takes (base_type.Class prefix) Given = Given (text ∷ [])
-Takes (base_type.Char prefix) Given = Given []
-Takes (base_type.Ip prefix) Given = Given []
+-- Arguments are those that a base type takes, where arguments of such sorts are given. `Peor` is none.
+abbrev pub AreTaken : Takes → (List Sort → Type 0) → Type 0
+AreTaken takes_form.Nothing Given = Given []
+AreTaken takes_form.Number Given = Given (num ∷ [])
+AreTaken takes_form.NumberOrNothing Given = Given [] ⊎ Given (num ∷ [])
+AreTaken takes_form.Text Given = Given (text ∷ [])
+AreTaken takes_form.TextOrEnd Given = Given [] ⊎ Given (text ∷ [])
 
 abbrev pub IsNumberKey : Const → Type 0
 IsNumberKey (const.Number number) = ⊤
@@ -108,7 +105,7 @@ module _ (decls : List Decl) (sorts : List Sort) where
         × HaveSorts scope args (param_sorts d.params)
 
     abbrev pub IsNamed : SortScope → List Expr → TypeName → Type 0
-    IsNamed scope args (type_name.Base b) = Takes b (HaveSorts scope args)
+    IsNamed scope args (type_name.Base b) = AreTaken (takes b) (HaveSorts scope args)
     IsNamed scope args (type_name.Declared n) = IsCall scope args n
 
     abbrev pub IsType : SortScope → Typed → Type 0

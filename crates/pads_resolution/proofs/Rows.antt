@@ -26,7 +26,7 @@ use Rattle.pads_rules.specs.declared.sort.Form.TheVariants as form
 use Rattle.pads_rules.specs.declared.sort.Sort.{Sort}
 use Rattle.pads_base_names.specs.Names.{base_name, kind_of, field_of, behind}
 use Rattle.pads_value.specs.Words.{is_word}
-use Rattle.pads_typed_tree.specs.declared.base_type.BaseType.TheVariants as base_type
+use Rattle.pads_base_names.specs.declared.meaning.BaseName.TheVariants as base
 use Rattle.pads_base_names.specs.declared.meaning.NamedCoding.TheVariants as coding
 use Rattle.pads_typed_tree.specs.declared.decl.DeclBody.TheVariants as body
 use Rattle.pads_typed_tree.specs.declared.decl.Part.TheVariants as resolved_part
@@ -85,8 +85,8 @@ fields : resolved (record { decls = two_fields; end = 0; spelled = two_spelled }
         params = [];
         body = body.Struct (record {
           parts =
-              resolved_part.Field (record { of = record { optional = false; name = type_name.Base (base_type.Int coding.Ambient U8); args = [] }; name = codes "a"; constraint = None })
-              ∷ resolved_part.Field (record { of = record { optional = false; name = type_name.Base (base_type.UntilEor coding.Ambient); args = [] }; name = codes "b"; constraint = None }) ∷ [];
+              resolved_part.Field (record { of = record { optional = false; name = type_name.Base (base.Int coding.Ambient U8); args = [] }; name = codes "a"; constraint = None })
+              ∷ resolved_part.Field (record { of = record { optional = false; name = type_name.Base (base.Until coding.Ambient); args = [] }; name = codes "b"; constraint = None }) ∷ [];
           condition = None;
         });
       } ∷ [];

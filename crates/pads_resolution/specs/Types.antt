@@ -1,5 +1,5 @@
 -- What types, literals and constants resolve to.
-use Rattle.std.specs.Prelude.{ℕ, Bool, true, false, List, [], ◌∷◌, flat_map, Option, Some, None, is_some}
+use Rattle.std.specs.Prelude.{ℕ, List, [], ◌∷◌, flat_map, Option, Some, None, is_some}
 use Rattle.pads_ast.specs.declared.decl.Decl.{Decl}
 use Rattle.pads_ast.specs.declared.types.Arg.{Arg}
 use Rattle.pads_ast.specs.declared.types.Arg.TheVariants as arg
@@ -9,15 +9,10 @@ use Rattle.pads_ast.specs.declared.types.Literal.{Literal as WrittenLiteral}
 use Rattle.pads_ast.specs.declared.types.Literal.TheVariants as written_literal
 use Rattle.pads_ast.specs.declared.types.Param.{Param as WrittenParam}
 use Rattle.pads_ast.specs.declared.types.Type.{«Type»}
-use Rattle.pads_bases.specs.declared.binary.Order.{Order}
-use Rattle.pads_bases.specs.declared.binary.Order.TheVariants as order
 use Rattle.pads_base_names.specs.declared.meaning.BaseName.{BaseName}
 use Rattle.pads_base_names.specs.declared.meaning.BaseName.TheVariants as base
-use Rattle.pads_base_names.specs.declared.meaning.NamedCoding.{NamedCoding}
 use Rattle.pads_base_names.specs.declared.meaning.NamedCoding.TheVariants as coding
 use Rattle.pads_base_names.specs.Names.{base_name}
-use Rattle.pads_typed_tree.specs.declared.base_type.BaseType.{BaseType}
-use Rattle.pads_typed_tree.specs.declared.base_type.BaseType.TheVariants as base_type
 use Rattle.pads_typed_tree.specs.declared.decl.Computed.{Computed}
 use Rattle.pads_typed_tree.specs.declared.decl.Computed.TheVariants as computed
 use Rattle.pads_typed_tree.specs.declared.expr.Expr.{Expr}
@@ -38,41 +33,19 @@ use Rattle.pads_resolution.specs.Expressions.{expr_of, sort_known}
 use Rattle.pads_resolution.specs.Numbers.{short, declared_number}
 use Rattle.pads_resolution.specs.Scopes.{NameScope}
 
--- `Peor` is the one argument.
-abbrev pub is_end : List Arg → Bool
-is_end (arg.Peor at ∷ []) = true
-is_end _ = false
-
--- A text up to a stop, or up to the record's end.
-abbrev pub until : Bool → NamedCoding → BaseType
-until true c = base_type.UntilEor c
-until false c = base_type.Until c
-
--- A base type by its name, and by whether its one argument is `Peor`.
-abbrev pub base_type_of : Bool → BaseName → BaseType
-base_type_of to_end (base.Int c kind) = base_type.Int c kind
-base_type_of to_end (base.IntFw c kind) = base_type.IntFw c kind
-base_type_of to_end (base.Bin kind) = base_type.Bin order.Low kind
-base_type_of to_end (base.SizedBin o kind) = base_type.Bin o kind
-base_type_of to_end (base.Until c) = until to_end c
-base_type_of to_end (base.Fixed c) = base_type.Fixed c
-base_type_of to_end (base.Class c) = base_type.Class c
-base_type_of to_end (base.Char c) = base_type.Char c
-base_type_of to_end (base.Ip c) = base_type.Ip c
-
 -- A declared type by its number; one that is declared nowhere is a character.
 abbrev pub declared_type : Option ℕ → TypeName
 declared_type (Some number) = type_name.Declared (short number)
-declared_type None = type_name.Base (base_type.Char coding.Ambient)
+declared_type None = type_name.Base (base.Char coding.Ambient)
 
 -- A base type's name always names the base type.
-abbrev pub type_name_of : Bool → Option BaseName → Option ℕ → TypeName
-type_name_of to_end (Some name) number = type_name.Base (base_type_of to_end name)
-type_name_of to_end None number = declared_type number
+abbrev pub type_name_of : Option BaseName → Option ℕ → TypeName
+type_name_of (Some name) number = type_name.Base name
+type_name_of None number = declared_type number
 
 -- A type's name among the types that are declared before.
 unfoldable pub named_type : List Declared → «Type» → TypeName
-named_type types t = type_name_of (is_end (args_of t)) (base_name t.name.text) (declared_number types t.name.text)
+named_type types t = type_name_of (base_name t.name.text) (declared_number types t.name.text)
 
 -- The expressions among some arguments.
 abbrev pub arg_exprs : List Decl → List Declared → NameScope → Arg → List Expr

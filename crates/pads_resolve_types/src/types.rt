@@ -10,47 +10,11 @@ use crate::expressions::expr_at;
 use crate::site::{ResolvingSite, earlier};
 use pads_ast::{Arg, Param as WrittenParam, Type as WrittenType};
 use pads_base_names::{BaseName, NamedCoding, base_name};
-use pads_bases::Order;
 use pads_declared::{EarlierTypes, type_sort};
 use pads_resolve_expr::{NameScope, short, sort_known, text};
-use pads_typed_tree::{BaseType, Computed, Expr, Param, Params, Type, TypeName};
+use pads_typed_tree::{Computed, Expr, Param, Params, Type, TypeName};
 use pads_value::{Items, Memory};
 use std::alloc::Global;
-
-/// Whether `Peor` is the one argument.
-fn is_end(args: &[Arg]) -> bool
-    ensures end { result ≡ types.is_end args.now }
-{
-    matches!(args, [Arg::Peor { .. }])
-}
-
-/// A text up to a stop, or up to the record's end.
-fn until(to_end: bool, coding: NamedCoding) -> BaseType
-    ensures until { result ≡ types.until to_end coding }
-{
-    if to_end {
-        BaseType::UntilEor(coding)
-    } else {
-        BaseType::Until(coding)
-    }
-}
-
-/// A base type by its name, and by whether its one argument is `Peor`.
-fn base_type_of(to_end: bool, name: BaseName) -> BaseType
-    ensures base { result ≡ types.base_type_of to_end name }
-{
-    match name {
-        BaseName::Int(coding, kind) => BaseType::Int(coding, kind),
-        BaseName::IntFw(coding, kind) => BaseType::IntFw(coding, kind),
-        BaseName::Bin(kind) => BaseType::Bin(Order::Low, kind),
-        BaseName::SizedBin(order, kind) => BaseType::Bin(order, kind),
-        BaseName::Until(coding) => until(to_end, coding),
-        BaseName::Fixed(coding) => BaseType::Fixed(coding),
-        BaseName::Class(coding) => BaseType::Class(coding),
-        BaseName::Char(coding) => BaseType::Char(coding),
-        BaseName::Ip(coding) => BaseType::Ip(coding),
-    }
-}
 
 /// A declared type by its number; one that is declared nowhere is a character.
 fn declared_type(number: Option<usize>) -> TypeName
@@ -58,7 +22,7 @@ fn declared_type(number: Option<usize>) -> TypeName
 {
     match number {
         Some(number) => TypeName::Declared(short(number)),
-        None => TypeName::Base(BaseType::Char(NamedCoding::Ambient)),
+        None => TypeName::Base(BaseName::Char(NamedCoding::Ambient)),
     }
 }
 
@@ -79,7 +43,7 @@ fn named_type(earlier: &EarlierTypes<'_>, of: &WrittenType) -> TypeName
 {
     let name = of.name.text.as_slice();
     match base_name(name) {
-        Some(base) => TypeName::Base(base_type_of(is_end(args_of(of)), base)),
+        Some(base) => TypeName::Base(base),
         None => declared_type(earlier.number_of(name)),
     }
 }

@@ -7,7 +7,7 @@ use Rattle.pads_code.specs.declared.Coding.TheVariants as coding
 use Rattle.pads_dispatch.specs.declared.base.Base.TheVariants as base
 use Rattle.pads_expr.specs.declared.expr.Expr.TheVariants as expr
 use Rattle.pads_int.specs.declared.kind.Kind.TheVariants as kind
-use Rattle.pads_typed_tree.specs.declared.base_type.BaseType.TheVariants as base_type
+use Rattle.pads_base_names.specs.declared.meaning.BaseName.TheVariants as base_name
 use Rattle.pads_base_names.specs.declared.meaning.NamedCoding.TheVariants as named_coding
 use Rattle.pads_typed_tree.specs.declared.decl.ArrayOption.TheVariants as option
 use Rattle.pads_typed_tree.specs.declared.decl.Computed.TheVariants as computed
@@ -15,7 +15,7 @@ use Rattle.pads_typed_tree.specs.declared.decl.Part.TheVariants as part
 use Rattle.pads_typed_tree.specs.declared.expr.Expr.TheVariants as tree
 use Rattle.pads_typed_tree.specs.declared.types.Literal.TheVariants as literal
 use Rattle.pads_typed_tree.specs.declared.types.TypeName.TheVariants as type_name
-use Rattle.pads_trans.specs.Terms.{part_of, type_of, bare_type, optional, separator_of, first}
+use Rattle.pads_trans.specs.Terms.{base_of, part_of, type_of, bare_type, optional, separator_of, first}
 use Rattle.pads_trans_expr.specs.Names.{Name, some_name, none_name, number_of}
 use Rattle.pads_trans_expr.proofs.ExprRolls.{made-Number}
 
@@ -32,10 +32,17 @@ unfolding part_of byte_of page_037
 literal_row = refl
 
 -- Popt Puint32
-optional_row : type_of names coding.Ascii (record { optional = true; name = type_name.Base (base_type.Int named_coding.Ambient kind.U32); args = [] })
+optional_row : type_of names coding.Ascii (record { optional = true; name = type_name.Base (base_name.Int named_coding.Ambient kind.U32); args = [] })
     ≡ term.Alt (record { name = 0; term = term.Base (base.Int kind.U32 coding.Ascii) [] } ∷ record { name = 1; term = term.Unit } ∷ [])
 unfolding type_of bare_type optional number_of names
 optional_row = refl
+
+-- Pe_string(:Peor:), and Pe_string with a stop
+end_row : base_of coding.Ascii (base_name.Until named_coding.Ebcdic) [] ≡ base.UntilEor coding.Ebcdic
+end_row = refl
+
+stop_row : base_of coding.Ascii (base_name.Until named_coding.Ebcdic) (expr.Text (0x2c ∷ []) ∷ []) ≡ base.Until coding.Ebcdic
+stop_row = refl
 
 -- Psep('|') behind Pterm(Peor)
 separator_row : separator_of coding.Ascii (option.Pterm literal.Peor ∷ option.Psep (0x7c ∷ []) ∷ []) ≡ Some (term.Absorb (term.Lit (0x7c ∷ [])))

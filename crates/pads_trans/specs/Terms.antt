@@ -16,6 +16,7 @@
 --   record list or source     Unit
 use Rattle.std.specs.Prelude.{ℕ, List, [], ◌∷◌, ◌++◌, map, true, Option, Some, None, option_map, if◌then◌else◌}
 use Rattle.std.specs.Option.{option_or}
+use Rattle.pads_bases.specs.declared.binary.Order.TheVariants as order
 use Rattle.pads_bases.specs.declared.enums.Label.{Label as Spelled}
 use Rattle.pads_calc.specs.declared.decl.Decl.{Decl}
 use Rattle.pads_calc.specs.declared.term.Arm.{Arm}
@@ -35,8 +36,8 @@ use Rattle.pads_dispatch.specs.declared.base.Base.{Base}
 use Rattle.pads_dispatch.specs.declared.base.Base.TheVariants as base
 use Rattle.pads_expr.specs.declared.expr.Expr.{Expr}
 use Rattle.pads_int.specs.Kinds.{least, greatest}
-use Rattle.pads_typed_tree.specs.declared.base_type.BaseType.{BaseType}
-use Rattle.pads_typed_tree.specs.declared.base_type.BaseType.TheVariants as base_type
+use Rattle.pads_base_names.specs.declared.meaning.BaseName.{BaseName}
+use Rattle.pads_base_names.specs.declared.meaning.BaseName.TheVariants as base_name
 use Rattle.pads_base_names.specs.declared.meaning.NamedCoding.{NamedCoding}
 use Rattle.pads_base_names.specs.declared.meaning.NamedCoding.TheVariants as named_coding
 use Rattle.pads_typed_tree.specs.declared.decl.Array.{Array}
@@ -76,16 +77,22 @@ coding_of ambient named_coding.Ambient = ambient
 coding_of ambient named_coding.Ascii = coding.Ascii
 coding_of ambient named_coding.Ebcdic = coding.Ebcdic
 
-abbrev pub base_of : Coding → BaseType → Base
-base_of ambient (base_type.Int named kind) = base.Int kind (coding_of ambient named)
-base_of ambient (base_type.IntFw named kind) = base.IntFw kind (coding_of ambient named)
-base_of ambient (base_type.Bin order kind) = base.Bin kind order
-base_of ambient (base_type.Until named) = base.Until (coding_of ambient named)
-base_of ambient (base_type.UntilEor named) = base.UntilEor (coding_of ambient named)
-base_of ambient (base_type.Fixed named) = base.Fixed (coding_of ambient named)
-base_of ambient (base_type.Class named) = base.Class (coding_of ambient named)
-base_of ambient (base_type.Char named) = base.Char (coding_of ambient named)
-base_of ambient (base_type.Ip named) = base.Ip (coding_of ambient named)
+-- A text up to the stop that is its argument; without an argument up to the record's end.
+abbrev pub until : Coding → List Expr → Base
+until c [] = base.UntilEor c
+until c (stop ∷ more) = base.Until c
+
+-- A base type by its name and its arguments. A binary number whose name says no order has its low byte first.
+abbrev pub base_of : Coding → BaseName → List Expr → Base
+base_of ambient (base_name.Int named kind) args = base.Int kind (coding_of ambient named)
+base_of ambient (base_name.IntFw named kind) args = base.IntFw kind (coding_of ambient named)
+base_of ambient (base_name.Bin kind) args = base.Bin kind order.Low
+base_of ambient (base_name.SizedBin o kind) args = base.Bin kind o
+base_of ambient (base_name.Until named) args = until (coding_of ambient named) args
+base_of ambient (base_name.Fixed named) args = base.Fixed (coding_of ambient named)
+base_of ambient (base_name.Class named) args = base.Class (coding_of ambient named)
+base_of ambient (base_name.Char named) args = base.Char (coding_of ambient named)
+base_of ambient (base_name.Ip named) args = base.Ip (coding_of ambient named)
 
 -- A text is its code points, encoded.
 abbrev pub text_of : Coding → List ℕ → Term
@@ -144,7 +151,7 @@ terminator_of ambient options = option_map (literal_of ambient) (first terminato
 
 -- A type by its name.
 abbrev pub named_type : Coding → TypeName → List Expr → Term
-named_type ambient (type_name.Base b) args = term.Base (base_of ambient b) args
+named_type ambient (type_name.Base b) args = term.Base (base_of ambient b args) args
 named_type ambient (type_name.Declared number) args = term.Call number args
 
 abbrev pub literal_part : Coding → Literal → Part

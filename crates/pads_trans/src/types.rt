@@ -1,14 +1,15 @@
 //! The translation of types and of what stands in them.
 ghost use Rattle.std.specs.Prelude.{◌≡◌, ◌∷◌, [], map, Some, IfOk};
 ghost use Rattle.pads_code.specs.CodePage.{byte_of};
-ghost use Rattle.pads_trans.specs.Terms.{coding_of, base_of, text_of, literal_of, form_of, key_of, spelling_of, label_of, enum_of, constrained as constrained_by, some_arm, none_arm, optional as optional_of, named_type as named, bare_type as bare, type_of};
+ghost use Rattle.pads_trans.specs.Terms.{coding_of, until, base_of, text_of, literal_of, form_of, key_of, spelling_of, label_of, enum_of, constrained as constrained_by, some_arm, none_arm, optional as optional_of, named_type as named, bare_type as bare, type_of};
 
-use pads_base_names::NamedCoding;
-use pads_bases::{Label as Spelled, Labels};
+use pads_base_names::{BaseName, NamedCoding};
+use pads_bases::{Label as Spelled, Labels, Order};
 use pads_calc::{Arm, Arms, Base, ComputedForm, Exprs, Key, Term};
 use pads_code::{Coding, encode};
+use pads_expr::Expr;
 use pads_trans_expr::{Numbering, translate_expr, translate_exprs};
-use pads_typed_tree::{BaseType, Computed, Const, Expr as Tree, Label, Literal, Type, TypeName};
+use pads_typed_tree::{Computed, Const, Expr as Tree, Label, Literal, Type, TypeName};
 use pads_value::{Boxed, Bytes, Items, Memory};
 use std::alloc::Global;
 
@@ -23,19 +24,30 @@ fn coding(ambient: Coding, named: NamedCoding) -> Coding
     }
 }
 
-fn base(ambient: Coding, base: BaseType) -> Base
-    ensures base { result ≡ base_of ambient base }
+/// A text up to the stop that is its argument; without an argument up to the record's end.
+fn until(coding: Coding, args: &[Expr]) -> Base
+    ensures until { result ≡ until coding args.now }
 {
-    match base {
-        BaseType::Int(named, kind) => Base::Int(kind, coding(ambient, named)),
-        BaseType::IntFw(named, kind) => Base::IntFw(kind, coding(ambient, named)),
-        BaseType::Bin(order, kind) => Base::Bin(kind, order),
-        BaseType::Until(named) => Base::Until(coding(ambient, named)),
-        BaseType::UntilEor(named) => Base::UntilEor(coding(ambient, named)),
-        BaseType::Fixed(named) => Base::Fixed(coding(ambient, named)),
-        BaseType::Class(named) => Base::Class(coding(ambient, named)),
-        BaseType::Char(named) => Base::Char(coding(ambient, named)),
-        BaseType::Ip(named) => Base::Ip(coding(ambient, named)),
+    match args {
+        [] => Base::UntilEor(coding),
+        [_, ..] => Base::Until(coding),
+    }
+}
+
+/// A base type by its name and its arguments.
+fn base(ambient: Coding, name: BaseName, args: &[Expr]) -> Base
+    ensures base { result ≡ base_of ambient name args.now }
+{
+    match name {
+        BaseName::Int(named, kind) => Base::Int(kind, coding(ambient, named)),
+        BaseName::IntFw(named, kind) => Base::IntFw(kind, coding(ambient, named)),
+        BaseName::Bin(kind) => Base::Bin(kind, Order::Low),
+        BaseName::SizedBin(order, kind) => Base::Bin(kind, order),
+        BaseName::Until(named) => until(coding(ambient, named), args),
+        BaseName::Fixed(named) => Base::Fixed(coding(ambient, named)),
+        BaseName::Class(named) => Base::Class(coding(ambient, named)),
+        BaseName::Char(named) => Base::Char(coding(ambient, named)),
+        BaseName::Ip(named) => Base::Ip(coding(ambient, named)),
     }
 }
 
@@ -180,7 +192,7 @@ fn named_type(ambient: Coding, name: TypeName, args: Exprs) -> Term
     ensures named { result ≡ named ambient name args }
 {
     match name {
-        TypeName::Base(of) => Term::Base(base(ambient, of), args),
+        TypeName::Base(of) => Term::Base(base(ambient, of, args.as_slice()), args),
         TypeName::Declared(number) => Term::Call(number, args),
     }
 }

@@ -6,12 +6,10 @@
 //! brackets are gone. Names that the data's values have keep their text.
 #![tactic(auto)]
 
-mod base_type;
 mod decl;
 mod expr;
 mod types;
 
-pub use base_type::BaseType;
 pub use decl::{
     Array, ArrayOption, Case, Computed, Constraint, Decl, DeclBody, Description, Label, Part, Role,
     Source, Struct, Switch, Typedef, Union,

@@ -1,11 +1,12 @@
-use crate::{BaseType, Expr};
+use crate::Expr;
+use pads_base_names::BaseName;
 use pads_rules::Sort;
 use pads_value::{Bytes, Items};
 
 /// What the name of a type names.
 #[derive(Clone, Copy, Debug, PartialEq, Eq)]
 pub enum TypeName {
-    Base(BaseType),
+    Base(BaseName),
     /// A declaration, by its number from 0.
     Declared(u16),
 }
