@@ -1,0 +1,5 @@
+pub mod AllKept
+pub mod Induction
+pub mod Lists
+pub mod Rolls
+pub mod Weights
