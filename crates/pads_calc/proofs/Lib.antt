@@ -9,6 +9,7 @@ pub mod CountRolls
 pub mod Elements
 pub mod ExprRolls
 pub mod Induction
+pub mod KeptReadings
 pub mod KeptTurns
 pub mod Lists
 pub mod Positions
@@ -17,5 +18,6 @@ pub mod Runs
 pub mod Scans
 pub mod ScopeRolls
 pub mod Sizes
+pub mod SkeletonRolls
 pub mod TermRolls
 pub mod Turns

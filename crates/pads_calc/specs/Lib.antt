@@ -10,5 +10,6 @@ pub mod Places
 pub mod Readings
 pub mod Rows
 pub mod Scopes
+pub mod Skeletons
 pub mod Structs
 pub mod Wrappers

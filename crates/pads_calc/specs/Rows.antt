@@ -1,7 +1,10 @@
 -- The row of a record: its type by number, read at the record's first byte by a call at depth 128; one
 -- node over the record, with the body's node below it and, where bytes are left, a node of class Err
--- over the rest; the cause of the frame's mark. A frame without its bytes isn't read.
+-- over the rest; the cause of the frame's mark. A frame without its bytes isn't read. The values of
+-- declarations that keep none of their own are erased once the type is read.
 use Rattle.std.specs.Prelude.{ℕ, zero, suc, ◌+◌, nat_lt, true, false, List, [], ◌∷◌, length, Option, Some, None, if◌then◌else◌}
+use Rattle.pads_erase.specs.Erasing.{erased}
+use Rattle.pads_erase.specs.declared.skeleton.Keeping.{Keeping}
 use Rattle.pads_value.specs.Cuts.{Cut}
 use Rattle.pads_value.specs.Header.{head}
 use Rattle.pads_value.specs.declared.cause.Cause.{Cause}
@@ -17,6 +20,7 @@ use Rattle.pads_calc.specs.declared.decl.Shape.{Shape}
 use Rattle.pads_calc.specs.declared.reading.Reading.{Reading}
 use Rattle.pads_calc.specs.Calculus.{caller}
 use Rattle.pads_calc.specs.Readings.{Subject, faulty}
+use Rattle.pads_calc.specs.Skeletons.{keepings_of}
 
 -- how deep calls of declarations may be nested
 abbrev pub deepest : ℕ
@@ -37,6 +41,13 @@ subject_of_cut cut = record { origin = cut.first; bytes = cut.bytes }
 
 abbrev pub body_reading : List Decl → ℕ → Cut → Reading
 body_reading decls number cut = caller (subject_of_cut cut) decls deepest number [] [] 0
+
+-- what is left of a reading of a declaration. Its descriptor and its place stay
+abbrev pub kept_by : List Keeping → ℕ → Reading → Reading
+kept_by keepings number r = record r { value = erased keepings deepest number r.value }
+
+abbrev pub kept_reading : List Decl → ℕ → Cut → Reading
+kept_reading decls number cut = kept_by (keepings_of decls) number (body_reading decls number cut)
 
 -- the bytes behind the body
 abbrev pub extra : Cut → ℕ → List Pd
@@ -67,4 +78,4 @@ row_by mark.Broken number cut r = unread_row number cut cause.RecordBroken
 
 -- the row of the record of this number
 abbrev pub row_of : List Decl → Shape → ℕ → Cut → Row
-row_of decls shape number cut = row_by cut.mark number cut (body_reading decls (type_of shape number) cut)
+row_of decls shape number cut = row_by cut.mark number cut (kept_reading decls (type_of shape number) cut)

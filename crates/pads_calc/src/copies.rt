@@ -4,6 +4,7 @@ ghost use Rattle.pads_calc.specs.Modules.{contents};
 ghost use Rattle.pads_calc.specs.declared.term.Term.TheVariants as term_form;
 
 use crate::decl::copy_decls;
+use crate::skeleton::erasing;
 use crate::{
     Arm, Arms, Base, Case, Cases, ComputedForm, Exprs, Key, Module, Part, Parts, Seq, Term,
 };
@@ -276,10 +277,12 @@ impl Module {
     {
         let decls = copy_decls(alloc, self.decls.as_slice())?;
         let names = self.names.copy(alloc)?;
+        let erasing = erasing(alloc, decls.as_slice())?;
         Ok(Module {
             decls,
             names,
             shape: self.shape,
+            erasing,
         })
     }
 }

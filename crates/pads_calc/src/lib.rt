@@ -15,6 +15,7 @@ mod record;
 mod row;
 mod run;
 mod scope;
+mod skeleton;
 mod term;
 mod turn;
 
@@ -30,5 +31,6 @@ pub use reading::Reading;
 pub use record::Record;
 pub use row::{DEEPEST, row_over, row_without};
 pub use run::Run;
+pub use skeleton::skeleton_of;
 pub use term::{Arm, Arms, Case, Cases, ComputedForm, Exprs, Key, Part, Parts, Seq, Term};
 pub use turn::{Ending, Turn, is_full, short_of, size_at, size_in};

@@ -32,7 +32,8 @@ fn read_body<'x>(
 }
 
 /// The row of a record, by recursion on terms: its value, its descriptor and where its reading ended.
-/// A frame without its bytes isn't read, and its row has the cause of its mark.
+/// A frame without its bytes isn't read, and its row has the cause of its mark. The values of declarations
+/// that keep none of their own are missing in it; where each keeps them, nothing is looked at for that.
 pub fn walk(alloc: Global, rules: &Module, record_no: u64, frame: &Frame) -> Result<Row, Memory>
     ensures row { IfOk result (λ row. row ≡ row_of rules.now.decls rules.now.shape record_no (cut_of_frame frame.now)) }
 {
@@ -40,5 +41,6 @@ pub fn walk(alloc: Global, rules: &Module, record_no: u64, frame: &Frame) -> Res
         return Ok(row);
     }
     let body = read_body(alloc, rules, record_no, frame)?;
-    row_over(alloc, record_no, frame, body)
+    let kept = rules.kept(alloc, rules.shape.type_of(record_no), body)?;
+    row_over(alloc, record_no, frame, kept)
 }
