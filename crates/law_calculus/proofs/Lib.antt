@@ -12,6 +12,7 @@ pub mod ByWorths
 pub mod ByWorthsRolls
 pub mod ByWorthsForms
 pub mod ByWorthsArrays
+pub mod ErasedSorts
 pub mod Evaluated
 pub mod Expressions
 pub mod IllSorted

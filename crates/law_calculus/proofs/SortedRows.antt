@@ -13,13 +13,15 @@ use Rattle.pads_calc.specs.declared.term.Term.{Term-F, out-Term}
 use Rattle.pads_calc.specs.declared.term.Term.TheVariants as term
 use Rattle.pads_calc.specs.Arguments.{bound_to}
 use Rattle.pads_calc.specs.Readings.{Subject}
-use Rattle.pads_calc.specs.Rows.{deepest, type_of, body_reading, row_by, row_of, subject_of_cut}
+use Rattle.pads_calc.specs.Rows.{deepest, type_of, body_reading, kept_reading, row_by, row_of, subject_of_cut}
+use Rattle.pads_calc.specs.Skeletons.{keepings_of}
 use Rattle.pads_calc.proofs.Bindings.{bound-none}
 use Rattle.law_calculus.specs.Evaluated.{Moment, moment, IsOwn, ReadsBody, ReadsNext, Asks, Evaluates, asks, reads}
 use Rattle.law_calculus.specs.Expressions.{SortScope}
 use Rattle.law_calculus.specs.Sorted.{Sorts, AreSorted, IsSorted, params_scope}
 use Rattle.law_calculus.specs.Sorts.{Sort, sort_at, AreSorts}
 use Rattle.law_calculus.specs.Values.{has_sort, HasSorts}
+use Rattle.law_calculus.proofs.ErasedSorts.{erased-has}
 use Rattle.law_calculus.proofs.SortedTerms.{caller-has}
 use Rattle.law_calculus.proofs.Evaluated.{evaluated-never_ill}
 use Rattle.law_calculus.proofs.Layers.{out-Call}
@@ -34,8 +36,9 @@ module _ (declared : List Sort) (decls : List Decl) (are : AreSorts declared dec
 
   pub row-has : (shape : Shape) (number : ℕ) (cut : Cut) → has_sort declared (row_of decls shape number cut).value (sort_at declared (type_of shape number)) ≡ true
   row-has shape number cut =
-      row_by-has cut.mark number cut (body_reading decls (type_of shape number) cut) (sort_at declared (type_of shape number))
-      (caller-has declared decls are (subject_of_cut cut) deepest (type_of shape number) [] [] 0)
+      row_by-has cut.mark number cut (kept_reading decls (type_of shape number) cut) (sort_at declared (type_of shape number))
+      (erased-has declared (keepings_of decls) deepest (type_of shape number) (body_reading decls (type_of shape number) cut).value (sort_at declared (type_of shape number))
+      (caller-has declared decls are (subject_of_cut cut) deepest (type_of shape number) [] [] 0))
 
 module _ (sorts : Sorts) (decls : List Decl) (are : AreSorted sorts decls) (subject : Subject) where
   -- where nothing is bound

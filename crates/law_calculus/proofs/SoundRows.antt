@@ -14,7 +14,7 @@ use Rattle.pads_calc.specs.declared.decl.Decl.{Decl}
 use Rattle.pads_calc.specs.declared.decl.Shape.{Shape}
 use Rattle.pads_calc.specs.declared.reading.Reading.{Reading}
 use Rattle.pads_calc.specs.Readings.{faulty}
-use Rattle.pads_calc.specs.Rows.{deepest, type_of, body_reading, extra, read_row, unread_row, row_by, row_of, subject_of_cut}
+use Rattle.pads_calc.specs.Rows.{deepest, type_of, body_reading, kept_reading, extra, read_row, unread_row, row_by, row_of, subject_of_cut}
 use Rattle.pads_calc.proofs.Cases.{pick}
 use Rattle.law_calculus.specs.Soundness.{InOrder, CountsAreSound, SpansAreSound}
 use Rattle.law_calculus.proofs.SoundNodes.{AllCounts, AllSpans, head-counts, head-spans, span-head}
@@ -90,15 +90,21 @@ module _ (cut : Cut) where
   sound-body_reading : (decls : List Decl) (number : ℕ) → Body (body_reading decls number cut)
   sound-body_reading decls number = sound-caller (subject_of_cut cut) decls deepest number [] [] 0
 
+  -- erasing leaves the descriptor and the place
+  sound-kept : (decls : List Decl) (number : ℕ) → Body (kept_reading decls number cut)
+  sound-kept decls number =
+      let h = sound-body_reading decls number in
+      record { counts = h.counts; spans = h.spans; span = h.span; forth = h.forth; within = h.within }
+
 pub sound-row_counts : (decls : List Decl) (shape : Shape) (number : ℕ) (cut : Cut) → CountsAreSound (row_of decls shape number cut).pd
 sound-row_counts decls shape number cut =
-    marked-counts cut cut.mark number (body_reading decls (type_of shape number) cut) (sound-body_reading cut decls (type_of shape number))
+    marked-counts cut cut.mark number (kept_reading decls (type_of shape number) cut) (sound-kept cut decls (type_of shape number))
 
 pub sound-row_spans : (decls : List Decl) (shape : Shape) (number : ℕ) (cut : Cut) → cut.first + length cut.bytes ≤ cut.end
     → SpansAreSound (row_of decls shape number cut).pd
 sound-row_spans decls shape number cut inside =
-    marked-spans cut cut.mark number (body_reading decls (type_of shape number) cut) (sound-body_reading cut decls (type_of shape number)) inside
+    marked-spans cut cut.mark number (kept_reading decls (type_of shape number) cut) (sound-kept cut decls (type_of shape number)) inside
 
 pub sound-row_span : (decls : List Decl) (shape : Shape) (number : ℕ) (cut : Cut)
     → (out-Pd (row_of decls shape number cut).pd).span ≡ record { begin = cut.first; end = cut.end }
-sound-row_span decls shape number cut = marked-span cut cut.mark number (body_reading decls (type_of shape number) cut)
+sound-row_span decls shape number cut = marked-span cut cut.mark number (kept_reading decls (type_of shape number) cut)
