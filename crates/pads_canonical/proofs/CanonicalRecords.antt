@@ -15,8 +15,10 @@ use Rattle.pads_calc.specs.declared.decl.Decl.{Decl}
 use Rattle.pads_calc.specs.declared.decl.Shape.{Shape}
 use Rattle.pads_calc.specs.declared.reading.Reading.{Reading}
 use Rattle.pads_calc.specs.Readings.{is_ok}
-use Rattle.pads_calc.specs.Rows.{deepest, type_of, subject_of_cut, body_reading, extra, row_by, row_of}
+use Rattle.pads_calc.specs.Rows.{deepest, type_of, subject_of_cut, body_reading, kept_reading, extra, row_by, row_of}
+use Rattle.pads_calc.specs.Skeletons.{KeepsAll}
 use Rattle.pads_calc.proofs.CleanNodes.{clean-own}
+use Rattle.pads_calc.proofs.KeptReadings.{kept-value}
 use Rattle.law_calculus.specs.Plain.{Plain}
 use Rattle.law_calculus.proofs.SoundTerms.{sound-caller}
 use Rattle.pads_canonical.specs.Canonical.{call_spelled, canon_of}
@@ -67,9 +69,10 @@ body-has decls number cut plain bounded ok =
       fits = here.fits;
     }
 
-pub row-has : (decls : List Decl) (shape : Shape) (number : ℕ) (cut : Cut) → Plain decls → length cut.bytes ≤ widest → is_clean (row_of decls shape number cut).pd ≡ true
+pub row-has : (decls : List Decl) (shape : Shape) (number : ℕ) (cut : Cut) → Plain decls → KeepsAll decls → length cut.bytes ≤ widest → is_clean (row_of decls shape number cut).pd ≡ true
     → RecordBytes decls (type_of shape number) (row_of decls shape number cut).value (length cut.bytes)
-row-has decls shape number cut plain bounded ok =
+row-has decls shape number cut plain keeps bounded ok =
     let r = body_reading decls (type_of shape number) cut in
-    let row = clean-row cut.mark number cut r ok in
-    subst (λ v. RecordBytes decls (type_of shape number) v (length cut.bytes)) (sym row.is) (body-has decls (type_of shape number) cut plain bounded row.clean)
+    let row = clean-row cut.mark number cut (kept_reading decls (type_of shape number) cut) ok in
+    let is : (row_of decls shape number cut).value ≡ r.value = row.is ∙ kept-value decls keeps (type_of shape number) r in
+    subst (λ v. RecordBytes decls (type_of shape number) v (length cut.bytes)) (sym is) (body-has decls (type_of shape number) cut plain bounded row.clean)

@@ -10,6 +10,7 @@ ghost use Rattle.pads_calc.specs.declared.term.Term.{Term};
 ghost use Rattle.pads_calc.specs.Calculus.{meaning};
 ghost use Rattle.pads_calc.specs.Readings.{Subject, is_ok};
 ghost use Rattle.pads_calc.specs.Rows.{type_of, row_of};
+ghost use Rattle.pads_calc.specs.Skeletons.{KeepsAll};
 ghost use Rattle.law_calculus.specs.Plain.{Plain};
 ghost use Rattle.pads_canonical.specs.Canonical.{canon_of};
 ghost use Rattle.pads_canonical.specs.Fitting.{Fits, FitsType};
@@ -24,20 +25,21 @@ pub fn clean_readings_fit()
         is_ok r ≡ true → Fits decls depth t env r.value (take (r.place - i) (drop i subject.bytes)) }
 {}
 
-/// The law of clean records, in a plain module, where a record has at most 16,777,216 bytes: the value of a
-/// row that is clean has canonical bytes, which are at most as many as the record's and fit the value.
+/// The law of clean records, in a plain module whose declarations keep all values, where a record has at most
+/// 16,777,216 bytes: the value of a row that is clean has canonical bytes, which are at most as many as the
+/// record's and fit the value.
 pub fn clean_records_have_canonical_bytes()
     ensures there { (decls : List Decl) (shape : Shape) (number : ℕ) (cut : Cut)
         → let row = row_of decls shape number cut in
-        Plain decls → length cut.bytes ≤ widest → is_clean row.pd ≡ true
+        Plain decls → KeepsAll decls → length cut.bytes ≤ widest → is_clean row.pd ≡ true
         → IsSome (canon_of decls (type_of shape number) row.value) }
     ensures short { (decls : List Decl) (shape : Shape) (number : ℕ) (cut : Cut) (bytes : List ℕ)
         → let row = row_of decls shape number cut in
-        Plain decls → length cut.bytes ≤ widest → is_clean row.pd ≡ true
+        Plain decls → KeepsAll decls → length cut.bytes ≤ widest → is_clean row.pd ≡ true
         → canon_of decls (type_of shape number) row.value ≡ Some bytes → length bytes ≤ length cut.bytes }
     ensures fits { (decls : List Decl) (shape : Shape) (number : ℕ) (cut : Cut) (bytes : List ℕ)
         → let row = row_of decls shape number cut in
-        Plain decls → length cut.bytes ≤ widest → is_clean row.pd ≡ true
+        Plain decls → KeepsAll decls → length cut.bytes ≤ widest → is_clean row.pd ≡ true
         → canon_of decls (type_of shape number) row.value ≡ Some bytes
         → FitsType decls (type_of shape number) row.value bytes }
 {}

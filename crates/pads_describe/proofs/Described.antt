@@ -1,4 +1,4 @@
--- What an accepted text describes is a module, well-sorted and plain.
+-- What an accepted text describes is a module, well-sorted and plain, that keeps all values.
 use Rattle.std.proofs.Common.{◌≡◌, ◌∙◌, sym, ap, refl, subst, ℕ, true, false, List, []}
 use Rattle.law_descriptions.proofs.Sorted.{well-sorted}
 use Rattle.pads_ast.specs.declared.decl.Ast.{Ast}
@@ -9,7 +9,10 @@ use Rattle.pads_typed_tree.specs.declared.decl.Description.{Description}
 use Rattle.law_calculus.specs.Plain.{Plain}
 use Rattle.law_calculus.specs.Sorted.{Sorted}
 use Rattle.pads_calc.specs.Modules.{Contents}
+use Rattle.pads_calc.specs.Skeletons.{KeepsAll}
 use Rattle.pads_trans.specs.Modules.{is_module, module_of}
+use Rattle.pads_trans.proofs.Kept.{translated-kept}
+use Rattle.pads_trans_expr.specs.Met.{names_of}
 use Rattle.law_descriptions.proofs.Formed.{module-formed}
 use Rattle.law_descriptions.proofs.PlainTerms.{module-plain}
 use Rattle.law_descriptions.proofs.SortedTerms.{module-sorted}
@@ -33,6 +36,9 @@ module _ (tree : Ast) (d : Description) (coding : Coding) (none : violations tre
   pub tree-plain : (made : Contents) → made ≡ module_of d coding → Plain made.decls
   tree-plain made same = subst (λ (m : Contents). Plain m.decls) (sym same) (module-plain d coding well)
 
+pub tree-keeps : (d : Description) (coding : Coding) (made : Contents) → made ≡ module_of d coding → KeepsAll made.decls
+tree-keeps d coding made same = subst (λ (m : Contents). KeepsAll m.decls) (sym same) (translated-kept (names_of d) coding d.decls)
+
 pub formed : (text : List ℕ) (coding : Coding) (made : Contents) → Describes text coding made → is_module made ≡ true
 formed text coding made h = subst (λ (m : Contents). is_module m ≡ true) (sym h.contents_is) (tree-formed h.tree (resolved h.tree) coding h.accepted.kept refl)
 
@@ -41,6 +47,9 @@ sorted text coding made h = tree-sorted h.tree (resolved h.tree) coding h.accept
 
 pub plain : (text : List ℕ) (coding : Coding) (made : Contents) → Describes text coding made → Plain made.decls
 plain text coding made h = tree-plain h.tree (resolved h.tree) coding h.accepted.kept refl made h.contents_is
+
+pub keeps : (text : List ℕ) (coding : Coding) (made : Contents) → Describes text coding made → KeepsAll made.decls
+keeps text coding made h = tree-keeps (resolved h.tree) coding made h.contents_is
 
 -- Each accepted text describes something.
 pub there : (text : List ℕ) (coding : Coding) (tree : Ast) → IsAccepted text tree → (made : Contents) × Describes text coding made

@@ -9,6 +9,7 @@ ghost use Rattle.pads_describe.specs.Verdicts.{IsRefused};
 ghost use Rattle.law_calculus.specs.Plain.{Plain};
 ghost use Rattle.law_calculus.specs.Sorted.{Sorted};
 ghost use Rattle.pads_calc.specs.Modules.{Contents};
+ghost use Rattle.pads_calc.specs.Skeletons.{KeepsAll};
 ghost use Rattle.pads_trans.specs.Modules.{is_module};
 ghost use Rattle.pads_describe.specs.declared.verdict.Verdict.{Verdict};
 
@@ -27,10 +28,11 @@ pub fn each_text_describes_one_module()
 {}
 
 /// In each coding an accepted text describes a module. What is described is well formed, well-sorted, so that nothing
-/// ill-sorted is ever evaluated, and plain.
+/// ill-sorted is ever evaluated, and plain, and it keeps all values.
 pub fn described_modules_are_sound()
     ensures there { (text : List ℕ) (coding : Coding) (tree : Ast) → IsAccepted text tree → (made : Contents) × Describes text coding made }
     ensures well_formed { (text : List ℕ) (coding : Coding) (made : Contents) → Describes text coding made → is_module made ≡ true }
     ensures sorted { (text : List ℕ) (coding : Coding) (made : Contents) → Describes text coding made → Sorted made.decls }
     ensures plain { (text : List ℕ) (coding : Coding) (made : Contents) → Describes text coding made → Plain made.decls }
+    ensures keeps_all { (text : List ℕ) (coding : Coding) (made : Contents) → Describes text coding made → KeepsAll made.decls }
 {}

@@ -5,7 +5,8 @@ use Rattle.std.specs.List.{AllByRecursion}
 use Rattle.std.proofs.lemmas.List.Elements.{All-nil, All-cons}
 use Rattle.law_calculus.specs.Plain.{Plain}
 use Rattle.pads_calc.specs.Modules.{Contents}
-use Rattle.pads_calc.specs.Rows.{body_reading, row_by, row_of, type_of}
+use Rattle.pads_calc.specs.Rows.{kept_reading, row_by, row_of, type_of}
+use Rattle.pads_calc.specs.Skeletons.{KeepsAll}
 use Rattle.pads_calc.specs.declared.reading.Reading.{Reading}
 use Rattle.pads_canonical.proofs.CanonicalRecords.{row-has}
 use Rattle.pads_drive.specs.Outputs.{Work, rows_of}
@@ -115,17 +116,17 @@ number-by mark.Short number cut r = refl
 number-by mark.Long number cut r = refl
 number-by mark.Broken number cut r = refl
 
--- a clean record of a plain module
-kept-at : (d : Description) → Plain d.made.decls → d.cutting.max ≤ 16777216 → (number : ℕ) (cut : Cut) → IsShort d.cutting.max cut → is_clean (row_in d.made number cut) ≡ true
+-- a clean record of a plain module that keeps all values
+kept-at : (d : Description) → Plain d.made.decls → KeepsAll d.made.decls → d.cutting.max ≤ 16777216 → (number : ℕ) (cut : Cut) → IsShort d.cutting.max cut → is_clean (row_in d.made number cut) ≡ true
     → IsKept d (row_in d.made number cut)
-kept-at d plain limit number cut short clean =
-    let has = row-has d.made.decls d.made.shape number cut plain (omega (arith, limit, short)) clean in
-    let same = number-by cut.mark number cut (body_reading d.made.decls (type_of d.made.shape number) cut) in
+kept-at d plain keeps limit number cut short clean =
+    let has = row-has d.made.decls d.made.shape number cut plain keeps (omega (arith, limit, short)) clean in
+    let same = number-by cut.mark number cut (kept_reading d.made.decls (type_of d.made.shape number) cut) in
     kept-row d (row_in d.made number cut) has.bytes clean (rw same has.is)
 
 -- all clean records of an input
-pub all-kept : (d : Description) → Plain d.made.decls → d.cutting.max ≤ 16777216 → FitsLimit d.cutting.discipline d.cutting.max → (input : List ℕ)
+pub all-kept : (d : Description) → Plain d.made.decls → KeepsAll d.made.decls → d.cutting.max ≤ 16777216 → FitsLimit d.cutting.discipline d.cutting.max → (input : List ℕ)
     → All (λ row. is_clean row ≡ true → IsKept d row) (rows_in prints d (frames_of d input))
-all-kept d plain limit fits input =
-    rows-all (prints d) (λ row. is_clean row ≡ true → IsKept d row) d.cutting.max (kept-at d plain limit) 0 (frames_of d input)
+all-kept d plain keeps limit fits input =
+    rows-all (prints d) (λ row. is_clean row ≡ true → IsKept d row) d.cutting.max (kept-at d plain keeps limit) 0 (frames_of d input)
     (all-short d.cutting.discipline d.cutting.max input 0 (frames_of d input) fits (tiles d.cutting.discipline d.cutting.max input (has-block d.cutting.discipline d.cutting.max fits)))

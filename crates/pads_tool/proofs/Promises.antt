@@ -15,6 +15,7 @@ use Rattle.pads_tool.proofs.Texts.{if-known}
 use Rattle.pads_drive.specs.Outputs.{Work}
 use Rattle.pads_value.specs.declared.row.Row.{Row}
 use Rattle.law_calculus.specs.Plain.{Plain}
+use Rattle.pads_calc.specs.Skeletons.{KeepsAll}
 use Rattle.pads_orders.specs.Orders.{IsWithinLimits}
 use Rattle.pads_tool.proofs.Kept.{all-kept}
 use Rattle.pads_tool.specs.Describing.{Description, described, frames_of, is_clean, lines}
@@ -95,10 +96,10 @@ module _ (work : Description → Work Row Bool) (left left' o o' n n' : Option (
   reading-read noting name settings content files files' source source' out out' notes notes' made ending.FileFault h p = absurd p
 
 -- The same where records are printed.
-pub each-kept : (settings : Settings) (made : Contents) → Plain made.decls → IsWithinLimits settings.cutting → (left : Option (List ℕ))
+pub each-kept : (settings : Settings) (made : Contents) → Plain made.decls → KeepsAll made.decls → IsWithinLimits settings.cutting → (left : Option (List ℕ))
     → IfSome left (λ input. All (λ row. is_clean row ≡ true → IsKept (described made settings.cutting) row) (rows_in prints (described made settings.cutting) (frames_of (described made settings.cutting) input)))
-each-kept settings made plain within None = tt
-each-kept settings made plain within (Some input) = all-kept (described made settings.cutting) plain within.limit within.fits input
+each-kept settings made plain keeps within None = tt
+each-kept settings made plain keeps within (Some input) = all-kept (described made settings.cutting) plain keeps within.limit within.fits input
 
 pub printed : (name : List ℕ) (settings : Settings) (s : Seen) (n : Counts) (e : Ending) → (printing name settings).keeps_records s.content s.left → Keeps (reading prints true name settings) s n e → Keeps (printing name settings) s n e
 printed name settings s n ending.Done kept h = (h.0, kept)

@@ -3,6 +3,7 @@ ghost use Rattle.pads_tool.specs.Texts.{IsAcceptedIn, IsDescribedIn, IsRefusedIn
 ghost use Rattle.pads_tool.specs.declared.ending.Ending.TheVariants as ending;
 ghost use Rattle.law_calculus.specs.Plain.{Plain};
 ghost use Rattle.pads_calc.specs.Modules.{contents};
+ghost use Rattle.pads_calc.specs.Skeletons.{KeepsAll};
 
 use crate::description::Described;
 use crate::ending::Ending;
@@ -56,6 +57,7 @@ pub(crate) fn described_in<F: Files>(
 ) -> Result<Module, Ending>
     ensures described { IfOk result (λ made. IsDescribedIn (F.content files.old name.now) coding (contents made)) }
     ensures plain { IfOk result (λ made. Plain (contents made).decls) }
+    ensures keeps_all { IfOk result (λ made. KeepsAll (contents made).decls) }
     ensures stops { IfErr result (StopsBefore (IsRefusedIn (F.content files.old name.now)) (F.faults files.old) (F.faults files.new)) }
     ensures kept { OnOk result (F.faults files.new ≡ F.faults files.old) }
     ensures untold { IfErr result (λ stop. stop ≢ ending.FileFault → F.faults files.new ≡ F.faults files.old) }

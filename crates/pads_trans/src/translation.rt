@@ -33,10 +33,7 @@ fn module_by(
 {
     let table = names.table(alloc)?;
     let decls = decls(alloc, names, ambient, description.decls.as_slice())?;
-    match Module::new(decls, table, shape(description.source)) {
-        Ok(made) => Ok(made),
-        Err(IllFormed) => Err(Refusal::Fault(IllFormed)),
-    }
+    Module::new(alloc, decls, table, shape(description.source))
 }
 
 /// The module of a description whose data is in this coding: its declarations' terms, and its names by

@@ -35,10 +35,7 @@ pub(crate) fn module(alloc: Global, body: Made<Term>) -> Result<Module, Refusal<
         head: None,
         each: 0,
     };
-    match Module::new(one(alloc, decl(alloc, body))?, names(alloc)?, shape) {
-        Ok(module) => Ok(module),
-        Err(fault) => Err(Refusal::Fault(fault)),
-    }
+    Module::new(alloc, one(alloc, decl(alloc, body))?, names(alloc)?, shape)
 }
 
 /// An unsigned number of 64 bits, in ASCII.

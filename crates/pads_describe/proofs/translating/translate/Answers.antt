@@ -1,5 +1,5 @@
 use Rattle.pads_calc.specs.Modules.{contents}
-use Rattle.pads_describe.proofs.Described.{never-unformed, tree-plain, tree-sorted}
+use Rattle.pads_describe.proofs.Described.{never-unformed, tree-keeps, tree-plain, tree-sorted}
 use Rattle.pads_describe.proofs.translating.translate.Goals as goal
 
 pub returns-in-Ok-clause-sorted : goal.returns-in-Ok-clause-sorted
@@ -9,6 +9,9 @@ returns-in-Ok-clause-sorted c =
 pub returns-in-Ok-clause-plain : goal.returns-in-Ok-clause-plain
 returns-in-Ok-clause-plain c =
     tree-plain c.args.checked.now.tree.now c.args.checked.now.description c.args.coding c.args.checked.now.clean c.args.checked.now.resolves (contents c.in-Ok.made) c.in-Ok.ensures.«module»
+
+pub returns-in-Ok-clause-keeps_all : goal.returns-in-Ok-clause-keeps_all
+returns-in-Ok-clause-keeps_all c = tree-keeps c.args.checked.now.description c.args.coding (contents c.in-Ok.made) c.in-Ok.ensures.«module»
 
 pub unreachable-requires : goal.unreachable-requires
 unreachable-requires c =
