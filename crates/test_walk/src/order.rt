@@ -11,6 +11,8 @@ pub(crate) enum Order<'t> {
     Describe(Coding, &'t str),
     /// `nest N`: what follows is about a record whose type is the last of N typedefs, each of the one before.
     Nest(u64),
+    /// `mask M` or `mask M,D:M,..`: what follows is about the same description under this mask.
+    Mask(&'t str),
     /// `terms`: the description's module.
     Terms,
     /// What a record reads as.
@@ -72,6 +74,9 @@ pub(crate) fn order_of(line: &str) -> Option<Order<'_>> {
     }
     if word == "ebcdic" {
         return Some(Order::Describe(Coding::Ebcdic, rest));
+    }
+    if word == "mask" {
+        return Some(Order::Mask(rest));
     }
     if word == "nest" {
         return Some(Order::Nest(rest.parse::<u64>().ok()?));

@@ -1,5 +1,6 @@
 //! Tells what the lines of a table ask for.
 use crate::line::Line;
+use crate::masks::mask_of;
 use crate::order::{Order, Record, order_of};
 use crate::row_text::put_row;
 use crate::term_text::{put_decl, put_names, put_shape};
@@ -8,6 +9,7 @@ use pads_calc::Module;
 use pads_code::Coding;
 use pads_describe::describe;
 use pads_json::record_line;
+use pads_mask::mask_module;
 use pads_value::{Frame, Mark, Memory, Refusal, Row};
 use pads_walk::walk;
 use std::alloc::{AllocError, Global};
@@ -152,6 +154,24 @@ fn above(module: &Option<Module>) -> Result<&Module, Trouble> {
     }
 }
 
+/// Puts the mask that words stand for over the module above, or tells which of its items names nothing.
+fn mask(alloc: Global, module: &mut Option<Module>, words: &str) -> Result<String, Trouble> {
+    let Some(mask) = mask_of(alloc, words)? else {
+        return Err(Trouble::Line("words that are no mask"));
+    };
+    match mask_module(alloc, above(module)?, &mask) {
+        Ok(masked) => {
+            *module = Some(masked);
+            Ok(String::new(alloc))
+        }
+        Err(Refusal::Fault(fault)) => {
+            let item = fault.item;
+            Ok(format!(in alloc; "mask item {item}\n")?)
+        }
+        Err(Refusal::Memory) => Err(Trouble::Memory),
+    }
+}
+
 /// The answer to an order. A description is kept for the lines below it.
 fn answer(alloc: Global, module: &mut Option<Module>, order: Order) -> Result<String, Trouble> {
     match order {
@@ -165,6 +185,7 @@ fn answer(alloc: Global, module: &mut Option<Module>, order: Order) -> Result<St
             *module = Some(described(alloc, text.as_str(), Coding::Ascii)?);
             Ok(String::new(alloc))
         }
+        Order::Mask(words) => mask(alloc, module, words),
         Order::Terms => Ok(module_told(alloc, above(module)?)?),
         Order::Read(record) => Ok(row_told(alloc, &row_of(alloc, above(module)?, &record)?)?),
         Order::Json(record) => {

@@ -1,0 +1,124 @@
+ghost use Rattle.std.specs.Prelude.{◌≡◌, ◌+◌, ◌<◌, ◌^◌, None, Some, if◌then◌else◌, IfOk, IfSome, OnOk};
+ghost use Rattle.pads_calc.specs.Modules.{contents};
+ghost use Rattle.pads_mask.specs.Masks.{fault_of, first_unknown as first_unknown_of, is_declared as is_declared_of, masked as masked_of, masked_decl as masked_decl_of, masked_decls as masked_decls_of, name_of};
+ghost use Rattle.pads_mask.specs.Unguarded.{unguarded as unguarded_of};
+ghost use Rattle.pads_modes.specs.Modes.{checks, mode_for};
+ghost use Rattle.pads_value.specs.Refusals.{OnFault};
+
+use crate::unguarded::unguarded;
+use pads_calc::{Decl, Decls, Module, Term};
+use pads_forms::{Terms, name_at};
+use pads_modes::{Mask, Mode};
+use pads_value::{Items, Memory, Refusal};
+use std::alloc::Global;
+
+/// An item of a mask, counted from 1, that names no declaration.
+#[derive(Clone, Copy, Debug, PartialEq, Eq)]
+pub struct MaskFault {
+    pub item: u64,
+}
+
+/// The name of a declaration.
+fn name<'m>(module: &'m Module, decl: &'m Decl) -> &'m [u8]
+    ensures name { result.now ≡ name_of (contents module.now) decl.now }
+{
+    let terms = Terms {
+        decls: &module.decls,
+        names: &module.names,
+    };
+    name_at(&terms, decl.name)
+}
+
+/// Whether some declaration has this name.
+fn is_declared(module: &Module, wanted: &[u8]) -> bool
+    ensures declared { result ≡ is_declared_of (contents module.now) wanted.now }
+{
+    let mut decls = module.decls.as_slice().iter();
+    decls.any(|decl| name(module, decl) == wanted)
+}
+
+/// The place of the first item that names no declaration, counted from 0.
+fn first_unknown(module: &Module, mask: &Mask) -> Option<usize>
+    ensures first { result ≡ first_unknown_of (contents module.now) mask.now }
+    ensures few { IfSome result (λ at. at < 2 ^ 63) }
+{
+    mask.named
+        .as_slice()
+        .iter()
+        .position(|one| !is_declared(module, one.name.as_slice()))
+}
+
+/// The least item that names no declaration, counted from 1.
+fn fault(module: &Module, mask: &Mask) -> Option<u64>
+    ensures fault { result ≡ fault_of (contents module.now) mask.now }
+{
+    match first_unknown(module, mask) {
+        None => None,
+        Some(at) => Some(at as u64 + 1),
+    }
+}
+
+/// The body of a declaration of this mode.
+fn masked_body(alloc: Global, body: Term, mode: Mode) -> Result<Term, Memory>
+    ensures body { IfOk result (λ made. made ≡ (if checks mode then body else unguarded_of body)) }
+{
+    if mode.checks() {
+        Ok(body)
+    } else {
+        unguarded(alloc, body)
+    }
+}
+
+/// A declaration of this mode.
+fn masked_decl(alloc: Global, decl: &Decl, mode: Mode) -> Result<Decl, Memory>
+    ensures decl { IfOk result (λ made. made ≡ masked_decl_of mode decl.now) }
+{
+    let Decl {
+        name,
+        params,
+        body,
+        set,
+    } = decl.copy(alloc)?;
+    let body = masked_body(alloc, body, mode)?;
+    Ok(Decl {
+        name,
+        params,
+        body,
+        set: set && mode.keeps(),
+    })
+}
+
+/// The declarations, each by its mode.
+fn masked_decls(alloc: Global, module: &Module, mask: &Mask) -> Result<Decls, Memory>
+    ensures decls { IfOk result (λ made. made ≡ masked_decls_of (contents module.now) mask.now module.now.decls) }
+{
+    let mut made = Items::new(alloc);
+    for decl in module.decls.as_slice() {
+        let mode = mask.mode_for(name(module, decl));
+        made.push(masked_decl(alloc, decl, mode)?)?;
+    }
+    Ok(made)
+}
+
+/// The module under a mask. `MaskFault` exactly where an item of the mask names no declaration; the least
+/// such.
+pub fn mask_module(
+    alloc: Global,
+    module: &Module,
+    mask: &Mask,
+) -> Result<Module, Refusal<MaskFault>>
+    ensures masked { IfOk result (λ made. contents made ≡ masked_of (contents module.now) mask.now) }
+    ensures named { OnOk result (fault_of (contents module.now) mask.now ≡ None) }
+    ensures fault { OnFault result (λ fault. fault_of (contents module.now) mask.now ≡ Some fault.item) }
+{
+    if let Some(item) = fault(module, mask) {
+        return Err(Refusal::Fault(MaskFault { item }));
+    }
+    let decls = masked_decls(alloc, module, mask)?;
+    let names = module.names.copy(alloc)?;
+    match Module::new(alloc, decls, names, module.shape) {
+        Ok(made) => Ok(made),
+        Err(Refusal::Fault(_)) => unreachable!(),
+        Err(Refusal::Memory) => Err(Refusal::Memory),
+    }
+}
