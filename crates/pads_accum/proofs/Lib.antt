@@ -1,2 +1,11 @@
+pub mod Counting
+pub mod EmptyLaws
+pub mod Entries
+pub mod Fitting
+pub mod Indexed
 pub mod Layers
+pub mod ListFeeding
+pub mod PartFeeding
+pub mod Passing
+pub mod Routing
 pub mod Rows

@@ -1,6 +1,7 @@
 -- Whether a row would make a count pass the limit: the first such part of all lists numbered together,
 -- its clean nodes looked at before the others, with the count that was wanted.
-use Rattle.std.specs.Prelude.{ℕ, ◌+◌, ◌-◌, ◌^◌, min, nat_lt, not, List, [], ◌∷◌, length, count_by, Option, Some, None, if◌then◌else◌}
+use Rattle.std.specs.Prelude.{ℕ, ◌+◌, ◌-◌, ◌^◌, min, nat_lt, Bool, not, ◌||◌, List, [], ◌∷◌, length, count_by, Option, Some, None, if◌then◌else◌}
+use Rattle.std.specs.List.{list_any}
 use Rattle.pads_value.specs.declared.row.Row.{Row}
 use Rattle.pads_plan.specs.declared.part.PlanList.{PlanList}
 use Rattle.pads_plan.specs.declared.part.PlanPart.{PlanPart}
@@ -41,3 +42,7 @@ lists_over count before at (plan ∷ plans) (list ∷ lists) rows =
 -- what the next row would make of a summary with this plan
 abbrev pub limit_of : List PlanList → List SumList → Row → Option Limit
 limit_of plan lists row = lists_over (length plan) 0 0 plan lists (row ∷ [])
+
+-- whether good or bad of some part is above 2^62
+abbrev pub passes : List SumList → Bool
+passes lists = list_any (λ list. list_any (λ part. nat_lt most part.good || nat_lt most part.bad) list.parts) lists

@@ -37,7 +37,7 @@ sample_in form.Address v = option_and_then address_sample (num_in v)
 sample_in (form.Label names) v = option_and_then (name_sample names) (label_in v)
 sample_in form.Fields v = None
 sample_in (form.Branch names) v = option_and_then (λ branch. name_sample names branch.0) (branch_in v)
-sample_in form.Elements v = option_map (λ elements. num (pos (length elements))) (array_in v)
+sample_in form.Elements v = option_and_then (λ elements. number_sample (pos (length elements))) (array_in v)
 
 abbrev pub sample_of : PartForm → Node → Option Sample
 sample_of form node = if node.clean then option_and_then (λ v. sample_in form (out-Val v)) node.value else None

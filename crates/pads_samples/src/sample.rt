@@ -64,7 +64,7 @@ pub fn sample_given<'a>(form: &'a PartForm, value: &'a Val) -> Option<Given<'a>>
         (PartForm::Address, Val::Num(number)) => address_given(*number),
         (PartForm::Label(names), Val::Enum(label)) => name_given(names.as_slice(), *label),
         (PartForm::Branch(names), Val::Branch(branch, _)) => name_given(names.as_slice(), *branch),
-        (PartForm::Elements, Val::Array(elements)) => Some(Given::Num(i128::from(elements.len()))),
+        (PartForm::Elements, Val::Array(elements)) => number_given(i128::from(elements.len())),
         _ => None,
     }
 }

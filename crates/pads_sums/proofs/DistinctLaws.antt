@@ -1,14 +1,13 @@
--- What one sample more changes: the distinct values, those that are tracked with their occurrences, and
--- the others.
-use Rattle.std.proofs.Common.{◌≡◌, ◌∙◌, sym, ap, refl, ℕ, ◌<◌, ◌≤◌, Bool, true, false, not, ◌||◌, true≢false, List, [], ◌∷◌, ◌++◌, length, take, arith}
+-- The distinct values of two lists one after the other, and which of them are tracked.
+use Rattle.std.proofs.Common.{◌≡◌, ◌∙◌, sym, ap, refl, Bool, true, false, not, ◌||◌, ◌&&◌, true≢false, List, [], ◌∷◌, ◌++◌}
 use Rattle.std.specs.Cmp.{IsEquivalence}
 use Rattle.std.specs.List.{filter, list_any}
 use Rattle.std.proofs.lemmas.Cmp.{int_eq_equiv, nat_list_eq_equiv}
-use Rattle.std.proofs.lemmas.List.{append-nil, length-append, take-append-le, take_all}
-use Rattle.std.proofs.lemmas.List.Elements.{filter-append}
+use Rattle.std.proofs.lemmas.List.Elements.{filter-append, filter_agree}
 use Rattle.std.proofs.lemmas.Map.Views.{any-filter_same}
 use Rattle.pads_samples.specs.Samples.{Sample, num, text, same}
-use Rattle.pads_sums.specs.Distinct.{distinct, first_values}
+use Rattle.pads_sums.specs.Distinct.{distinct}
+use Rattle.pads_sums.proofs.Lists.{filter_both, filter_all}
 
 -- to be the same value is an equivalence
 same-refl : (x : Sample) → same x x ≡ true
@@ -50,40 +49,24 @@ pub in_distinct : (sample : Sample) (xs : List Sample) → is_in sample (distinc
 in_distinct sample [] = refl
 in_distinct sample (x ∷ xs) = in-step sample x xs (same sample x) refl (in_distinct sample xs)
 
--- a value that is new
-abbrev pub unless : Bool → Sample → List Sample
-unless true sample = []
-unless false sample = sample ∷ []
+-- the values of a list that don't come in another
+abbrev pub new_to : List Sample → List Sample → List Sample
+new_to known samples = filter (λ sample. not (is_in sample known)) samples
 
-new-step : (sample x : Sample) (b a : Bool) → same sample x ≡ b → filter (λ other. not (same x other)) (unless a sample) ≡ unless (b || a) sample
-new-step sample x true true is = refl
-new-step sample x false true is = refl
-new-step sample x true false is = rw (same-symm x sample, is) refl
-new-step sample x false false is = rw (same-symm x sample, is) refl
+new-test : (x : Sample) (xs : List Sample) (y : Sample) (b a : Bool) → same y x ≡ b → (not a && not (same x y)) ≡ not (b || a)
+new-test x xs y true true is = refl
+new-test x xs y true false is = ap not (same-symm x y ∙ is)
+new-test x xs y false true is = refl
+new-test x xs y false false is = ap not (same-symm x y ∙ is)
 
--- one sample more is one value more where it is new
-pub distinct_next : (xs : List Sample) (sample : Sample) → distinct (xs ++ sample ∷ []) ≡ distinct xs ++ unless (is_in sample xs) sample
-distinct_next [] sample = refl
-distinct_next (x ∷ xs) sample =
+-- The values of the first list, then those of the second that are new.
+pub distinct_append : (xs ys : List Sample) → distinct (xs ++ ys) ≡ distinct xs ++ new_to xs (distinct ys)
+distinct_append [] ys = sym (filter_all (λ sample. not (is_in sample [])) (λ sample. refl) (distinct ys))
+distinct_append (x ∷ xs) ys =
     let others : Sample → Bool = λ other. not (same x other) in
-    ap (λ (values : List Sample). x ∷ filter others values) (distinct_next xs sample)
-    ∙ ap (λ values. x ∷ values) (filter-append others (distinct xs) (unless (is_in sample xs) sample))
-    ∙ ap (λ (new : List Sample). x ∷ (filter others (distinct xs) ++ new)) (new-step sample x (same sample x) (is_in sample xs) refl)
-
--- a value that has come already, or for which there is no room, changes nothing in the values that are tracked
-pub tracked_stay : (limit : ℕ) (xs : List Sample) (sample : Sample) → is_in sample xs ≡ true → first_values limit (xs ++ sample ∷ []) ≡ first_values limit xs
-tracked_stay limit xs sample there =
-    ap (take limit) (distinct_next xs sample ∙ ap (λ known. distinct xs ++ unless known sample) there ∙ append-nil (distinct xs))
-
-pub tracked_full : (limit : ℕ) (xs : List Sample) (sample : Sample) → limit ≤ length (distinct xs) → first_values limit (xs ++ sample ∷ []) ≡ first_values limit xs
-tracked_full limit xs sample full =
-    ap (take limit) (distinct_next xs sample) ∙ take-append-le limit (distinct xs) (unless (is_in sample xs) sample) full
-
--- a new value goes last, where there is room
-pub tracked_new : (limit : ℕ) (xs : List Sample) (sample : Sample) → is_in sample xs ≡ false → length (distinct xs) < limit
-    → first_values limit (xs ++ sample ∷ []) ≡ first_values limit xs ++ sample ∷ []
-tracked_new limit xs sample new room =
-    let longer : length (distinct xs ++ sample ∷ []) ≤ limit = let both = length-append (distinct xs) (sample ∷ []) in omega (arith, both, room) in
-    ap (take limit) (distinct_next xs sample ∙ ap (λ known. distinct xs ++ unless known sample) new)
-    ∙ take_all limit (distinct xs ++ sample ∷ []) longer
-    ∙ ap (λ values. values ++ sample ∷ []) (sym (take_all limit (distinct xs) (omega (arith, room))))
+    ap (λ (values : List Sample). x ∷ filter others values) (distinct_append xs ys)
+    ∙ ap (λ values. x ∷ values)
+    (filter-append others (distinct xs) (new_to xs (distinct ys))
+    ∙ ap (λ (new : List Sample). filter others (distinct xs) ++ new)
+    (filter_both others (λ y. not (is_in y xs)) (distinct ys)
+    ∙ filter_agree (λ y. not (is_in y xs) && others y) (λ y. not (is_in y (x ∷ xs))) (λ y. new-test x xs y (same y x) (is_in y xs) refl) (distinct ys)))

@@ -1,2 +1,12 @@
+pub mod AddingLaws
+pub mod Apart
 pub mod DistinctLaws
+pub mod Entries
+pub mod Lists
+pub mod Members
+pub mod NumberLaws
+pub mod Positions
 pub mod Rows
+pub mod SampleKinds
+pub mod SumLaws
+pub mod TrackedLaws

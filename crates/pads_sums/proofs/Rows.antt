@@ -17,18 +17,18 @@ apart : distinct (text (codes "7") ∷ num (pos 7) ∷ text (codes "7") ∷ []) 
 apart = refl
 
 -- occurrences are those in the whole list, and what isn't tracked counts among the others
-two-tracked : tracked 2 samples ≡ (num (pos 7), 3) ∷ (num (negsuc 1), 2) ∷ []
+two-tracked : tracked (Some 2) samples ≡ (num (pos 7), 3) ∷ (num (negsuc 1), 2) ∷ []
 two-tracked = refl
 
-one-other : others 2 samples ≡ 1
+one-other : others (Some 2) samples ≡ 1
 one-other = refl
 
 -- others are samples, and not values
-two-others-of-one-value : others 1 (num (pos 1) ∷ num (pos 2) ∷ num (pos 2) ∷ []) ≡ 2
+two-others-of-one-value : others (Some 1) (num (pos 1) ∷ num (pos 2) ∷ num (pos 2) ∷ []) ≡ 2
 two-others-of-one-value = refl
 
 -- six samples, of six clean nodes beside three others
-sums : kept 2 (codes "n") 6 3 samples ≡ record {
+sums : kept (Some 2) (codes "n") 6 3 samples ≡ record {
   place = codes "n";
   good = 6;
   bad = 3;
@@ -42,7 +42,7 @@ sums : kept 2 (codes "n") 6 3 samples ≡ record {
 sums = refl
 
 -- no samples
-nothing : kept 2 (codes "n") 0 1 [] ≡ record {
+nothing : kept (Some 2) (codes "n") 0 1 [] ≡ record {
   place = codes "n";
   good = 0;
   bad = 1;

@@ -1,3 +1,4 @@
+pub mod Adding
 pub mod Distinct
 pub mod Seen
 pub mod Sums

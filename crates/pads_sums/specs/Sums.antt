@@ -31,7 +31,7 @@ total all = fold (λ so_far number. so_far +ℤ number) (pos 0) all
 abbrev pub samples_of : PartForm → List Node → List Sample
 samples_of form nodes = filter_map (sample_of form) nodes
 
-module _ (limit : ℕ) (place : List ℕ) (good bad : ℕ) (samples : List Sample) where
+module _ (room : Option ℕ) (place : List ℕ) (good bad : ℕ) (samples : List Sample) where
   abbrev pub kept : PartSum
   kept = record {
     place = place;
@@ -41,11 +41,11 @@ module _ (limit : ℕ) (place : List ℕ) (good bad : ℕ) (samples : List Sampl
     least = over_all int_min (numbers samples);
     greatest = over_all int_max (numbers samples);
     sum = total (numbers samples);
-    tracked = tracked limit samples;
-    others = others limit samples;
+    tracked = tracked room samples;
+    others = others room samples;
   }
 
--- what is kept of these nodes of a part of this place and form, where so many values are tracked
-abbrev pub part_sum : ℕ → List ℕ → PartForm → List Node → PartSum
-part_sum limit place form nodes =
-    kept limit place (count_by (λ node. node.clean) nodes) (count_by (λ node. not node.clean) nodes) (samples_of form nodes)
+-- what is kept of these nodes of a part of this place and form, where so many values are tracked, or all
+abbrev pub part_sum : Option ℕ → List ℕ → PartForm → List Node → PartSum
+part_sum room place form nodes =
+    kept room place (count_by (λ node. node.clean) nodes) (count_by (λ node. not node.clean) nodes) (samples_of form nodes)

@@ -1,5 +1,15 @@
+ghost use Rattle.std.specs.Prelude.{◌≡◌, [], ℕ, nat_eq, Option, OnOk, if◌then◌else◌};
+ghost use Rattle.std.specs.Int.{int_min, int_max};
+ghost use Rattle.std.specs.Option.{option_copied};
+ghost use Rattle.pads_samples.specs.Samples.{num, text};
+ghost use Rattle.pads_samples.specs.declared.form.PartForm.{PartForm as FormOf};
+ghost use Rattle.pads_sums.specs.Adding.{with_class, with_node, with_number, with_value};
+ghost use Rattle.pads_sums.specs.Sums.{part_sum};
+
 use crate::Tracked;
-use pads_value::{Bytes, Items};
+use pads_samples::{Given, PartForm, sample_given};
+use pads_value::{Bytes, Items, Memory, Val};
+use std::alloc::Global;
 
 /// What is kept of a part's nodes.
 #[derive(Drop)]
@@ -19,6 +29,113 @@ pub struct PartSum {
     pub tracked: Tracked,
     /// How many samples have a value that isn't tracked.
     pub others: u64,
+}
+
+/// The lesser of a number and the least of so many, if there are any.
+fn lesser(count: u64, least: i128, number: i128) -> i128
+    ensures least { result ≡ (if nat_eq count 0 then number else int_min least number) }
+{
+    if count == 0 {
+        number
+    } else {
+        least.min(number)
+    }
+}
+
+/// The greater of a number and the greatest of so many, if there are any.
+fn greater(count: u64, greatest: i128, number: i128) -> i128
+    ensures greatest { result ≡ (if nat_eq count 0 then number else int_max greatest number) }
+{
+    if count == 0 {
+        number
+    } else {
+        greatest.max(number)
+    }
+}
+
+impl PartSum {
+    /// The sum of no nodes.
+    pub fn new(alloc: Global, place: Bytes) -> PartSum
+        ensures none { (room : Option ℕ) (form : FormOf) → result ≡ part_sum room place form [] }
+    {
+        PartSum {
+            place,
+            good: 0,
+            bad: 0,
+            nums: 0,
+            least: 0,
+            greatest: 0,
+            sum: 0,
+            tracked: Tracked::new(alloc),
+            others: 0,
+        }
+    }
+
+    fn add_class(&mut self, clean: bool)
+        ensures class { self.new ≡ with_class clean self.old }
+    {
+        if clean {
+            self.good = self.good.saturating_add(1);
+        } else {
+            self.bad = self.bad.saturating_add(1);
+        }
+    }
+
+    fn add_number(&mut self, number: i128)
+        ensures number { self.new ≡ with_number number self.old }
+    {
+        self.least = lesser(self.nums, self.least, number);
+        self.greatest = greater(self.nums, self.greatest, number);
+        self.sum = self.sum.saturating_add(number);
+        self.nums = self.nums.saturating_add(1);
+    }
+
+    fn count_number(&mut self, room: Option<u64>, number: i128) -> Result<(), Memory>
+        ensures counted { OnOk result (self.new ≡ with_value room (num number) self.old) }
+    {
+        if !self.tracked.count_number(room, number)? {
+            self.others = self.others.saturating_add(1);
+        }
+        Ok(())
+    }
+
+    fn count_text(&mut self, room: Option<u64>, points: &[u8]) -> Result<(), Memory>
+        ensures counted { OnOk result (self.new ≡ with_value room (text points.now) self.old) }
+    {
+        if !self.tracked.count_text(room, points)? {
+            self.others = self.others.saturating_add(1);
+        }
+        Ok(())
+    }
+
+    /// Adds a node of a part of this form: whether it is clean, and its value, where that is known. So many
+    /// values are tracked, or all (`None`). Without memory it is partly added.
+    pub fn add(
+        &mut self,
+        room: Option<u64>,
+        form: &PartForm,
+        clean: bool,
+        value: Option<&Val>,
+    ) -> Result<(), Memory>
+        ensures added { OnOk result (self.new ≡ with_node room form.now self.old (record { value = option_copied value.entry; clean = clean })) }
+    {
+        self.add_class(clean);
+        if !clean {
+            return Ok(());
+        }
+        let Some(value) = value else {
+            return Ok(());
+        };
+        match sample_given(form, value) {
+            None => Ok(()),
+            Some(Given::Num(number)) => {
+                self.add_number(number);
+                self.count_number(room, number)
+            }
+            Some(Given::Text(points)) => self.count_text(room, points),
+            Some(Given::Address(points)) => self.count_text(room, points.as_slice()),
+        }
+    }
 }
 
 /// The sums of parts, in document order.

@@ -1,8 +1,12 @@
-ghost use Rattle.std.specs.Prelude.{◌≡◌, ◌↔◌, [], length, slice_get, IsTrue};
+ghost use Rattle.std.specs.Prelude.{◌≡◌, ◌↔◌, ◌||◌, [], length, map, slice_get, IsTrue, IfOk, OnOk, OnErr};
+ghost use Rattle.std.specs.Bool.{OnFalse};
 ghost use Rattle.std.specs.Option.{option_map};
-ghost use Rattle.pads_sums.specs.Seen.{pair_seen};
+ghost use Rattle.pads_samples.specs.Samples.{num, text};
+ghost use Rattle.pads_sums.specs.Adding.{again, counted, counted_where, has_room as has_room_of, is_among, is_counted};
+ghost use Rattle.pads_sums.specs.Seen.{number_pair, pair_seen, sample_seen, text_pair};
 
 use indexmap::IndexMap;
+use pads_value::Memory;
 use std::alloc::Global;
 use std::marker::Model;
 
@@ -11,6 +15,85 @@ use std::marker::Model;
 pub enum Sample<'a> {
     Num(i128),
     Text(&'a [u8]),
+}
+
+/// Counts one occurrence more of a number, where it is tracked; whether it is.
+fn number_again(numbers: &mut IndexMap<i128, u64>, number: i128) -> bool
+    ensures found { result ≡ is_among (num number) (map number_pair numbers.old.entries) }
+    ensures pairs { map number_pair numbers.new.entries ≡ again (num number) (map number_pair numbers.old.entries) }
+    ensures same { OnFalse result (map number_pair numbers.new.entries ≡ map number_pair numbers.old.entries) }
+{
+    match numbers.get_index_of(&number) {
+        None => false,
+        Some(at) => {
+            numbers[at] = numbers[at].saturating_add(1);
+            true
+        }
+    }
+}
+
+/// Counts one occurrence more of a text, where it is tracked; whether it is.
+fn text_again(texts: &mut IndexMap<Vec<u8>, u64>, points: &[u8]) -> bool
+    ensures found { result ≡ is_among (text points.now) (map text_pair texts.old.entries) }
+    ensures pairs { map text_pair texts.new.entries ≡ again (text points.now) (map text_pair texts.old.entries) }
+    ensures same { OnFalse result (map text_pair texts.new.entries ≡ map text_pair texts.old.entries) }
+{
+    match texts.get_index_of(points) {
+        None => false,
+        Some(at) => {
+            texts[at] = texts[at].saturating_add(1);
+            true
+        }
+    }
+}
+
+/// Counts an occurrence of a number: one more of a number that is there; a new one is put last where there
+/// is room. Whether it is there then.
+fn put_number(numbers: &mut IndexMap<i128, u64>, free: bool, number: i128) -> Result<bool, Memory>
+    ensures found { IfOk result (λ found. found ≡ (is_among (num number) (map number_pair numbers.old.entries) || free)) }
+    ensures pairs { OnOk result (map number_pair numbers.new.entries ≡ counted_where free (num number) (map number_pair numbers.old.entries)) }
+    ensures err { OnErr result (map number_pair numbers.new.entries ≡ map number_pair numbers.old.entries) }
+{
+    if number_again(numbers, number) {
+        return Ok(true);
+    }
+    if !free {
+        return Ok(false);
+    }
+    numbers.insert(number, 1)?;
+    Ok(true)
+}
+
+/// Counts an occurrence of a text, as `put_number` does. A text that is there isn't copied.
+fn put_text(
+    alloc: Global,
+    texts: &mut IndexMap<Vec<u8>, u64>,
+    free: bool,
+    points: &[u8],
+) -> Result<bool, Memory>
+    ensures found { IfOk result (λ found. found ≡ (is_among (text points.now) (map text_pair texts.old.entries) || free)) }
+    ensures pairs { OnOk result (map text_pair texts.new.entries ≡ counted_where free (text points.now) (map text_pair texts.old.entries)) }
+    ensures err { OnErr result (map text_pair texts.new.entries ≡ map text_pair texts.old.entries) }
+{
+    if text_again(texts, points) {
+        return Ok(true);
+    }
+    if !free {
+        return Ok(false);
+    }
+    let key = Vec::from_slice(alloc, points)?;
+    texts.insert(key, 1)?;
+    Ok(true)
+}
+
+/// Whether so many values leave room for one more.
+fn has_room(room: Option<u64>, count: u64) -> bool
+    ensures room { result ≡ has_room_of room count }
+{
+    match room {
+        None => true,
+        Some(room) => count < room,
+    }
 }
 
 /// The values that are tracked, in the order in which they first came, each with the number of its
@@ -55,6 +138,28 @@ impl Tracked {
         ensures empty { IsTrue result ↔ (length self.now ≡ 0) }
     {
         self.len() == 0
+    }
+
+    /// Counts one occurrence more of a number that is tracked. Another is tracked from now on, where there
+    /// is room: for so many values, or for all (`None`). Whether it is tracked then. Without memory all
+    /// stays.
+    pub fn count_number(&mut self, room: Option<u64>, number: i128) -> Result<bool, Memory>
+        ensures found { IfOk result (λ found. found ≡ is_counted room (num number) self.old) }
+        ensures counted { OnOk result (self.new ≡ counted room (num number) self.old) }
+        ensures err { OnErr result (self.new ≡ self.old) }
+    {
+        let free = has_room(room, self.len());
+        put_number(&mut self.numbers, free, number)
+    }
+
+    /// Counts one occurrence more of a text, as `count_number` does. A text that is tracked isn't copied.
+    pub fn count_text(&mut self, room: Option<u64>, points: &[u8]) -> Result<bool, Memory>
+        ensures found { IfOk result (λ found. found ≡ is_counted room (text points.now) self.old) }
+        ensures counted { OnOk result (self.new ≡ counted room (text points.now) self.old) }
+        ensures err { OnErr result (self.new ≡ self.old) }
+    {
+        let free = has_room(room, self.len());
+        put_text(self.alloc, &mut self.texts, free, points)
     }
 
     /// The value number `at`, from 0, and the number of its occurrences; `None` exactly past the end.

@@ -1,0 +1,24 @@
+-- What a summary has: the plan that it was made for, the sums of each list of it, and whether it is spent,
+-- as it is after want of memory.
+use Rattle.std.specs.Prelude.{◌≡◌, Bool, true, false, List, Result, Ok, Err}
+use Rattle.pads_value.specs.declared.memory.Refusal.{Refusal}
+use Rattle.pads_value.specs.declared.memory.Refusal.TheVariants as refusal
+use Rattle.pads_value.specs.declared.row.Row.{Row}
+use Rattle.pads_plan.specs.declared.part.PlanList.{PlanList}
+use Rattle.pads_sums.specs.declared.part_sum.SumList.{SumList}
+use Rattle.pads_accum.specs.Summaries.{summary_of}
+
+pub record State : Type 0 where
+  pub plan : List PlanList
+  pub lists : List SumList
+  pub spent : Bool
+
+-- the sums are those of these rows
+abbrev pub IsSummaryOf : State → List Row → Type 0
+IsSummaryOf state rows = state.lists ≡ summary_of state.plan rows
+
+-- whether memory ran out
+abbrev pub is_memory : {T F : Type 0} → Result T (Refusal F) → Bool
+is_memory (Ok made) = false
+is_memory (Err (refusal.Fault fault)) = false
+is_memory (Err refusal.Memory) = true
