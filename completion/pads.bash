@@ -8,6 +8,8 @@ _pads_words() {
     check) echo 'DESC' ;;
     parse) echo 'DESC' ;;
     print) echo 'DESC' ;;
+    summary) echo 'DESC' ;;
+    selftest) echo 'N' ;;
     help) echo 'COMMAND' ;;
     --progress) echo 'ORDER' ;;
     explain) echo 'DESC' ;;
@@ -24,6 +26,8 @@ _pads_options() {
     check) echo '--coding=' ;;
     parse) echo '--records= --coding= --max=' ;;
     print) echo '--records= --coding= --max=' ;;
+    summary) echo '--records= --coding= --max= --top=' ;;
+    selftest) echo '' ;;
   esac
 }
 
@@ -58,9 +62,9 @@ _pads() {
   COMPREPLY=()
   if [ "${tokens[1]}" = --progress ] && [ "$last" -gt 1 ]; then first=2; fi
   if [ "$last" -eq 1 ]; then
-    _pads_among "$token" check parse print --help help --version --progress explain faults csv --install --uninstall
+    _pads_among "$token" check parse print summary selftest --help help --version --progress explain faults csv --install --uninstall
   elif [ "$last" -eq "$first" ]; then
-    _pads_among "$token" check parse print
+    _pads_among "$token" check parse print summary selftest
   elif [[ $token = --*=* ]]; then
     option=${token%%=*}
     mapfile -t options < <(_pads_values "$option")
@@ -80,7 +84,7 @@ _pads() {
     case ${words[count]-} in
       DESC) _pads_files .pads "$typed" ;;
       FOLDER) compopt -o filenames; mapfile -t COMPREPLY < <(compgen -d -- "$typed") ;;
-      COMMAND) _pads_among "$typed" check parse print --help help --version --progress explain faults csv --install --uninstall ;;
+      COMMAND) _pads_among "$typed" check parse print summary selftest --help help --version --progress explain faults csv --install --uninstall ;;
     esac
   fi
 }

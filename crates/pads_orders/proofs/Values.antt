@@ -3,7 +3,7 @@ use Rattle.std.proofs.Common.{◌≡◌, ℕ, ◌≤◌, ◌<◌, true, false, n
 use Rattle.std.proofs.lemmas.Bool.{lt-ltb}
 use Rattle.std.specs.List.{list_any}
 use Rattle.pads_orders.specs.Options.{values, behind, arguments, is_option, once}
-use Rattle.pads_orders.specs.Orders.{description_of}
+use Rattle.pads_orders.specs.Orders.{name_in, only}
 
 some_there : (xs : List (List ℕ)) (x : List ℕ) → slice_get xs 0 ≡ Some x → 0 < length xs
 some_there [] x h = cc
@@ -63,24 +63,21 @@ some_more (word ∷ words) some = elim (is_option word) as (λ b. is_option word
   | false ↦ λ e. (word, arguments words, rw e refl)
 ] refl
 
--- the only argument, where it isn't empty
-pub described_once : (words more : List (List ℕ)) (word : List ℕ) → words ≡ word ∷ more → is_option word ≡ false → arguments more ≡ [] → 0 < length word
-    → description_of (arguments words) ≡ Some word
-described_once words more [] whole is none some = absurd (omega arith)
-described_once words more (letter ∷ name) whole is none some = rw (whole, is, none) refl
+-- the only argument
+pub only_one : (words more : List (List ℕ)) (word : List ℕ) → words ≡ word ∷ more → is_option word ≡ false → arguments more ≡ [] → only (arguments words) ≡ Some word
+only_one words more word whole is none = rw (whole, is, none) refl
 
-pub described_empty : (words more : List (List ℕ)) (word : List ℕ) → words ≡ word ∷ more → is_option word ≡ false → arguments more ≡ [] → length word ≡ 0
-    → description_of (arguments words) ≡ None
-described_empty words more [] whole is none empty = rw whole refl
-described_empty words more (letter ∷ name) whole is none empty = absurd (omega arith)
+several : (word : List ℕ) (others : List (List ℕ)) (first : List ℕ) (more : List (List ℕ)) → others ≡ first ∷ more → only (word ∷ others) ≡ None
+several word others first more e = rw e refl
 
-several : (word : List ℕ) (others : List (List ℕ)) (first : List ℕ) (more : List (List ℕ)) → others ≡ first ∷ more → description_of (word ∷ others) ≡ None
-several [] others first more e = refl
-several (letter ∷ name) others first more e = rw e refl
-
-pub described_again : (words more : List (List ℕ)) (word : List ℕ) → words ≡ word ∷ more → is_option word ≡ false
-    → list_any (λ w. not (is_option w)) more ≡ true → description_of (arguments words) ≡ None
-described_again words more word whole is some =
+pub only_again : (words more : List (List ℕ)) (word : List ℕ) → words ≡ word ∷ more → is_option word ≡ false
+    → list_any (λ w. not (is_option w)) more ≡ true → only (arguments words) ≡ None
+only_again words more word whole is some =
     let found = some_more more some in
     let all : arguments words ≡ word ∷ arguments more = rw (whole, is) refl in
     rw all (several word (arguments more) found.0 found.1 found.2)
+
+-- a name isn't empty
+pub named : (word : List ℕ) → 0 < length word → name_in word ≡ Some word
+named [] some = absurd (omega arith)
+named (letter ∷ name) some = refl

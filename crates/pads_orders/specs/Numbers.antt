@@ -15,10 +15,13 @@ up_to greatest n = if nat_le n greatest then Some n else None
 abbrev pub positive : ℕ → Option ℕ
 positive n = if n == 0 then None else Some n
 
--- a number from 1 to the greatest, in decimal digits without sign and without leading zeros
+-- a number from 0 to the greatest, in decimal digits without sign and without leading zeros
+abbrev pub count_to : ℕ → List ℕ → Option ℕ
+count_to greatest text = if is_numeral text && leads_well text then up_to greatest (number text) else None
+
+-- a number from 1 to the greatest, in the same form
 abbrev pub number_to : ℕ → List ℕ → Option ℕ
-number_to greatest text =
-    if is_numeral text && leads_well text then option_and_then positive (up_to greatest (number text)) else None
+number_to greatest text = option_and_then positive (count_to greatest text)
 
 -- what a hexadecimal digit of either case stands for
 abbrev pub hex_digit : ℕ → Option ℕ

@@ -13,6 +13,7 @@ use Rattle.pads_orders.specs.declared.order.OptionName.TheVariants as option
 use Rattle.pads_orders.specs.declared.order.Order.{Order}
 use Rattle.pads_orders.specs.declared.order.Order.TheVariants as order
 use Rattle.pads_orders.specs.declared.order.Settings.{Settings}
+use Rattle.pads_orders.specs.Numbers.{count_to}
 use Rattle.pads_orders.specs.Options.{is_option, arguments, behind, values, once, coding_of, max_of, records_of, greatest_max}
 
 -- how each option begins
@@ -20,12 +21,14 @@ abbrev pub beginning : OptionName → List ℕ
 beginning option.Coding = codes "--coding="
 beginning option.Max = codes "--max="
 beginning option.Records = codes "--records="
+beginning option.Top = codes "--top="
 
 -- the value that it has where it isn't given
 abbrev pub usual : OptionName → List ℕ
 usual option.Coding = codes "ascii"
 usual option.Max = codes "1048576"
 usual option.Records = codes "nl"
+usual option.Top = codes "10"
 
 -- what comes of a value that is there
 abbrev pub given : {A B : Type 0} → Option A → (A → Option B) → Option B
@@ -38,19 +41,26 @@ value_in name words = once (usual name) (values (beginning name) words)
 abbrev pub setting : {A : Type 0} → OptionName → (List ℕ → Option A) → List (List ℕ) → Option A
 setting name read words = given (value_in name words) read
 
+-- the most values of a part that a summary tells
+abbrev pub greatest_top : ℕ
+greatest_top = 1000
+
 -- what the value of each option comes to
 abbrev pub settings_in : List (List ℕ) → Option Settings
 settings_in words =
     given (setting option.Coding coding_of words) (λ coding.
     given (setting option.Max max_of words) (λ max.
     given (setting option.Records (records_of max) words) (λ discipline.
-    Some (record { coding = coding; cutting = record { discipline = discipline; max = max } }))))
+    given (setting option.Top (count_to greatest_top) words) (λ top.
+    Some (record { coding = coding; cutting = record { discipline = discipline; max = max }; top = top })))))
 
 -- the options that each command takes
 abbrev pub options_of : Command → List OptionName
 options_of command.Check = option.Coding ∷ []
 options_of command.Parse = option.Coding ∷ option.Max ∷ option.Records ∷ []
 options_of command.Print = option.Coding ∷ option.Max ∷ option.Records ∷ []
+options_of command.Summary = option.Coding ∷ option.Max ∷ option.Records ∷ option.Top ∷ []
+options_of command.Selftest = []
 
 -- the command of this name
 abbrev pub command_of : List ℕ → Option Command
@@ -58,18 +68,39 @@ command_of name =
     if bytes_eq name (codes "check") then Some command.Check
     else if bytes_eq name (codes "parse") then Some command.Parse
     else if bytes_eq name (codes "print") then Some command.Print
+    else if bytes_eq name (codes "summary") then Some command.Summary
+    else if bytes_eq name (codes "selftest") then Some command.Selftest
     else None
 
--- the one argument, which names a description's file and so isn't empty
+-- the one argument
+abbrev pub only : List (List ℕ) → Option (List ℕ)
+only [] = None
+only (word ∷ []) = Some word
+only (word ∷ other ∷ more) = None
+
+-- It names a description's file, and so isn't empty.
+abbrev pub name_in : List ℕ → Option (List ℕ)
+name_in [] = None
+name_in (letter ∷ name) = Some (letter ∷ name)
+
 abbrev pub description_of : List (List ℕ) → Option (List ℕ)
-description_of ((letter ∷ name) ∷ []) = Some (letter ∷ name)
-description_of arguments = None
+description_of arguments = given (only arguments) name_in
+
+-- the most records that are made for a self-test
+abbrev pub greatest_test : ℕ
+greatest_test = 1000000
+
+-- It is the number of the records.
+abbrev pub records_asked : List (List ℕ) → Option ℕ
+records_asked arguments = given (only arguments) (count_to greatest_test)
 
 -- the order that a command is with these arguments and options
 abbrev pub order_with : Command → List (List ℕ) → Settings → Option Order
 order_with command.Check arguments settings = option_map (λ description. order.Check description settings) (description_of arguments)
 order_with command.Parse arguments settings = option_map (λ description. order.Parse description settings) (description_of arguments)
 order_with command.Print arguments settings = option_map (λ description. order.Print description settings) (description_of arguments)
+order_with command.Summary arguments settings = option_map (λ description. order.Summary description settings) (description_of arguments)
+order_with command.Selftest arguments settings = option_map (λ records. order.Selftest records settings) (records_asked arguments)
 
 -- A word is no option, or one of these.
 abbrev pub is_one_of : List OptionName → List ℕ → Bool
@@ -101,3 +132,5 @@ abbrev pub KeepsLimits : Order → Type 0
 KeepsLimits (order.Check description settings) = IsWithinLimits settings.cutting
 KeepsLimits (order.Parse description settings) = IsWithinLimits settings.cutting
 KeepsLimits (order.Print description settings) = IsWithinLimits settings.cutting
+KeepsLimits (order.Summary description settings) = IsWithinLimits settings.cutting
+KeepsLimits (order.Selftest records settings) = IsWithinLimits settings.cutting × (records ≤ greatest_test)

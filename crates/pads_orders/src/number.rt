@@ -2,7 +2,7 @@ ghost use Rattle.std.specs.Prelude.{IfSome, ◌≡◌, ◌<◌, ◌≤◌, ◌^�
 ghost use Rattle.std.specs.Char.{is_ascii_digit};
 ghost use Rattle.std.specs.List.{list_all};
 ghost use Rattle.pads_code.specs.Numerals.{is_numeral, number};
-ghost use Rattle.pads_orders.specs.Numbers.{up_to, leads_well, number_to, hex_digit, hex_byte};
+ghost use Rattle.pads_orders.specs.Numbers.{up_to, leads_well, count_to, number_to, hex_digit, hex_byte};
 
 /// Whether each byte is a decimal digit.
 fn all_digits(text: &[u8]) -> bool
@@ -49,6 +49,18 @@ fn number_up_to(greatest: u64, text: &[u8]) -> Option<u64>
     Some(number)
 }
 
+/// A number from 0 to the greatest.
+pub(crate) fn count_to(greatest: u64, text: &[u8]) -> Option<u64>
+    requires small { greatest ≤ 2 ^ 32 }
+    ensures number { result ≡ count_to greatest text.now }
+    ensures within { IfSome result (λ n. n ≤ greatest) }
+{
+    if !is_numeral(text) || !leads_well(text) {
+        return None;
+    }
+    number_up_to(greatest, text)
+}
+
 /// A number from 1 to the greatest.
 pub(crate) fn number_to(greatest: u64, text: &[u8]) -> Option<u64>
     requires small { greatest ≤ 2 ^ 32 }
@@ -56,10 +68,7 @@ pub(crate) fn number_to(greatest: u64, text: &[u8]) -> Option<u64>
     ensures some { IfSome result (λ n. 0 < n) }
     ensures within { IfSome result (λ n. n ≤ greatest) }
 {
-    if !is_numeral(text) || !leads_well(text) {
-        return None;
-    }
-    let number = number_up_to(greatest, text)?;
+    let number = count_to(greatest, text)?;
     if number == 0 {
         return None;
     }

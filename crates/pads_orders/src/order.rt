@@ -3,9 +3,9 @@ ghost use Rattle.pads_orders.specs.Options.{arguments};
 ghost use Rattle.pads_orders.specs.Orders.{beginning, usual, settings_in, options_of, command_of, order_with, IsWithinLimits, KeepsLimits};
 ghost use Rattle.pads_value.specs.declared.memory.Refusal.TheVariants as refusal;
 
-use crate::number::number_to;
+use crate::number::{count_to, number_to};
 use crate::option::{coding_of, records_of, value_in};
-use crate::reading::description;
+use crate::reading::{description, records_asked};
 use crate::word::Word;
 use pads_code::Coding;
 use pads_frame::Discipline;
@@ -24,6 +24,8 @@ pub struct Cutting {
 pub struct Settings {
     pub coding: Coding,
     pub cutting: Cutting,
+    /// The most values of a part that a summary tells: from 0 to 1,000.
+    pub top: u32,
 }
 
 /// What the command line asks for.
@@ -44,6 +46,16 @@ pub enum Order {
         description: Word,
         settings: Settings,
     },
+    /// What the records that are read by the description in this file come to, part by part.
+    Summary {
+        description: Word,
+        settings: Settings,
+    },
+    /// What becomes of so many records that are made for this, at most 1,000,000.
+    Selftest {
+        records: u32,
+        settings: Settings,
+    },
 }
 
 /// The words are no order.
@@ -56,6 +68,7 @@ pub(crate) enum OptionName {
     Coding,
     Max,
     Records,
+    Top,
 }
 
 /// A line of the table of options: how one begins, and the value that it has where it isn't given.
@@ -84,6 +97,7 @@ impl OptionName {
             OptionName::Coding => Line::new(b"--coding=", b"ascii"),
             OptionName::Max => Line::new(b"--max=", b"1048576"),
             OptionName::Records => Line::new(b"--records=", b"nl"),
+            OptionName::Top => Line::new(b"--top=", b"10"),
         }
     }
 }
@@ -96,9 +110,11 @@ pub(crate) fn settings_in(words: &[Word]) -> Option<Settings>
     let coding = coding_of(value_in(OptionName::Coding, words)?)?;
     let max = number_to(16_777_216, value_in(OptionName::Max, words)?)?;
     let discipline = records_of(max, value_in(OptionName::Records, words)?)?;
+    let top = count_to(1000, value_in(OptionName::Top, words)?)?;
     Some(Settings {
         coding,
         cutting: Cutting { discipline, max },
+        top: top as u32,
     })
 }
 
@@ -108,6 +124,8 @@ pub(crate) enum Command {
     Check,
     Parse,
     Print,
+    Summary,
+    Selftest,
 }
 
 impl Command {
@@ -121,6 +139,10 @@ impl Command {
             Some(Command::Parse)
         } else if name == "print" {
             Some(Command::Print)
+        } else if name == "summary" {
+            Some(Command::Summary)
+        } else if name == "selftest" {
+            Some(Command::Selftest)
         } else {
             None
         }
@@ -135,6 +157,13 @@ impl Command {
             Command::Parse | Command::Print => {
                 &[OptionName::Coding, OptionName::Max, OptionName::Records]
             }
+            Command::Summary => &[
+                OptionName::Coding,
+                OptionName::Max,
+                OptionName::Records,
+                OptionName::Top,
+            ],
+            Command::Selftest => &[],
         }
     }
 
@@ -164,6 +193,14 @@ impl Command {
                 description: description(alloc, words)?,
                 settings,
             }),
+            Command::Summary => Ok(Order::Summary {
+                description: description(alloc, words)?,
+                settings,
+            }),
+            Command::Selftest => match records_asked(words) {
+                Some(records) => Ok(Order::Selftest { records, settings }),
+                None => Err(Refusal::Fault(Usage)),
+            },
         }
     }
 }

@@ -1,10 +1,11 @@
-ghost use Rattle.std.specs.Prelude.{◌≡◌, ◌↔◌, Some, None, Err, IfOk, IfSome, option_copied, not};
+ghost use Rattle.std.specs.Prelude.{◌≡◌, ◌↔◌, ◌≤◌, Some, None, Err, IfOk, IfSome, option_copied, not};
 ghost use Rattle.std.specs.List.{list_any};
 ghost use Rattle.std.specs.Option.{is_some};
 ghost use Rattle.pads_orders.specs.Options.{arguments, is_option, behind};
-ghost use Rattle.pads_orders.specs.Orders.{beginning, description_of, is_one_of, has_only, settings_for, order_of, IsWithinLimits, KeepsLimits};
+ghost use Rattle.pads_orders.specs.Orders.{beginning, description_of, is_one_of, only, records_asked as records_of_order, has_only, settings_for, order_of, IsWithinLimits, KeepsLimits};
 ghost use Rattle.pads_value.specs.declared.memory.Refusal.TheVariants as refusal;
 
+use crate::number::count_to;
 use crate::option::{behind, is_option};
 use crate::order::{Command, OptionName, Order, Settings, Usage, settings_in};
 use crate::word::{Word, Words};
@@ -18,14 +19,14 @@ fn has_argument(words: &[Word]) -> bool
     words.iter().any(|word| !is_option(word))
 }
 
-/// The one word that is no option, where it isn't empty.
-fn description_in(words: &[Word]) -> Option<&Word>
-    ensures description { option_copied result ≡ description_of (arguments words.now) }
+/// The one word that is no option.
+fn only_argument(words: &[Word]) -> Option<&Word>
+    ensures only { option_copied result ≡ only (arguments words.now) }
 {
     let mut rest = words;
     'words: while let [word, more @ ..] = rest {
         if !is_option(word) {
-            if has_argument(more) || word.as_str().is_empty() {
+            if has_argument(more) {
                 return None;
             }
             return Some(word);
@@ -33,6 +34,17 @@ fn description_in(words: &[Word]) -> Option<&Word>
         rest = more;
     }
     None
+}
+
+/// The one argument, where it isn't empty.
+fn description_in(words: &[Word]) -> Option<&Word>
+    ensures description { option_copied result ≡ description_of (arguments words.now) }
+{
+    let name = only_argument(words)?;
+    if name.as_str().is_empty() {
+        return None;
+    }
+    Some(name)
 }
 
 /// The one argument, which names a description's file.
@@ -44,6 +56,16 @@ pub(crate) fn description(alloc: Global, words: &[Word]) -> Result<Word, Refusal
         return Err(Refusal::Fault(Usage));
     };
     Ok(name.copy(alloc)?)
+}
+
+/// The one argument, which is the number of records for a self-test.
+pub(crate) fn records_asked(words: &[Word]) -> Option<u32>
+    ensures records { result ≡ records_of_order (arguments words.now) }
+    ensures within { IfSome result (λ records. records ≤ 1000000) }
+{
+    let word = only_argument(words)?;
+    let records = count_to(1_000_000, word.as_str().as_bytes())?;
+    Some(records as u32)
 }
 
 /// Whether a word is an option of this name.

@@ -1,17 +1,15 @@
 -- Each clean record of an input is printed by bytes that read back as its value, or noted as ambiguous.
-use Rattle.std.proofs.Common.{◌≡◌, ◌≤◌, ◌<◌, ◌+◌, ◌-◌, ◌∙◌, inl, inr, refl, sym, ap, subst, ℕ, Bool, true, false, List, [], ◌∷◌, length, take, drop, length-take, Option, None, Some, IfSome, if◌then◌else◌, arith}
+use Rattle.std.proofs.Common.{◌≡◌, ◌≤◌, ◌+◌, ◌-◌, inl, inr, refl, ℕ, Bool, true, false, List, [], ◌∷◌, length, length-take, None, Some, arith}
 use Rattle.std.specs.Prelude.{All}
 use Rattle.std.specs.List.{AllByRecursion}
 use Rattle.std.proofs.lemmas.List.Elements.{All-nil, All-cons}
 use Rattle.law_calculus.specs.Plain.{Plain}
-use Rattle.pads_calc.specs.Modules.{Contents}
-use Rattle.pads_calc.specs.Rows.{kept_reading, row_by, row_of, type_of}
+use Rattle.pads_calc.specs.Rows.{kept_reading, row_by, type_of}
 use Rattle.pads_calc.specs.Skeletons.{KeepsAll}
 use Rattle.pads_calc.specs.declared.reading.Reading.{Reading}
 use Rattle.pads_canonical.proofs.CanonicalRecords.{row-has}
 use Rattle.pads_drive.specs.Outputs.{Work, rows_of}
 use Rattle.pads_frame.proofs.Tiling.{tiles}
-use Rattle.pads_frame.specs.Cutting.{records}
 use Rattle.pads_frame.specs.Fits.{FitsLimit, HasBlock}
 use Rattle.pads_frame.specs.Framed.{framed}
 use Rattle.pads_frame.specs.Laws.{IsMarked, Lies, Tiles}
@@ -24,7 +22,7 @@ use Rattle.pads_value.specs.Marks.{bytes_of}
 use Rattle.pads_value.specs.declared.frame.Mark.{Mark}
 use Rattle.pads_value.specs.declared.frame.Mark.TheVariants as mark
 use Rattle.pads_value.specs.declared.row.Row.{Row}
-use Rattle.pads_tool.specs.Describing.{Description, described, frames_of, is_clean, row_in}
+use Rattle.pads_tool.specs.Describing.{Description, frames_of, is_clean, row_in}
 use Rattle.pads_tool.specs.Printing.{IsKept, IsNoted, IsPrinted, bytes_in, prints, told_of}
 use Rattle.pads_tool.specs.Reading.{rows_in}
 use Rattle.pads_tool.specs.declared.telling.Told.{Told}
@@ -49,7 +47,7 @@ short-at Whole max mark.Long len fits h = omega arith
 short-at Whole max mark.Short len fits h = absurd h
 short-at Whole max mark.Broken len fits h = absurd h
 
-abbrev IsShort : ℕ → Cut → Type 0
+abbrev pub IsShort : ℕ → Cut → Type 0
 IsShort max cut = length cut.bytes ≤ max
 
 short-lies : (d : Discipline) (max : ℕ) (bytes : List ℕ) (from to : ℕ) (frame : Cut) → FitsLimit d max → Lies d max bytes from frame to → IsShort max frame
@@ -58,11 +56,11 @@ short-lies d max bytes from to frame fits h =
     let count : length frame.bytes ≤ bytes_of frame.mark (frame.end - frame.first) = rw (h.carries, length-take) (omega arith) in
     omega (arith, few, count)
 
-all-short : (d : Discipline) (max : ℕ) (bytes : List ℕ) (from : ℕ) (frames : List Cut) → FitsLimit d max → Tiles d max bytes from frames → AllByRecursion (IsShort max) frames
+pub all-short : (d : Discipline) (max : ℕ) (bytes : List ℕ) (from : ℕ) (frames : List Cut) → FitsLimit d max → Tiles d max bytes from frames → AllByRecursion (IsShort max) frames
 all-short d max bytes from [] fits h = tt
 all-short d max bytes from (frame ∷ frames) fits h = (short-lies d max bytes from h.0 frame fits h.1, all-short d max bytes h.0 frames fits h.2)
 
-has-block : (d : Discipline) (max : ℕ) → FitsLimit d max → HasBlock d
+pub has-block : (d : Discipline) (max : ℕ) → FitsLimit d max → HasBlock d
 has-block (Term terminator) max fits = tt
 has-block (Fixed block) max fits = fits.0
 has-block Rdw max fits = tt
@@ -77,11 +75,11 @@ rows-all work P max holds number (cut ∷ cuts) all =
     All-cons P (work.row number cut) (rows_of work (number + 1) cuts) (holds number cut all.0) (rows-all work P max holds (number + 1) cuts all.1)
 
 -- What is told of a clean row whose value has canonical bytes.
-abbrev told_where : Description → List ℕ → Bool → Told
+abbrev pub told_where : Description → List ℕ → Bool → Told
 told_where d bytes true = told.Printed (bytes_in (framed d.cutting.discipline bytes))
 told_where d bytes false = told.Ambiguous
 
-told-where : (d : Description) (row : Row) (bytes : List ℕ) (reads : Bool) → is_clean row ≡ true → canonical d.made row.number row.value ≡ Some bytes
+pub told-where : (d : Description) (row : Row) (bytes : List ℕ) (reads : Bool) → is_clean row ≡ true → canonical d.made row.number row.value ≡ Some bytes
     → reads_back d.made d.cutting.discipline d.cutting.max row.number bytes row.value ≡ reads → told_of d row ≡ told_where d bytes reads
 told-where d row bytes true clean there reads = rw (clean, there, reads) refl
 told-where d row bytes false clean there reads = rw (clean, there, reads) refl

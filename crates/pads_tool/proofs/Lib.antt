@@ -4,7 +4,10 @@ pub mod Told
 pub mod Texts
 pub mod Records
 pub mod Kept
+pub mod Tested
 pub mod Alike
 pub mod Promises
 pub mod Statuses
+pub mod Sums
+pub mod Summaries
 pub mod Unread

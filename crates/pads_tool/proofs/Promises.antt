@@ -1,9 +1,10 @@
 -- How the promise of a command is kept.
-use Rattle.std.proofs.Common.{◌≡◌, ◌^◌, ◌≤◌, ◌+◌, ◌∙◌, inl, inr, refl, sym, ap, subst, ℕ, Bool, true, List, [], length, length-append, append-nil, Option, None, Some, IfSome, arith}
+use Rattle.std.proofs.Common.{◌≡◌, ◌^◌, ◌≤◌, ◌∙◌, inl, inr, refl, sym, subst, ℕ, Bool, true, List, [], length, append-nil, Option, None, Some, IfSome, arith}
 use Rattle.std.specs.Prelude.{All}
-use Rattle.std.specs.Io.KnownBytes.{Appends, Consumes}
+use Rattle.std.specs.Io.KnownBytes.{Appends}
 use Rattle.pads_ast.specs.declared.decl.Ast.{Ast}
 use Rattle.pads_describe.proofs.AnswerLaws.{not_both}
+use Rattle.pads_describe.specs.Describing.{Describes}
 use Rattle.pads_describe.specs.Trees.{IsAccepted}
 use Rattle.pads_describe.specs.Verdicts.{IsRefused}
 use Rattle.pads_orders.specs.declared.order.Order.{Order}
@@ -11,8 +12,9 @@ use Rattle.pads_orders.specs.declared.order.Order.TheVariants as order
 use Rattle.pads_orders.specs.declared.order.Settings.{Settings}
 use Rattle.pads_calc.specs.Modules.{Contents}
 use Rattle.pads_describe.specs.declared.verdict.Verdict.{Verdict}
-use Rattle.pads_tool.proofs.Texts.{if-known}
+use Rattle.pads_tool.proofs.Texts.{if-known, within}
 use Rattle.pads_drive.specs.Outputs.{Work}
+use Rattle.pads_selftest.specs.Description.{description}
 use Rattle.pads_value.specs.declared.row.Row.{Row}
 use Rattle.law_calculus.specs.Plain.{Plain}
 use Rattle.pads_calc.specs.Skeletons.{KeepsAll}
@@ -21,13 +23,16 @@ use Rattle.pads_tool.proofs.Kept.{all-kept}
 use Rattle.pads_tool.specs.Describing.{Description, described, frames_of, is_clean, lines}
 use Rattle.pads_tool.specs.Printing.{IsKept, prints}
 use Rattle.pads_tool.specs.Reading.{RecordsGive, WroteAll, WroteMost, rows_in}
-use Rattle.pads_tool.specs.Promises.{Promise, Seen, seen, Counts, counts, Keeps, checking, printing, reading, promise_of}
+use Rattle.pads_tool.specs.Promises.{Promise, Seen, seen, Counts, counts, Keeps, checking, printing, reading, testing, promise_of}
 use Rattle.pads_tool.specs.Running.{Ordered}
+use Rattle.pads_tool.specs.Telling.{Tells}
+use Rattle.pads_tool.specs.Testing.{all_clean, selftest_line}
 use Rattle.pads_tool.specs.Texts.{IsDescribedIn, IsRefusedIn, StopsBefore}
+use Rattle.pads_tool.specs.declared.reason.Reason.TheVariants as reason
 use Rattle.pads_tool.specs.declared.ending.Ending.{Ending}
 use Rattle.pads_tool.specs.declared.ending.Ending.TheVariants as ending
 
-known-at : {A : Type 0} (P : A → Type 0) (o : Option A) (x : A) → o ≡ Some x → IfSome o P → P x
+pub known-at : {A : Type 0} (P : A → Type 0) (o : Option A) (x : A) → o ≡ Some x → IfSome o P → P x
 known-at P (Some y) x e h = let same : y ≡ x = cc in subst P same h
 known-at P None x e h = cc
 
@@ -35,41 +40,39 @@ known-at P None x e h = cc
 pub not-refused : (content : Option (List ℕ)) (text : List ℕ) (tree : Ast) (v : Verdict) → content ≡ Some text → IsAccepted text tree → IsRefusedIn content v → ⊥
 not-refused content text tree v is accepted refused = not_both text tree v accepted (known-at (λ text. IsRefused text v) content text is refused)
 
--- The run of a command ends before a description is there.
-pub stopped : (p : Promise) (s : Seen) (n : Counts) (Refuses : Verdict → Type 0) (e : Ending)
-    → ((v : Verdict) → Refuses v → p.refused_for s.content v × (p.can_finish s.content s.left → ⊥))
+-- The run of a command ends before the description in a file is there.
+pub stopped : (p : Promise) (s : Seen) (n : Counts) (Refuses : Verdict → Type 0) (e : Ending) → p.reads_files ≡ true
+    → ((v : Verdict) → Refuses v → p.refused_for s.content (reason.Description v) × (p.can_finish s.content s.left → ⊥))
     → p.stops_early s → s.out' ≡ s.out → StopsBefore Refuses n.files n.files' e → Keeps p s n e
-stopped p s n Refuses (ending.Refused verdict) refused early same h = ((refused verdict h).0, same, (refused verdict h).1)
-stopped p s n Refuses ending.FileFault refused early same h = (h, same)
-stopped p s n Refuses ending.Memory refused early same h = early
-stopped p s n Refuses ending.Done refused early same h = absurd h
-stopped p s n Refuses ending.Dirty refused early same h = absurd h
-stopped p s n Refuses ending.Usage refused early same h = absurd h
-stopped p s n Refuses ending.ReadFault refused early same h = absurd h
-stopped p s n Refuses ending.WriteFault refused early same h = absurd h
-stopped p s n Refuses ending.TooLong refused early same h = absurd h
+stopped p s n Refuses (ending.Refused (reason.Description verdict)) reads refused early same h = ((refused verdict h).0, same, (refused verdict h).1)
+stopped p s n Refuses (ending.Refused reason.SummaryTooLarge) reads refused early same h = absurd h
+stopped p s n Refuses ending.FileFault reads refused early same h = (reads, h, same)
+stopped p s n Refuses ending.Memory reads refused early same h = early
+stopped p s n Refuses ending.Done reads refused early same h = absurd h
+stopped p s n Refuses ending.Dirty reads refused early same h = absurd h
+stopped p s n Refuses ending.Usage reads refused early same h = absurd h
+stopped p s n Refuses ending.ReadFault reads refused early same h = absurd h
+stopped p s n Refuses ending.WriteFault reads refused early same h = absurd h
+stopped p s n Refuses ending.TooLong reads refused early same h = absurd h
+stopped p s n Refuses ending.Limit reads refused early same h = absurd h
 
 pub check-stopped : (name : List ℕ) (content : List ℕ → Option (List ℕ)) (left left' out noted noted' : Option (List ℕ)) (n : Counts) (e : Ending)
     → StopsBefore (IsRefusedIn (content name)) n.files n.files' e → Keeps (checking name) (seen content left left' out out noted noted') n e
 check-stopped name content left left' out noted noted' n e h =
-    stopped (checking name) (seen content left left' out out noted noted') n (IsRefusedIn (content name)) e
+    stopped (checking name) (seen content left left' out out noted noted') n (IsRefusedIn (content name)) e refl
     (λ v refused. (refused, λ can. not-refused (content name) can.0 can.1 v can.2 can.3 refused)) refl refl h
 
 pub reading-stopped : (work : Description → Work Row Bool) (noting : Bool) (name : List ℕ) (settings : Settings) (content : List ℕ → Option (List ℕ)) (left out noted : Option (List ℕ)) (n : Counts) (e : Ending)
     → StopsBefore (IsRefusedIn (content name)) n.files n.files' e → Keeps (reading work noting name settings) (seen content left left out out noted noted) n e
 reading-stopped work noting name settings content left out noted n e h =
-    stopped (reading work noting name settings) (seen content left left out out noted noted) n (IsRefusedIn (content name)) e
+    stopped (reading work noting name settings) (seen content left left out out noted noted) n (IsRefusedIn (content name)) e refl
     (λ v refused. (refused, λ can. not-refused (content name) can.0 can.1 v can.3 can.4 refused)) (inl (refl, refl, refl)) refl h
 
 pub printing-stopped : (name : List ℕ) (settings : Settings) (content : List ℕ → Option (List ℕ)) (left out noted : Option (List ℕ)) (n : Counts) (e : Ending)
     → StopsBefore (IsRefusedIn (content name)) n.files n.files' e → Keeps (printing name settings) (seen content left left out out noted noted) n e
 printing-stopped name settings content left out noted n e h =
-    stopped (printing name settings) (seen content left left out out noted noted) n (IsRefusedIn (content name)) e
+    stopped (printing name settings) (seen content left left out out noted noted) n (IsRefusedIn (content name)) e refl
     (λ v refused. (refused, λ can. not-refused (content name) can.0 can.1 v can.3 can.4 refused)) (inl (refl, refl, refl)) refl h
-
-within : (input : List ℕ) (left' : Option (List ℕ)) (bytes : List ℕ) → Consumes (Some input) left' bytes → length bytes ≤ length input
-within input None bytes c = absurd c
-within input (Some xs) bytes c = let whole : length input ≡ length bytes + length xs = ap length c ∙ length-append bytes xs in omega (arith, whole)
 
 module _ (work : Description → Work Row Bool) (left left' o o' n n' : Option (List ℕ)) where
   -- an input of at most 2^62 bytes isn't longer
@@ -94,6 +97,7 @@ module _ (work : Description → Work Row Bool) (left left' o o' n n' : Option (
   reading-read noting name settings content files files' source source' out out' notes notes' made ending.Usage h p = absurd p
   reading-read noting name settings content files files' source source' out out' notes notes' made (ending.Refused verdict) h p = absurd p
   reading-read noting name settings content files files' source source' out out' notes notes' made ending.FileFault h p = absurd p
+  reading-read noting name settings content files files' source source' out out' notes notes' made ending.Limit h p = absurd p
 
 -- The same where records are printed.
 pub each-kept : (settings : Settings) (made : Contents) → Plain made.decls → KeepsAll made.decls → IsWithinLimits settings.cutting → (left : Option (List ℕ))
@@ -111,12 +115,43 @@ printed name settings s n ending.ReadFault kept h = h
 printed name settings s n ending.WriteFault kept h = h
 printed name settings s n ending.Memory kept h = h
 printed name settings s n ending.TooLong kept h = h
+printed name settings s n ending.Limit kept h = h
+
+-- A self-test ends without its module; no file is opened, so none failed.
+pub test-stopped : (records : ℕ) (settings : Settings) (s : Seen) (n : Counts) (e : Ending) → s.out' ≡ s.out → StopsBefore (IsRefused description) 0 0 e → Keeps (testing records settings) s n e
+test-stopped records settings s n (ending.Refused (reason.Description verdict)) same h = (h, same, λ can. not_both description can.0 verdict can.1 h)
+test-stopped records settings s n (ending.Refused reason.SummaryTooLarge) same h = absurd h
+test-stopped records settings s n ending.Memory same h = same
+test-stopped records settings s n ending.FileFault same h = absurd (omega (arith, h))
+test-stopped records settings s n ending.Done same h = absurd h
+test-stopped records settings s n ending.Dirty same h = absurd h
+test-stopped records settings s n ending.Usage same h = absurd h
+test-stopped records settings s n ending.ReadFault same h = absurd h
+test-stopped records settings s n ending.WriteFault same h = absurd h
+test-stopped records settings s n ending.TooLong same h = absurd h
+test-stopped records settings s n ending.Limit same h = absurd h
+
+-- It tells its tally.
+pub test-told : (records : ℕ) (settings : Settings) (s : Seen) (n : Counts) (made : Contents) (e : Ending) → Describes description settings.coding made
+    → Tells (selftest_line (described made settings.cutting) records) (all_clean (described made settings.cutting) records) s.out s.out' n.out n.out' e → Keeps (testing records settings) s n e
+test-told records settings s n made ending.Done h t = ((made, h, t), tt)
+test-told records settings s n made ending.Dirty h t = ((made, h, t), tt)
+test-told records settings s n made ending.WriteFault h t = (inl t.0, (made, h, t.1), tt)
+test-told records settings s n made ending.Usage h t = absurd t
+test-told records settings s n made (ending.Refused verdict) h t = absurd t
+test-told records settings s n made ending.FileFault h t = absurd t
+test-told records settings s n made ending.ReadFault h t = absurd t
+test-told records settings s n made ending.Memory h t = t
+test-told records settings s n made ending.TooLong h t = absurd t
+test-told records settings s n made ending.Limit h t = absurd t
 
 -- Before anything was read or written there may be no memory.
 pub early : (asked : Order) (content : List ℕ → Option (List ℕ)) (left out noted : Option (List ℕ)) → (promise_of asked).stops_early (seen content left left out out noted noted)
 early (order.Check name settings) content left out noted = refl
 early (order.Parse name settings) content left out noted = inl (refl, refl, refl)
 early (order.Print name settings) content left out noted = inl (refl, refl, refl)
+early (order.Summary name settings) content left out noted = refl
+early (order.Selftest records settings) content left out noted = refl
 
 -- What is kept for an order is kept for the same order.
 pub same-order-keeps : (asked one : Order) (s : Seen) (n : Counts) (e : Ending) → asked ≡ one → Keeps (promise_of one) s n e → Keeps (promise_of asked) s n e
@@ -141,6 +176,8 @@ finishes-still (order.Parse name settings) clean content left left' out out' not
     (h.0, h.1, noted-no-more (λ d. lines d.made) clean (described h.0 settings.cutting) left left' out out' noted m m' more h.2)
 finishes-still (order.Print name settings) clean content left left' out out' noted m m' more h =
     (h.0, h.1, noted-no-more prints clean (described h.0 settings.cutting) left left' out out' noted m m' more h.2)
+finishes-still (order.Summary name settings) clean content left left' out out' noted m m' more h = h
+finishes-still (order.Selftest records settings) clean content left left' out out' noted m m' more h = h
 
 pub ordered-still : (words : List (List ℕ)) (clean : Bool) (content : List ℕ → Option (List ℕ)) (left left' out out' noted m m' : Option (List ℕ)) → Appends m m' []
     → Ordered words (λ promise. promise.finishes clean (seen content left left' out out' noted m)) → Ordered words (λ promise. promise.finishes clean (seen content left left' out out' noted m'))

@@ -31,24 +31,25 @@ module _ (words : List (List ℕ)) (s : Seen) (n : Counts) where
   ByStatus status.Dirty = Ordered words (λ promise. promise.finishes false s) × Ordered words (λ promise. promise.keeps_records s.content s.left)
   ByStatus status.Usage = (order_of words ≡ None) × (s.out' ≡ s.out)
   ByStatus status.Refused = (order_of words ≢ None) × (s.out' ≡ s.out)
-  ByStatus status.FileFault = (order_of words ≢ None) × Rose n.files n.files' × (s.out' ≡ s.out)
+  ByStatus status.FileFault = Ordered words (λ promise. promise.reads_files ≡ true) × Rose n.files n.files' × (s.out' ≡ s.out)
   ByStatus status.ReadFault = Rose n.source n.source' × Ordered words (λ promise. promise.stops_reading s)
   ByStatus status.WriteFault = Ordered words (λ promise. SinkFailed promise.writes_notes n.out n.out' n.notes n.notes')
       × Ordered words (λ promise. promise.stops_writing s) × Ordered words (λ promise. promise.stays_near s)
   ByStatus status.Memory = Ordered words (λ promise. promise.stops_early s)
   ByStatus status.TooLong = Ordered words (λ promise. promise.stops_at_limit s)
-  ByStatus status.Limit = ⊥
+  ByStatus status.Limit = Ordered words (λ promise. promise.stops_at_count s) × (s.out' ≡ s.out)
 
   by-order : (asked : Order) (e : Ending) → order_of words ≡ Some asked → Keeps (promise_of asked) s n e → ByStatus (status_of e)
   by-order asked ending.Done is p = ((asked, is, p.0), (asked, is, p.1))
   by-order asked ending.Dirty is p = ((asked, is, p.0), (asked, is, p.1))
   by-order asked ending.Usage is p = absurd p
   by-order asked (ending.Refused verdict) is p = (none-some _ _ is, p.1)
-  by-order asked ending.FileFault is p = (none-some _ _ is, p.0, p.1)
+  by-order asked ending.FileFault is p = ((asked, is, p.0), p.1, p.2)
   by-order asked ending.ReadFault is p = (p.0, (asked, is, p.1))
   by-order asked ending.WriteFault is p = ((asked, is, p.0), (asked, is, p.1), (asked, is, p.2))
   by-order asked ending.Memory is p = (asked, is, p)
   by-order asked ending.TooLong is p = (asked, is, p.0)
+  by-order asked ending.Limit is p = ((asked, is, p.0), p.1)
 
   by-status : (e : Ending) → RunGives words s n e → ByStatus (status_of e)
   by-status ending.Usage h = h
@@ -60,6 +61,7 @@ module _ (words : List (List ℕ)) (s : Seen) (n : Counts) where
   by-status ending.WriteFault h = by-order h.0 ending.WriteFault h.1 h.2
   by-status ending.Memory h = by-order h.0 ending.Memory h.1 h.2
   by-status ending.TooLong h = by-order h.0 ending.TooLong h.1 h.2
+  by-status ending.Limit h = by-order h.0 ending.Limit h.1 h.2
 
   -- what a run says of its status, where that is known
   pub at-status : (e : Ending) (s' t : Status) → s' ≡ status_of e → s' ≡ t → RunGives words s n e → ByStatus t
@@ -70,23 +72,21 @@ module _ (words : List (List ℕ)) (s : Seen) (n : Counts) where
   usage-when status.Dirty h e = absurd (none-some h.0.0 _ h.0.1 e)
   usage-when status.Usage h e = refl
   usage-when status.Refused h e = absurd (h.0 e)
-  usage-when status.FileFault h e = absurd (h.0 e)
+  usage-when status.FileFault h e = absurd (none-some h.0.0 _ h.0.1 e)
   usage-when status.ReadFault h e = absurd (none-some h.1.0 _ h.1.1 e)
   usage-when status.WriteFault h e = absurd (none-some h.1.0 _ h.1.1 e)
   usage-when status.Memory h e = absurd (none-some h.0 _ h.1 e)
   usage-when status.TooLong h e = absurd (none-some h.0 _ h.1 e)
-  usage-when status.Limit h e = absurd h
+  usage-when status.Limit h e = absurd (none-some h.0.0 _ h.0.1 e)
 
   pub usage-is : (e : Ending) (t : Status) → t ≡ status_of e → RunGives words s n e → (t ≡ status.Usage) ↔ (order_of words ≡ None)
   usage-is e t is h = ((λ same. (at-status e t status.Usage is same h).0), (λ none. usage-when t (at-status e t t is refl h) none))
 
-  pub never-limit : (e : Ending) (t : Status) → t ≡ status_of e → RunGives words s n e → t ≢ status.Limit
-  never-limit e t is h same = at-status e t status.Limit is same h
-
-  pub nothing : (e : Ending) (t : Status) → t ≡ status_of e → RunGives words s n e → IsBeforeInput t → s.out' ≡ s.out
-  nothing e t is h (inl same) = (at-status e t status.Usage is same h).1
-  nothing e t is h (inr (inl same)) = (at-status e t status.Refused is same h).1
-  nothing e t is h (inr (inr same)) = (at-status e t status.FileFault is same h).2
+  pub nothing : (e : Ending) (t : Status) → t ≡ status_of e → RunGives words s n e → IsBeforeInput t ⊎ (t ≡ status.Limit) → s.out' ≡ s.out
+  nothing e t is h (inl (inl same)) = (at-status e t status.Usage is same h).1
+  nothing e t is h (inl (inr (inl same))) = (at-status e t status.Refused is same h).1
+  nothing e t is h (inl (inr (inr same))) = (at-status e t status.FileFault is same h).2
+  nothing e t is h (inr same) = (at-status e t status.Limit is same h).1
 
   -- A sink on which the order writes didn't fail.
   fair-sinks : IsFair words s.content s.left n → (asked : Order) → order_of words ≡ Some asked → SinkFailed (promise_of asked).writes_notes n.out n.out' n.notes n.notes' → ⊥
@@ -100,10 +100,11 @@ module _ (words : List (List ℕ)) (s : Seen) (n : Counts) where
   fair-order f asked ending.Memory is can h = tt
   fair-order f asked ending.Usage is can h = absurd h
   fair-order f asked (ending.Refused verdict) is can h = absurd (h.2 can)
-  fair-order f asked ending.FileFault is can h = absurd (f.files_well h.0)
+  fair-order f asked ending.FileFault is can h = absurd (f.files_well h.1)
   fair-order f asked ending.ReadFault is can h = absurd (f.source_well h.0)
   fair-order f asked ending.WriteFault is can h = absurd (fair-sinks f asked is h.0)
   fair-order f asked ending.TooLong is can h = absurd (h.1 can)
+  fair-order f asked ending.Limit is can h = absurd (h.2 can)
 
   same-order : (one other : Order) (o : Option Order) → o ≡ Some one → o ≡ Some other → other ≡ one
   same-order one other o h k = cc
@@ -123,11 +124,12 @@ module _ (words : List (List ℕ)) (s : Seen) (n : Counts) where
   fair-ending f ending.ReadFault h = fair-ordered f ending.ReadFault h
   fair-ending f ending.WriteFault h = fair-ordered f ending.WriteFault h
   fair-ending f ending.TooLong h = fair-ordered f ending.TooLong h
+  fair-ending f ending.Limit h = fair-ordered f ending.Limit h
 
   pub fair : IsFair words s.content s.left n → (e : Ending) (t : Status) → t ≡ status_of e → RunGives words s n e → EndsOrWantsMemory t
   fair f e t is h = subst EndsOrWantsMemory (sym is) (fair-ending f e h)
 
-  -- a refusal has the description's verdict
+  -- a refusal has its reason
   pub reason : (e : Ending) → RunGives words s n e → HasReason words s.content e
   reason (ending.Refused v) h = (h.0, h.1, h.2.0)
   reason ending.Done h = tt
@@ -138,6 +140,7 @@ module _ (words : List (List ℕ)) (s : Seen) (n : Counts) where
   reason ending.WriteFault h = tt
   reason ending.Memory h = tt
   reason ending.TooLong h = tt
+  reason ending.Limit h = tt
 
   -- each clean record is kept where all was done
   pub kept : (e : Ending) (t : Status) → t ≡ status_of e → RunGives words s n e → (t ≡ status.Done) ⊎ (t ≡ status.Dirty) → Ordered words (λ promise. promise.keeps_records s.content s.left)
@@ -155,6 +158,7 @@ module _ (words : List (List ℕ)) (s : Seen) (n : Counts) where
   obeyed asked ending.WriteFault is p = (asked, is, p)
   obeyed asked ending.Memory is p = (asked, is, p)
   obeyed asked ending.TooLong is p = (asked, is, p)
+  obeyed asked ending.Limit is p = (asked, is, p)
 
 -- A count that rose still is above what it was when it rose further.
 rose-still : (before count now : ℕ) → count ≤ now → Rose before count → Rose before now
@@ -189,6 +193,7 @@ silent ending.ReadFault end = absurd end
 silent ending.WriteFault end = absurd end
 silent ending.Memory end = absurd end
 silent ending.TooLong end = absurd end
+silent ending.Limit end = absurd end
 
 none-grown : (n n' : Option (List ℕ)) (before now : ℕ) → (Appends n n' [] ⊎ (Rose before now × AppendsPrefix n n' [])) → Appends n n' []
 none-grown n n' before now (inl all) = all

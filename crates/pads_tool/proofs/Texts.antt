@@ -1,5 +1,6 @@
 -- From a text that was read to the content of its file.
-use Rattle.std.proofs.Common.{ℕ, List, Option, None, Some, IfSome, subst}
+use Rattle.std.proofs.Common.{◌∙◌, ◌+◌, ◌≡◌, ◌≤◌, ap, length, length-append, ℕ, List, Option, None, Some, IfSome, subst, arith}
+use Rattle.std.specs.Io.KnownBytes.{Consumes}
 use Rattle.pads_tool.specs.Texts.{IsTextIn}
 
 pub if-known : {A : Type 0} (P Q : A → Type 0) (o : Option A) → ((x : A) → P x → Q x) → IfSome o P → IfSome o Q
@@ -14,3 +15,8 @@ if-both P Q R (Some x) f h k = f x h k
 pub of-text : (P : List ℕ → Type 0) (content : Option (List ℕ)) (text : List ℕ) → IsTextIn content text → P text → IfSome content P
 of-text P None text same p = tt
 of-text P (Some bytes) text same p = subst P same p
+
+-- What was read is no longer than the whole.
+pub within : (input : List ℕ) (left' : Option (List ℕ)) (bytes : List ℕ) → Consumes (Some input) left' bytes → length bytes ≤ length input
+within input None bytes c = absurd c
+within input (Some xs) bytes c = let whole : length input ≡ length bytes + length xs = ap length c ∙ length-append bytes xs in omega (arith, whole)

@@ -39,6 +39,7 @@ module _ (work : Description → Work Row Bool) (noting : Bool) (d : Description
   reach ending.Usage h before = h
   reach (ending.Refused verdict) h before = h
   reach ending.FileFault h before = h
+  reach ending.Limit h before = h
 
   -- a reading of an input ends otherwise
   pub reading-reaches : (e : Ending) → RecordsGive work noting d left left' o o' n n' source source' out out' notes notes' e → IsBeforeInput (status_of e) → ⊥

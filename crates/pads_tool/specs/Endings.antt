@@ -1,6 +1,8 @@
 -- How a run ends: its status, and the words that it leaves on the notes.
 use Rattle.std.specs.Prelude.{ℕ, List, [], ◌∷◌, ◌++◌, codes}
 use Rattle.pads_describe.specs.VerdictLines.{refusal_line}
+use Rattle.pads_tool.specs.declared.reason.Reason.{Reason}
+use Rattle.pads_tool.specs.declared.reason.Reason.TheVariants as reason
 use Rattle.pads_tool.specs.declared.status.Status.{Status}
 use Rattle.pads_tool.specs.declared.status.Status.TheVariants as status
 use Rattle.pads_tool.specs.declared.ending.Ending.{Ending}
@@ -24,25 +26,32 @@ abbrev pub status_of : Ending → Status
 status_of ending.Done = status.Done
 status_of ending.Dirty = status.Dirty
 status_of ending.Usage = status.Usage
-status_of (ending.Refused verdict) = status.Refused
+status_of (ending.Refused why) = status.Refused
 status_of ending.FileFault = status.FileFault
 status_of ending.ReadFault = status.ReadFault
 status_of ending.WriteFault = status.WriteFault
 status_of ending.Memory = status.Memory
 status_of ending.TooLong = status.TooLong
+status_of ending.Limit = status.Limit
 
 -- a line of the notes
 abbrev pub line : List ℕ → List ℕ
 line words = words ++ 10 ∷ []
+
+-- the last line where an order is refused
+abbrev pub reason_line : Reason → List ℕ
+reason_line (reason.Description verdict) = refusal_line verdict
+reason_line reason.SummaryTooLarge = line (codes "pads: refused: summary too large")
 
 -- the last line on the notes; a run that was done leaves none
 abbrev pub last_line : Ending → List ℕ
 last_line ending.Done = []
 last_line ending.Dirty = []
 last_line ending.Usage = line (codes "pads: usage: pads check|parse|print|summary|query|selftest WORDS OPTIONS")
-last_line (ending.Refused verdict) = refusal_line verdict
+last_line (ending.Refused why) = reason_line why
 last_line ending.FileFault = line (codes "pads: file fault")
 last_line ending.ReadFault = line (codes "pads: read fault")
 last_line ending.WriteFault = line (codes "pads: write fault")
 last_line ending.Memory = line (codes "pads: out of memory")
 last_line ending.TooLong = line (codes "pads: input too long")
+last_line ending.Limit = line (codes "pads: count too large")

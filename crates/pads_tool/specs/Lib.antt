@@ -9,4 +9,7 @@ pub mod Printing
 pub mod Promises
 pub mod Reading
 pub mod Running
+pub mod Summing
+pub mod Telling
+pub mod Testing
 pub mod Texts

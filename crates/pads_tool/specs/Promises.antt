@@ -8,15 +8,18 @@ use Rattle.pads_io.specs.Transfer.{AppendsPrefix}
 use Rattle.pads_orders.specs.declared.order.Order.{Order}
 use Rattle.pads_orders.specs.declared.order.Order.TheVariants as order
 use Rattle.pads_orders.specs.declared.order.Settings.{Settings}
-use Rattle.pads_describe.specs.declared.verdict.Verdict.{Verdict}
 use Rattle.pads_drive.specs.Outputs.{Work}
+use Rattle.pads_selftest.specs.Description.{description}
 use Rattle.pads_value.specs.declared.row.Row.{Row}
 use Rattle.pads_tool.specs.Causes.{SinkFailed}
 use Rattle.pads_tool.specs.Checking.{Accepts}
 use Rattle.pads_tool.specs.Describing.{Description, frames_of, is_clean, lines}
 use Rattle.pads_tool.specs.Printing.{IsKept, prints}
 use Rattle.pads_tool.specs.Reading.{ReadLittleAhead, Reads, WroteAll, WroteComplete, WroteMost, WrotePrefix, rows_in}
-use Rattle.pads_tool.specs.Texts.{IsRefusedIn}
+use Rattle.pads_tool.specs.Testing.{TestsBy, all_clean, selftest_line}
+use Rattle.pads_tool.specs.Summing.{CanBeSummed, IsUnsummedFor, SumsAll, SumsComplete, SumsMost, SumsOver, SumsSome}
+use Rattle.pads_tool.specs.Texts.{IsRefusedFor}
+use Rattle.pads_tool.specs.declared.reason.Reason.{Reason}
 use Rattle.pads_tool.specs.declared.ending.Ending.{Ending}
 use Rattle.pads_tool.specs.declared.ending.Ending.TheVariants as ending
 
@@ -57,16 +60,20 @@ pub record Promise : Type 1 where
   pub stops_reading : Seen → Type 0
   -- All that the first 2^62 bytes of a longer input complete was written.
   pub stops_at_limit : Seen → Type 0
+  -- A count would have passed its limit.
+  pub stops_at_count : Seen → Type 0
   -- A sink failed: a prefix of all that the order asks for was written,
   pub stops_writing : Seen → Type 0
   -- and little more was read than was written for.
   pub stays_near : Seen → Type 0
   -- There was no memory.
   pub stops_early : Seen → Type 0
-  -- The description in the files' content is refused for this reason.
-  pub refused_for : (List ℕ → Option (List ℕ)) → Verdict → Type 0
+  -- By the files' content, the order is refused for this reason.
+  pub refused_for : (List ℕ → Option (List ℕ)) → Reason → Type 0
   -- With this content, and this left of the source, the order can be done.
   pub can_finish : (List ℕ → Option (List ℕ)) → Option (List ℕ) → Type 0
+  -- It reads a file, and the source.
+  pub reads_files : Bool
   pub reads_source : Bool
   -- It writes lines on the notes.
   pub writes_notes : Bool
@@ -79,11 +86,13 @@ checking name = record {
   finishes = λ clean s. (clean ≡ true) × Accepts (s.content name) (Appends s.out s.out');
   stops_reading = λ s. ⊥;
   stops_at_limit = λ s. ⊥;
+  stops_at_count = λ s. ⊥;
   stops_writing = λ s. Accepts (s.content name) (AppendsPrefix s.out s.out');
   stays_near = λ s. Unit {0};
   stops_early = λ s. s.out' ≡ s.out;
-  refused_for = λ content verdict. IsRefusedIn (content name) verdict;
+  refused_for = λ content reason. IsRefusedFor (content name) reason;
   can_finish = λ content left. (text : List ℕ) × (tree : Ast) × (content name ≡ Some text) × IsAccepted text tree;
+  reads_files = true;
   reads_source = false;
   writes_notes = false;
   keeps_records = λ content left. Unit {0};
@@ -97,13 +106,15 @@ reading work noting name settings = record {
   finishes = λ well s. Reads (s.content name) settings s.left (WroteAll work s.left' s.out s.out' s.notes s.notes' well);
   stops_reading = λ s. Reads (s.content name) settings s.left (WroteComplete work s.left' s.out s.out' s.notes s.notes');
   stops_at_limit = λ s. Reads (s.content name) settings s.left (WroteMost work s.left' s.out s.out' s.notes s.notes');
+  stops_at_count = λ s. ⊥;
   stops_writing = λ s. Reads (s.content name) settings s.left (WrotePrefix work s.left' s.out s.out' s.notes s.notes');
   stays_near = λ s. Reads (s.content name) settings s.left (ReadLittleAhead work s.left' s.out s.out' s.notes s.notes');
   stops_early = λ s. ((s.out' ≡ s.out) × (s.notes' ≡ s.notes) × (s.left' ≡ s.left))
       ⊎ Reads (s.content name) settings s.left (WrotePrefix work s.left' s.out s.out' s.notes s.notes');
-  refused_for = λ content verdict. IsRefusedIn (content name) verdict;
+  refused_for = λ content reason. IsRefusedFor (content name) reason;
   can_finish = λ content left.
       (text : List ℕ) × (tree : Ast) × (input : List ℕ) × (content name ≡ Some text) × IsAccepted text tree × (left ≡ Some input) × (length input ≤ 2 ^ 62);
+  reads_files = true;
   reads_source = true;
   writes_notes = noting;
   keeps_records = λ content left. Unit {0};
@@ -121,19 +132,58 @@ printing name settings = record (reading prints true name settings) {
       Reads (content name) settings left (λ d input. All (λ row. is_clean row ≡ true → IsKept d row) (rows_in prints d (frames_of d input)));
 }
 
+-- `summary`: the report of all records, once the input has ended, and nothing before.
+abbrev pub summarizing : List ℕ → Settings → Promise
+summarizing name settings = record {
+  finishes = λ well s. Reads (s.content name) settings s.left (SumsAll s.left' s.out s.out' settings.top well);
+  stops_reading = λ s. (s.out' ≡ s.out) × Reads (s.content name) settings s.left (SumsComplete s.left');
+  stops_at_limit = λ s. (s.out' ≡ s.out) × Reads (s.content name) settings s.left (SumsMost s.left');
+  stops_at_count = λ s. Reads (s.content name) settings s.left (SumsOver s.left');
+  stops_writing = λ s. Reads (s.content name) settings s.left (SumsSome s.left' s.out s.out' settings.top);
+  stays_near = λ s. Unit {0};
+  stops_early = λ s. s.out' ≡ s.out;
+  refused_for = λ content why. IsUnsummedFor (content name) settings.coding why;
+  can_finish = λ content left. CanBeSummed (content name) left settings;
+  reads_files = true;
+  reads_source = true;
+  writes_notes = false;
+  keeps_records = λ content left. Unit {0};
+}
+
+-- `selftest`: one line for so many records that are made. Neither a file nor the source is read.
+abbrev pub testing : ℕ → Settings → Promise
+testing records settings = record {
+  finishes = λ well s. TestsBy settings (λ d. Appends s.out s.out' (selftest_line d records) × (all_clean d records ≡ well));
+  stops_reading = λ s. ⊥;
+  stops_at_limit = λ s. ⊥;
+  stops_at_count = λ s. ⊥;
+  stops_writing = λ s. TestsBy settings (λ d. AppendsPrefix s.out s.out' (selftest_line d records));
+  stays_near = λ s. Unit {0};
+  stops_early = λ s. s.out' ≡ s.out;
+  refused_for = λ content reason. IsRefusedFor (Some description) reason;
+  can_finish = λ content left. (tree : Ast) × IsAccepted description tree;
+  reads_files = false;
+  reads_source = false;
+  writes_notes = false;
+  keeps_records = λ content left. Unit {0};
+}
+
 abbrev pub promise_of : Order → Promise
 promise_of (order.Check name settings) = checking name
 promise_of (order.Parse name settings) = parsing name settings
 promise_of (order.Print name settings) = printing name settings
+promise_of (order.Summary name settings) = summarizing name settings
+promise_of (order.Selftest records settings) = testing records settings
 
 -- A promise is kept, by the ending. What can be done isn't refused, and meets no limit.
 abbrev pub Keeps : Promise → Seen → Counts → Ending → Type 0
 Keeps p s n ending.Done = p.finishes true s × p.keeps_records s.content s.left
 Keeps p s n ending.Dirty = p.finishes false s × p.keeps_records s.content s.left
-Keeps p s n (ending.Refused verdict) = p.refused_for s.content verdict × (s.out' ≡ s.out) × (p.can_finish s.content s.left → ⊥)
-Keeps p s n ending.FileFault = Rose n.files n.files' × (s.out' ≡ s.out)
+Keeps p s n (ending.Refused why) = p.refused_for s.content why × (s.out' ≡ s.out) × (p.can_finish s.content s.left → ⊥)
+Keeps p s n ending.FileFault = (p.reads_files ≡ true) × Rose n.files n.files' × (s.out' ≡ s.out)
 Keeps p s n ending.ReadFault = Rose n.source n.source' × p.stops_reading s
 Keeps p s n ending.WriteFault = SinkFailed p.writes_notes n.out n.out' n.notes n.notes' × p.stops_writing s × p.stays_near s
 Keeps p s n ending.TooLong = p.stops_at_limit s × (p.can_finish s.content s.left → ⊥)
+Keeps p s n ending.Limit = p.stops_at_count s × (s.out' ≡ s.out) × (p.can_finish s.content s.left → ⊥)
 Keeps p s n ending.Memory = p.stops_early s
 Keeps p s n ending.Usage = ⊥

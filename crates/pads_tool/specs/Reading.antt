@@ -84,7 +84,8 @@ module _ (work : Description → Work Row Bool) (noting : Bool) (d : Description
   RecordsGive ending.TooLong = IfSome left (WroteMost work left' o o' n n' d)
   RecordsGive ending.Memory = IfSome left (WrotePrefix work left' o o' n n' d)
   RecordsGive ending.Usage = ⊥
-  RecordsGive (ending.Refused verdict) = ⊥
+  RecordsGive (ending.Refused reason) = ⊥
+  RecordsGive ending.Limit = ⊥
   RecordsGive ending.FileFault = ⊥
 
 -- The text in a file describes something, and by it and an input that is known this was written.

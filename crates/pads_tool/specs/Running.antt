@@ -15,9 +15,9 @@ use Rattle.pads_tool.specs.declared.status.Status.TheVariants as status
 abbrev pub Ordered : List (List ℕ) → (Promise → Type 0) → Type 0
 Ordered words Holds = (asked : Order) × (order_of words ≡ Some asked) × Holds (promise_of asked)
 
--- A refusal's verdict is that on the description.
+-- A refusal has its reason.
 abbrev pub HasReason : List (List ℕ) → (List ℕ → Option (List ℕ)) → Ending → Type 0
-HasReason words content (ending.Refused verdict) = Ordered words (λ promise. promise.refused_for content verdict)
+HasReason words content (ending.Refused reason) = Ordered words (λ promise. promise.refused_for content reason)
 HasReason words content ending.Done = Unit {0}
 HasReason words content ending.Dirty = Unit {0}
 HasReason words content ending.Usage = Unit {0}
@@ -26,6 +26,7 @@ HasReason words content ending.ReadFault = Unit {0}
 HasReason words content ending.WriteFault = Unit {0}
 HasReason words content ending.Memory = Unit {0}
 HasReason words content ending.TooLong = Unit {0}
+HasReason words content ending.Limit = Unit {0}
 
 -- a run, by its ending
 abbrev pub RunGives : List (List ℕ) → Seen → Counts → Ending → Type 0

@@ -7,6 +7,8 @@ use Rattle.pads_describe.specs.Verdicts.{IsRefused}
 use Rattle.pads_io.specs.Faults.{Rose}
 use Rattle.pads_calc.specs.Modules.{Contents}
 use Rattle.pads_describe.specs.declared.verdict.Verdict.{Verdict}
+use Rattle.pads_tool.specs.declared.reason.Reason.{Reason}
+use Rattle.pads_tool.specs.declared.reason.Reason.TheVariants as reason
 use Rattle.pads_tool.specs.declared.ending.Ending.{Ending}
 use Rattle.pads_tool.specs.declared.ending.Ending.TheVariants as ending
 
@@ -25,10 +27,16 @@ IsDescribedIn content coding made = IfSome content (λ text. Describes text codi
 abbrev pub IsRefusedIn : Option (List ℕ) → Verdict → Type 0
 IsRefusedIn content verdict = IfSome content (λ text. IsRefused text verdict)
 
+-- An order is refused for this reason, of which only a verdict on the description in its file comes for it.
+abbrev pub IsRefusedFor : Option (List ℕ) → Reason → Type 0
+IsRefusedFor content (reason.Description verdict) = IsRefusedIn content verdict
+IsRefusedFor content reason.SummaryTooLarge = ⊥
+
 -- The run ends so before a description is there: its text is refused, its file can't be read, or there is no memory.
 -- The numbers are the files' count of failures before and after.
 abbrev pub StopsBefore : (Verdict → Type 0) → ℕ → ℕ → Ending → Type 0
-StopsBefore Refuses before now (ending.Refused verdict) = Refuses verdict
+StopsBefore Refuses before now (ending.Refused (reason.Description verdict)) = Refuses verdict
+StopsBefore Refuses before now (ending.Refused reason.SummaryTooLarge) = ⊥
 StopsBefore Refuses before now ending.FileFault = Rose before now
 StopsBefore Refuses before now ending.Memory = Unit {0}
 StopsBefore Refuses before now ending.Done = ⊥
@@ -37,3 +45,4 @@ StopsBefore Refuses before now ending.Usage = ⊥
 StopsBefore Refuses before now ending.ReadFault = ⊥
 StopsBefore Refuses before now ending.WriteFault = ⊥
 StopsBefore Refuses before now ending.TooLong = ⊥
+StopsBefore Refuses before now ending.Limit = ⊥

@@ -1,4 +1,4 @@
-use pads_describe::Verdict;
+use crate::reason::Reason;
 
 /// How a run ends, with the reason of a refusal.
 #[derive(Clone, Copy, Debug, PartialEq, Eq)]
@@ -6,10 +6,11 @@ pub(crate) enum Ending {
     Done,
     Dirty,
     Usage,
-    Refused(Verdict),
+    Refused(Reason),
     FileFault,
     ReadFault,
     WriteFault,
     Memory,
     TooLong,
+    Limit,
 }

@@ -12,11 +12,18 @@ mod ending;
 mod files;
 mod parse;
 mod print;
+mod reason;
 mod rows;
 mod running;
+mod selftest;
 mod status;
+mod summary;
+mod summed;
+mod tell;
 mod telling;
+mod test_tally;
 mod text;
+mod unused;
 mod words_of;
 
 pub use running::run;

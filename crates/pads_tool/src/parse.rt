@@ -11,10 +11,11 @@ ghost use Rattle.pads_calc.specs.Modules.{contents};
 use crate::ending::Ending;
 use crate::rows::{are_clean, ending_of, rows_in};
 use crate::text::described_in;
+use crate::unused::unused;
 use pads_calc::Module;
 use pads_code::Coding;
 use pads_drive::{Command, Limit, Output, drive};
-use pads_io::{Calls, Files, MemSink, Sink, Source};
+use pads_io::{Files, Sink, Source};
 use pads_json::record_line;
 use pads_orders::{Cutting, Settings};
 use pads_value::{Kept, Memory, Refusal, Row, Rows};
@@ -78,7 +79,6 @@ fn write_lines<S: Source, K: Sink>(
     ensures out_kept { result ≢ ending.WriteFault → K.faults out.new ≡ K.faults out.old }
     ensures source_kept { result ≢ ending.ReadFault → result ≢ ending.WriteFault → result ≢ ending.Memory → S.faults source.new ≡ S.faults source.old }
 {
-    let mut unused = MemSink::new(alloc, 0, Calls::new(alloc));
     let Cutting { discipline, max } = cutting;
     ending_of(drive(
         command,
@@ -88,7 +88,7 @@ fn write_lines<S: Source, K: Sink>(
         max,
         source,
         out,
-        &mut unused,
+        &mut unused(alloc),
     ))
 }
 

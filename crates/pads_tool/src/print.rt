@@ -71,7 +71,7 @@ impl Command for Prints {
 }
 
 /// What is told of a record.
-fn told(alloc: Global, command: &Prints, row: &Row) -> Result<Told, Memory>
+pub(crate) fn told(alloc: Global, command: &Prints, row: &Row) -> Result<Told, Memory>
     ensures told { IfOk result (λ told. told ≡ told_of (described (contents command.now.module) command.now.cutting) row.now) }
 {
     if !is_clean(row) {

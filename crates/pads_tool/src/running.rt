@@ -13,7 +13,9 @@ use crate::close::close;
 use crate::ending::Ending;
 use crate::parse::parse;
 use crate::print::print;
+use crate::selftest::selftest;
 use crate::status::Status;
+use crate::summary::summary;
 use pads_io::{Files, Sink, Source};
 use pads_orders::{Order, Words, read_order};
 use pads_value::Refusal;
@@ -34,6 +36,7 @@ fn perform<F: Files, S: Source, K: Sink, E: Sink>(
         (E.written notes.old) (E.written notes.new))
         (counts (F.faults files.old) (F.faults files.new) (S.faults source.old) (S.faults source.new) (K.faults out.old) (K.faults out.new)
         (E.faults notes.old) (E.faults notes.new)) result }
+    ensures unopened { (promise_of order.now).reads_files ≡ false → files.new ≡ files.old }
     ensures unread { (promise_of order.now).reads_source ≡ false → source.new ≡ source.old }
     ensures unnoted { (promise_of order.now).writes_notes ≡ false → notes.new ≡ notes.old }
     ensures untouched { IsBeforeInput (status_of result) → source.new ≡ source.old }
@@ -41,7 +44,8 @@ fn perform<F: Files, S: Source, K: Sink, E: Sink>(
     ensures files_kept { result ≢ ending.FileFault → F.faults files.new ≡ F.faults files.old }
     ensures out_kept { result ≢ ending.WriteFault → K.faults out.new ≡ K.faults out.old }
     ensures notes_kept { result ≢ ending.WriteFault → E.faults notes.new ≡ E.faults notes.old }
-    ensures source_kept { result ≢ ending.ReadFault → result ≢ ending.WriteFault → result ≢ ending.Memory → S.faults source.new ≡ S.faults source.old }
+    ensures source_kept { result ≢ ending.ReadFault → result ≢ ending.WriteFault → result ≢ ending.Memory → result ≢ ending.Limit
+        → S.faults source.new ≡ S.faults source.old }
 {
     match order {
         Order::Check { description, .. } => check(alloc, description.as_str(), files, out),
@@ -61,6 +65,11 @@ fn perform<F: Files, S: Source, K: Sink, E: Sink>(
             out,
             notes,
         ),
+        Order::Summary {
+            description,
+            settings,
+        } => summary(alloc, description.as_str(), settings, files, source, out),
+        Order::Selftest { records, settings } => selftest(alloc, *records, settings, out),
     }
 }
 
@@ -84,8 +93,10 @@ fn obey<F: Files, S: Source, K: Sink, E: Sink>(
     ensures files_kept { result ≢ ending.FileFault → F.faults files.new ≡ F.faults files.old }
     ensures out_kept { result ≢ ending.WriteFault → K.faults out.new ≡ K.faults out.old }
     ensures notes_kept { result ≢ ending.WriteFault → E.faults notes.new ≡ E.faults notes.old }
-    ensures source_kept { result ≢ ending.ReadFault → result ≢ ending.WriteFault → result ≢ ending.Memory → S.faults source.new ≡ S.faults source.old }
+    ensures source_kept { result ≢ ending.ReadFault → result ≢ ending.WriteFault → result ≢ ending.Memory → result ≢ ending.Limit
+        → S.faults source.new ≡ S.faults source.old }
     ensures unopened { order_of words.now ≡ None → files.new ≡ files.old }
+    ensures without_files { Ordered words.now (λ promise. promise.reads_files ≡ false) → files.new ≡ files.old }
 {
     match read_order(alloc, words) {
         Ok(order) => perform(alloc, &order, files, source, out, notes),
@@ -119,20 +130,23 @@ pub fn run<F: Files, S: Source, K: Sink, E: Sink>(
 
     // When each other answer may come; that of want of memory is free. Why a description is refused, the last words tell.
     ensures usage { (result ≡ status.Usage) ↔ (order_of words.now ≡ None) }
-    ensures file_fault { result ≡ status.FileFault → Rose (F.faults files.old) (F.faults files.new) }
+    ensures file_fault { result ≡ status.FileFault → Rose (F.faults files.old) (F.faults files.new) × Ordered words.now (λ promise. promise.reads_files ≡ true) }
     ensures read_fault { result ≡ status.ReadFault → Rose (S.faults source.old) (S.faults source.new) }
     ensures write_fault { result ≡ status.WriteFault → BeforeLastWords words.now (F.content files.old) result (E.written notes.new) (E.faults notes.new)
         (λ noted count. Ordered words.now (λ promise.
         SinkFailed promise.writes_notes (K.faults out.old) (K.faults out.new) (E.faults notes.old) count)) }
-    ensures limit { result ≢ status.Limit }
+    ensures limit { result ≡ status.Limit → BeforeLastWords words.now (F.content files.old) result (E.written notes.new) (E.faults notes.new)
+        (λ noted count. Ordered words.now (λ promise. promise.stops_at_count
+        (seen (F.content files.old) (S.left source.old) (S.left source.new) (K.written out.old) (K.written out.new) (E.written notes.old) noted))) }
 
-    // A failure is told. One of the source may be followed by one of a sink, or by want of memory, for what was read before it.
+    // A failure is told. One of the source may be followed by one of a sink, by want of memory, or by a count that passes its
+    // limit, for what was read before it.
     // That the last words couldn't be written is told by nothing but the count of the notes.
     ensures files_told { result ≢ status.FileFault → F.faults files.new ≡ F.faults files.old }
     ensures out_told { result ≢ status.WriteFault → K.faults out.new ≡ K.faults out.old }
     ensures notes_told { result ≢ status.WriteFault → BeforeLastWords words.now (F.content files.old) result (E.written notes.new) (E.faults notes.new)
         (λ noted count. count ≡ E.faults notes.old) }
-    ensures source_told { result ≢ status.ReadFault → result ≢ status.WriteFault → result ≢ status.Memory
+    ensures source_told { result ≢ status.ReadFault → result ≢ status.WriteFault → result ≢ status.Memory → result ≢ status.Limit
         → S.faults source.new ≡ S.faults source.old }
 
     ensures completeness { IsFair words.now (F.content files.old) (S.left source.old)
@@ -141,7 +155,7 @@ pub fn run<F: Files, S: Source, K: Sink, E: Sink>(
         → EndsOrWantsMemory result }
 
     // What stands on the sinks where not all was read and written; the last words stand on the notes behind it.
-    ensures nothing { IsBeforeInput result → K.written out.new ≡ K.written out.old }
+    ensures nothing { IsBeforeInput result ⊎ (result ≡ status.Limit) → K.written out.new ≡ K.written out.old }
     ensures complete { result ≡ status.ReadFault → BeforeLastWords words.now (F.content files.old) result (E.written notes.new) (E.faults notes.new)
         (λ noted count. Ordered words.now (λ promise. promise.stops_reading
         (seen (F.content files.old) (S.left source.old) (S.left source.new) (K.written out.old) (K.written out.new) (E.written notes.old) noted))) }
@@ -161,10 +175,11 @@ pub fn run<F: Files, S: Source, K: Sink, E: Sink>(
         (seen (F.content files.old) (S.left source.old) (S.left source.new) (K.written out.old) (K.written out.new) (E.written notes.old) noted))) }
 
     // A command as `check` reads no source, and no run does that ends at its words or at the description. Words that are no
-    // order reach no file.
+    // order reach no file, nor does a command as `selftest`.
     ensures unread { Ordered words.now (λ promise. promise.reads_source ≡ false) → source.new ≡ source.old }
     ensures untouched { IsBeforeInput result → source.new ≡ source.old }
     ensures unopened { order_of words.now ≡ None → files.new ≡ files.old }
+    ensures without_files { Ordered words.now (λ promise. promise.reads_files ≡ false) → files.new ≡ files.old }
 
     // The last words come last on the notes, and tell the verdict on a description that is refused. Where the command writes
     // nothing else there, or the input wasn't reached, nothing else does stand there behind what stood there before.

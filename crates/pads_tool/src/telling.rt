@@ -49,6 +49,16 @@ impl Told {
         }
     }
 
+    /// How many bytes are written on `out` for the record.
+    pub(crate) fn size(&self) -> u64
+        ensures size { result ≡ length (bytes_told self.now) }
+    {
+        match self {
+            Told::NotClean | Told::Ambiguous => 0,
+            Told::Printed(bytes) => bytes.len(),
+        }
+    }
+
     /// Whether all records are printed, with one more.
     pub(crate) fn are_printed(&self, before: bool) -> bool
         ensures printed { result ≡ (before && is_printed self.now) }

@@ -8,6 +8,7 @@ ghost use Rattle.pads_calc.specs.Skeletons.{KeepsAll};
 use crate::description::Described;
 use crate::ending::Ending;
 use crate::files::read_description;
+use crate::reason::Reason;
 use pads_calc::Module;
 use pads_code::Coding;
 use pads_describe::Verdict;
@@ -24,7 +25,7 @@ fn text_in<F: Files>(alloc: Global, files: &mut F, name: &str) -> Result<Bytes, 
 {
     match read_description(alloc, files, name) {
         Ok(Described::Text(text)) => Ok(text),
-        Ok(Described::TooLong) => Err(Ending::Refused(Verdict::TooLong)),
+        Ok(Described::TooLong) => Err(Ending::Refused(Reason::Description(Verdict::TooLong))),
         Err(Refusal::Fault(_)) => Err(Ending::FileFault),
         Err(Refusal::Memory) => Err(Ending::Memory),
     }
@@ -43,7 +44,7 @@ pub(crate) fn accepted_in<F: Files>(alloc: Global, files: &mut F, name: &str) ->
     };
     match pads_describe::check_text(alloc, text.as_slice()) {
         Ok(count) => Ok(count),
-        Err(Refusal::Fault(verdict)) => Err(Ending::Refused(verdict)),
+        Err(Refusal::Fault(verdict)) => Err(Ending::Refused(Reason::Description(verdict))),
         Err(Refusal::Memory) => Err(Ending::Memory),
     }
 }
@@ -68,7 +69,7 @@ pub(crate) fn described_in<F: Files>(
     };
     match pads_describe::describe(alloc, text.as_slice(), coding) {
         Ok(made) => Ok(made),
-        Err(Refusal::Fault(verdict)) => Err(Ending::Refused(verdict)),
+        Err(Refusal::Fault(verdict)) => Err(Ending::Refused(Reason::Description(verdict))),
         Err(Refusal::Memory) => Err(Ending::Memory),
     }
 }

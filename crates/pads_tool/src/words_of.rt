@@ -1,7 +1,8 @@
 ghost use Rattle.std.specs.Prelude.{◌≡◌, ◌≤◌, length};
-ghost use Rattle.pads_tool.specs.Endings.{exit_status, status_of, last_line};
+ghost use Rattle.pads_tool.specs.Endings.{exit_status, last_line, reason_line, status_of};
 
 use crate::ending::Ending;
+use crate::reason::Reason;
 use crate::status::Status;
 use pads_describe::{Line, put};
 
@@ -24,6 +25,18 @@ fn line_of(words: &[u8]) -> Line
     line
 }
 
+impl Reason {
+    /// The last line of a run that is refused for it. It takes no memory.
+    fn line(self) -> Line
+        ensures line { result.items ≡ reason_line self }
+    {
+        match self {
+            Reason::Description(verdict) => verdict.line(),
+            Reason::SummaryTooLarge => line_of(b"pads: refused: summary too large\n"),
+        }
+    }
+}
+
 impl Ending {
     pub(crate) fn status(self) -> Status
         ensures status { result ≡ status_of self }
@@ -38,6 +51,7 @@ impl Ending {
             Ending::WriteFault => Status::WriteFault,
             Ending::Memory => Status::Memory,
             Ending::TooLong => Status::TooLong,
+            Ending::Limit => Status::Limit,
         }
     }
 
@@ -50,12 +64,13 @@ impl Ending {
             Ending::Usage => line_of(
                 b"pads: usage: pads check|parse|print|summary|query|selftest WORDS OPTIONS\n",
             ),
-            Ending::Refused(verdict) => verdict.line(),
+            Ending::Refused(reason) => reason.line(),
             Ending::FileFault => line_of(b"pads: file fault\n"),
             Ending::ReadFault => line_of(b"pads: read fault\n"),
             Ending::WriteFault => line_of(b"pads: write fault\n"),
             Ending::Memory => line_of(b"pads: out of memory\n"),
             Ending::TooLong => line_of(b"pads: input too long\n"),
+            Ending::Limit => line_of(b"pads: count too large\n"),
         }
     }
 }

@@ -83,6 +83,9 @@ fn put_head<'t>(
         Ok(())
     } else if head == "out" {
         put_part(alloc, &mut row.wanted.out, rest, 0)
+    } else if head == "out bytes" {
+        row.wanted.out_bytes = Some(number_of(rest)?);
+        Ok(())
     } else if head == "notes" {
         put_part(alloc, &mut row.wanted.notes, rest, 0)
     } else if head == "unread at least" {

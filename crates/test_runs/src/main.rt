@@ -1,5 +1,5 @@
-//! Tries each row of `records.txt`, `refusals.txt`, `failures.txt` and `prints.txt`: a run of the program over objects in memory,
-//! and what it must leave. What a row says was worked out by hand. Prints each row whose run leaves something else,
+//! Tries each row of the tables `records.txt`, `refusals.txt`, `failures.txt`, `prints.txt`, `summaries.txt` and
+//! `selftests.txt`: a run of the program over objects in memory, and what it must leave. What a row says was worked out by hand. Prints each row whose run leaves something else,
 //! and how many rows each table has.
 #![tactic(auto)]
 
@@ -28,6 +28,29 @@ fn put_difference(
     Ok(())
 }
 
+/// Puts what stands on `out` in place of what is wanted, or of as many bytes.
+fn put_out(
+    alloc: Global,
+    text: &mut String,
+    left: &Left,
+    wanted: &Wanted<'_>,
+) -> Result<(), AllocError> {
+    let Some(wanted) = wanted.out_bytes else {
+        return put_difference(
+            alloc,
+            text,
+            "out",
+            left.out.as_slice(),
+            wanted.out.as_slice(),
+        );
+    };
+    let bytes = left.out.len();
+    if bytes != wanted {
+        write!(text, "out bytes {bytes}; ")?;
+    }
+    Ok(())
+}
+
 /// What a run left in place of what is wanted; nothing where it left that.
 fn differences(alloc: Global, left: &Left, wanted: &Wanted<'_>) -> Result<String, AllocError> {
     let mut text = String::new(alloc);
@@ -40,13 +63,7 @@ fn differences(alloc: Global, left: &Left, wanted: &Wanted<'_>) -> Result<String
         status.as_bytes(),
         wanted.status.as_bytes(),
     )?;
-    put_difference(
-        alloc,
-        &mut text,
-        "out",
-        left.out.as_slice(),
-        wanted.out.as_slice(),
-    )?;
+    put_out(alloc, &mut text, left, wanted)?;
     put_difference(
         alloc,
         &mut text,
@@ -85,5 +102,7 @@ fn main(rt: HostRuntime) -> io::Result<()> {
     try_table(&rt, "records.txt")?;
     try_table(&rt, "refusals.txt")?;
     try_table(&rt, "failures.txt")?;
-    try_table(&rt, "prints.txt")
+    try_table(&rt, "prints.txt")?;
+    try_table(&rt, "summaries.txt")?;
+    try_table(&rt, "selftests.txt")
 }

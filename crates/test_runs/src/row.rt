@@ -39,6 +39,8 @@ pub(crate) struct Asked {
 pub(crate) struct Wanted<'t> {
     pub(crate) status: &'t str,
     pub(crate) out: Bytes,
+    /// How many bytes stand on `out`, where they aren't written out in the row.
+    pub(crate) out_bytes: Option<u64>,
     pub(crate) notes: Bytes,
     /// How many bytes of the input are left at least.
     pub(crate) unread: u64,
@@ -75,6 +77,7 @@ fn empty(alloc: Global) -> Row<'static> {
         wanted: Wanted {
             status: "",
             out: Bytes::new(alloc),
+            out_bytes: None,
             notes: Bytes::new(alloc),
             unread: 0,
         },

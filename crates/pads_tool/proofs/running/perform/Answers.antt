@@ -32,3 +32,24 @@ returns-in-Print-clause-gives g c =
     (counts (g.F.Files.faults c.args.files.now) (g.F.Files.faults c.print.new.files) (g.S.Source.faults c.args.source.now) (g.S.Source.faults c.print.new.source)
     (g.K.Sink.faults c.args.out.now) (g.K.Sink.faults c.print.new.out) (g.E.Sink.faults c.args.notes.now) (g.E.Sink.faults c.print.new.notes))
     c.print.result (search rules) c.print.ensures.gives
+
+pub returns-in-Summary-clause-gives : goal.returns-in-Summary-clause-gives
+returns-in-Summary-clause-gives g c =
+    same-order-keeps c.args.order.now (order.Summary c.as_str-in-Summary.result.now c.in-Summary.settings)
+    (seen (g.F.Files.content c.args.files.now) (g.S.Source.left c.args.source.now) (g.S.Source.left c.summary.new.source)
+    (g.K.Sink.written c.args.out.now) (g.K.Sink.written c.summary.new.out) (g.E.Sink.written c.args.notes.now) (g.E.Sink.written c.args.notes.now))
+    (counts (g.F.Files.faults c.args.files.now) (g.F.Files.faults c.summary.new.files) (g.S.Source.faults c.args.source.now) (g.S.Source.faults c.summary.new.source)
+    (g.K.Sink.faults c.args.out.now) (g.K.Sink.faults c.summary.new.out) (g.E.Sink.faults c.args.notes.now) (g.E.Sink.faults c.args.notes.now))
+    c.summary.result (search rules) (c.summary.ensures.gives (g.E.Sink.written c.args.notes.now) (g.E.Sink.written c.args.notes.now)
+    (g.E.Sink.faults c.args.notes.now) (g.E.Sink.faults c.args.notes.now))
+
+pub returns-in-Selftest-clause-gives : goal.returns-in-Selftest-clause-gives
+returns-in-Selftest-clause-gives g c =
+    same-order-keeps c.args.order.now (order.Selftest c.in-Selftest.records c.in-Selftest.settings)
+    (seen (g.F.Files.content c.args.files.now) (g.S.Source.left c.args.source.now) (g.S.Source.left c.args.source.now)
+    (g.K.Sink.written c.args.out.now) (g.K.Sink.written c.selftest.new.out) (g.E.Sink.written c.args.notes.now) (g.E.Sink.written c.args.notes.now))
+    (counts (g.F.Files.faults c.args.files.now) (g.F.Files.faults c.args.files.now) (g.S.Source.faults c.args.source.now) (g.S.Source.faults c.args.source.now)
+    (g.K.Sink.faults c.args.out.now) (g.K.Sink.faults c.selftest.new.out) (g.E.Sink.faults c.args.notes.now) (g.E.Sink.faults c.args.notes.now))
+    c.selftest.result (search rules) (c.selftest.ensures.gives (g.F.Files.content c.args.files.now) (g.S.Source.left c.args.source.now) (g.S.Source.left c.args.source.now)
+    (g.E.Sink.written c.args.notes.now) (g.E.Sink.written c.args.notes.now) (g.F.Files.faults c.args.files.now) (g.F.Files.faults c.args.files.now)
+    (g.S.Source.faults c.args.source.now) (g.S.Source.faults c.args.source.now) (g.E.Sink.faults c.args.notes.now) (g.E.Sink.faults c.args.notes.now))

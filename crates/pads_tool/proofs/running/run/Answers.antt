@@ -5,7 +5,7 @@ use Rattle.pads_tool.specs.Promises.{counts, seen}
 use Rattle.pads_tool.specs.Running.{Ordered, IsBeforeInput, IsQuiet}
 use Rattle.pads_tool.specs.declared.status.Status.TheVariants as status
 use Rattle.pads_tool.proofs.Promises.{ordered-still}
-use Rattle.pads_tool.proofs.Statuses.{at-status, before-last, fair, fair-before, kept, never-limit, none-left, nothing, reason, usage-is}
+use Rattle.pads_tool.proofs.Statuses.{at-status, before-last, fair, fair-before, kept, none-left, nothing, reason, usage-is}
 use Rattle.pads_tool.proofs.running.run.Goals as goal
 
 pub returns-clause-done : goal.returns-clause-done
@@ -39,12 +39,14 @@ returns-clause-usage g c = usage-is c.args.words.now
     c.obey-ending.result c.close.result c.close.ensures.status c.obey-ending.ensures.gives
 
 pub returns-clause-file_fault : goal.returns-clause-file_fault
-returns-clause-file_fault g c = λ same. (at-status c.args.words.now
+returns-clause-file_fault g c = λ same.
+    let at = at-status c.args.words.now
     (seen (g.F.Files.content c.args.files.now) (g.S.Source.left c.args.source.now) (g.S.Source.left c.obey-ending.new.source)
     (g.K.Sink.written c.args.out.now) (g.K.Sink.written c.obey-ending.new.out) (g.E.Sink.written c.args.notes.now) (g.E.Sink.written c.obey-ending.new.notes))
     (counts (g.F.Files.faults c.args.files.now) (g.F.Files.faults c.obey-ending.new.files) (g.S.Source.faults c.args.source.now) (g.S.Source.faults c.obey-ending.new.source)
     (g.K.Sink.faults c.args.out.now) (g.K.Sink.faults c.obey-ending.new.out) (g.E.Sink.faults c.args.notes.now) (g.E.Sink.faults c.obey-ending.new.notes))
-    c.obey-ending.result c.close.result status.FileFault c.close.ensures.status same c.obey-ending.ensures.gives).1
+    c.obey-ending.result c.close.result status.FileFault c.close.ensures.status same c.obey-ending.ensures.gives in
+    (at.1, at.0)
 
 pub returns-clause-read_fault : goal.returns-clause-read_fault
 returns-clause-read_fault g c = λ same. (at-status c.args.words.now
@@ -82,12 +84,25 @@ returns-clause-kept g c = kept c.args.words.now
     c.obey-ending.result c.close.result c.close.ensures.status c.obey-ending.ensures.gives
 
 pub returns-clause-limit : goal.returns-clause-limit
-returns-clause-limit g c = never-limit c.args.words.now
+returns-clause-limit g c = λ same. before-last c.args.words.now (g.F.Files.content c.args.files.now) c.close.result c.obey-ending.result
+    (g.E.Sink.written c.obey-ending.new.notes) (g.E.Sink.written c.close.new.notes) (g.E.Sink.faults c.obey-ending.new.notes) (g.E.Sink.faults c.close.new.notes)
+    (λ noted count. Ordered c.args.words.now (λ promise. promise.stops_at_count
+    (seen (g.F.Files.content c.args.files.now) (g.S.Source.left c.args.source.now) (g.S.Source.left c.obey-ending.new.source)
+    (g.K.Sink.written c.args.out.now) (g.K.Sink.written c.obey-ending.new.out) (g.E.Sink.written c.args.notes.now) noted)))
+    c.close.ensures.status
+    (reason c.args.words.now
     (seen (g.F.Files.content c.args.files.now) (g.S.Source.left c.args.source.now) (g.S.Source.left c.obey-ending.new.source)
     (g.K.Sink.written c.args.out.now) (g.K.Sink.written c.obey-ending.new.out) (g.E.Sink.written c.args.notes.now) (g.E.Sink.written c.obey-ending.new.notes))
     (counts (g.F.Files.faults c.args.files.now) (g.F.Files.faults c.obey-ending.new.files) (g.S.Source.faults c.args.source.now) (g.S.Source.faults c.obey-ending.new.source)
     (g.K.Sink.faults c.args.out.now) (g.K.Sink.faults c.obey-ending.new.out) (g.E.Sink.faults c.args.notes.now) (g.E.Sink.faults c.obey-ending.new.notes))
-    c.obey-ending.result c.close.result c.close.ensures.status c.obey-ending.ensures.gives
+    c.obey-ending.result c.obey-ending.ensures.gives)
+    c.close.ensures.words
+    ((at-status c.args.words.now
+    (seen (g.F.Files.content c.args.files.now) (g.S.Source.left c.args.source.now) (g.S.Source.left c.obey-ending.new.source)
+    (g.K.Sink.written c.args.out.now) (g.K.Sink.written c.obey-ending.new.out) (g.E.Sink.written c.args.notes.now) (g.E.Sink.written c.obey-ending.new.notes))
+    (counts (g.F.Files.faults c.args.files.now) (g.F.Files.faults c.obey-ending.new.files) (g.S.Source.faults c.args.source.now) (g.S.Source.faults c.obey-ending.new.source)
+    (g.K.Sink.faults c.args.out.now) (g.K.Sink.faults c.obey-ending.new.out) (g.E.Sink.faults c.args.notes.now) (g.E.Sink.faults c.obey-ending.new.notes))
+    c.obey-ending.result c.close.result status.Limit c.close.ensures.status same c.obey-ending.ensures.gives).0)
 
 pub returns-clause-completeness : goal.returns-clause-completeness
 returns-clause-completeness g c = λ f. fair c.args.words.now
@@ -249,5 +264,5 @@ pub returns-clause-out_told : goal.returns-clause-out_told
 returns-clause-out_told g c = λ other. c.obey-ending.ensures.out_kept (λ e. other (c.close.ensures.status ∙ ap status_of e))
 
 pub returns-clause-source_told : goal.returns-clause-source_told
-returns-clause-source_told g c = λ reads writes wants. c.obey-ending.ensures.source_kept (λ e. reads (c.close.ensures.status ∙ ap status_of e))
-    (λ e. writes (c.close.ensures.status ∙ ap status_of e)) (λ e. wants (c.close.ensures.status ∙ ap status_of e))
+returns-clause-source_told g c = λ reads writes wants passes. c.obey-ending.ensures.source_kept (λ e. reads (c.close.ensures.status ∙ ap status_of e))
+    (λ e. writes (c.close.ensures.status ∙ ap status_of e)) (λ e. wants (c.close.ensures.status ∙ ap status_of e)) (λ e. passes (c.close.ensures.status ∙ ap status_of e))

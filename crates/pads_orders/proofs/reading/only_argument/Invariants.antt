@@ -1,6 +1,6 @@
 use Rattle.std.proofs.Common.{◌≡◌, length}
 use Rattle.pads_orders.specs.Options.{arguments}
-use Rattle.pads_orders.proofs.reading.description_in.Given as goal
+use Rattle.pads_orders.proofs.reading.only_argument.Given as goal
 
 abbrev pub invariant-words : goal.invariant-words
 invariant-words l = arguments l.rest ≡ arguments l.words

@@ -1,0 +1,13 @@
+use Rattle.std.proofs.Common.{map, refl}
+use Rattle.pads_calc.specs.Modules.{contents}
+use Rattle.pads_tool.proofs.Alike.{rows-alike}
+use Rattle.pads_tool.specs.Describing.{lines}
+use Rattle.pads_tool.specs.Summing.{sums}
+use Rattle.pads_value.specs.Cuts.{cut_of_kept}
+use Rattle.pads_tool.proofs.summary.SumsCommand.read.Goals as goal
+
+pub returns : goal.returns
+returns c = record {
+  rows = rw (rows-alike (lines (contents c.args.self.now.module)) (sums (contents c.args.self.now.module)) (λ number cut. refl) c.args.number (map cut_of_kept c.args.frames.now))
+      at c.rows_in.ensures.rows;
+}

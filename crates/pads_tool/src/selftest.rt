@@ -1,0 +1,141 @@
+ghost use Rattle.std.specs.Prelude.{◌≡◌, ◌≢◌, ◌^◌, ◌≤◌, ℕ, List, Option, IfErr, IfOk, length};
+ghost use Rattle.pads_calc.specs.Modules.{contents};
+ghost use Rattle.pads_describe.specs.Describing.{Describes};
+ghost use Rattle.pads_describe.specs.Verdicts.{IsRefused};
+ghost use Rattle.pads_orders.specs.Orders.{IsWithinLimits};
+ghost use Rattle.pads_selftest.specs.Description.{description as description_text};
+ghost use Rattle.pads_selftest.specs.Records.{made};
+ghost use Rattle.pads_tool.specs.Describing.{described};
+ghost use Rattle.pads_tool.specs.Promises.{Keeps, counts, seen, testing};
+ghost use Rattle.pads_tool.specs.Testing.{rows_tested, tallied};
+ghost use Rattle.pads_tool.specs.Texts.{StopsBefore};
+ghost use Rattle.pads_tool.specs.declared.ending.Ending.TheVariants as ending;
+
+use crate::ending::Ending;
+use crate::print::{Prints, told};
+use crate::reason::Reason;
+use crate::rows::{is_clean, rows_in};
+use crate::tell::tell;
+use crate::test_tally::TestTally;
+use crate::unused::unused;
+use pads_calc::Module;
+use pads_code::Coding;
+use pads_drive::{Command, Ended, Limit, Output, Stop, drive};
+use pads_io::Sink;
+use pads_orders::Settings;
+use pads_selftest::{MadeRecords, bytes_made, description};
+use pads_value::{Kept, Memory, Refusal, Row, Rows};
+use std::alloc::Global;
+
+/// The command that counts records, and the bytes that are printed of them.
+#[derive(Drop)]
+pub(crate) struct Tests {
+    pub(crate) prints: Prints,
+}
+
+impl Command for Tests {
+    ghost use Rattle.std.specs.Prelude.{◌^◌, length};
+    ghost use Rattle.pads_calc.specs.Modules.{contents};
+    ghost use Rattle.pads_selftest.proofs.Limits.{above-still};
+    ghost use Rattle.pads_tool.specs.Describing.{described};
+    ghost use Rattle.pads_tool.specs.Printing.{prints};
+    ghost use Rattle.pads_tool.specs.Testing.{tests};
+
+    type Row = Row;
+
+    type Tally = TestTally;
+
+    ghost work = { λ command. tests (described (contents command.prints.module) command.prints.cutting) };
+
+    fn read(&self, alloc: Global, number: u64, frames: &[Kept]) -> Result<Rows, Memory> {
+        rows_in(alloc, &self.prints.module, number, frames)
+    }
+
+    fn give(
+        &self,
+        alloc: Global,
+        row: &Row,
+        _output: &mut Output,
+        tally: &mut TestTally,
+    ) -> Result<(), Refusal<Limit>> {
+        let Ok(told) = told(alloc, &self.prints, row) else {
+            return Err(Refusal::Memory);
+        };
+        match tally.add(is_clean(row), told.size()) {
+            Ok(()) => Ok(()),
+            Err(limit) => Err(Refusal::Fault(limit)),
+        }
+    }
+
+    ghost stays_over = { λ command rows more over. above-still
+        (λ row. length ((prints (described (contents command.prints.module) command.prints.cutting)).out row)) (2 ^ 62) rows more over };
+}
+
+/// What the records that are made for a self-test come to.
+fn tested(alloc: Global, command: &Tests, records: u32) -> Result<TestTally, Memory>
+    requires few { length (made records) ≤ 2 ^ 27 }
+    ensures tally { IfOk result (λ tally. tally ≡ tallied (described (contents command.now.prints.module) command.now.prints.cutting)
+        (rows_tested (described (contents command.now.prints.module) command.now.prints.cutting) records)) }
+{
+    let cutting = command.prints.cutting;
+    match drive(
+        command,
+        alloc,
+        TestTally::none(),
+        cutting.discipline,
+        cutting.max,
+        &mut MadeRecords::new(records),
+        &mut unused(alloc),
+        &mut unused(alloc),
+    ) {
+        Ok(Ended::Finished(tally)) => Ok(tally),
+        // The source never fails, it isn't long, and so few records can be counted.
+        Ok(Ended::ReadFault) => unreachable!(),
+        Ok(Ended::TooLong) => unreachable!(),
+        Err(Stop::Limit) => unreachable!(),
+        // Nothing is written on the sinks.
+        Err(Stop::Out | Stop::Notes | Stop::Memory) => Err(Memory),
+    }
+}
+
+/// The module of the records that are made, or how the run ends without it.
+fn test_module(alloc: Global, coding: Coding) -> Result<Module, Ending>
+    ensures described { IfOk result (λ made. Describes description_text coding (contents made)) }
+    ensures stops { IfErr result (StopsBefore (IsRefused description_text) 0 0) }
+{
+    match pads_describe::describe(alloc, description(), coding) {
+        Ok(module) => Ok(module),
+        Err(Refusal::Fault(verdict)) => Err(Ending::Refused(Reason::Description(verdict))),
+        Err(Refusal::Memory) => Err(Ending::Memory),
+    }
+}
+
+/// Tells what so many records come to that are made for this.
+pub(crate) fn selftest<K: Sink>(
+    alloc: Global,
+    records: u32,
+    settings: &Settings,
+    out: &mut K,
+) -> Ending
+    requires limits { IsWithinLimits settings.now.cutting }
+    requires few { records ≤ 1000000 }
+    ensures gives { (content : List ℕ → Option (List ℕ)) (left left' noted noted' : Option (List ℕ)) (files files' source source' notes notes' : ℕ)
+        → Keeps (testing records settings.now)
+        (seen content left left' (K.written out.old) (K.written out.new) noted noted')
+        (counts files files' source source' (K.faults out.old) (K.faults out.new) notes notes') result }
+    ensures out_kept { result ≢ ending.WriteFault → K.faults out.new ≡ K.faults out.old }
+{
+    let module = match test_module(alloc, settings.coding) {
+        Ok(module) => module,
+        Err(ending) => return ending,
+    };
+    let cutting = settings.cutting;
+    let bytes = bytes_made(records);
+    let tests = Tests {
+        prints: Prints { module, cutting },
+    };
+    match tested(alloc, &tests, records) {
+        Ok(tally) => tell(out, tally.line(bytes).as_slice(), tally.are_clean()),
+        Err(Memory) => Ending::Memory,
+    }
+}
