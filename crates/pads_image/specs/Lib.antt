@@ -1,0 +1,13 @@
+pub mod Answers
+pub mod Blocks
+pub mod Bounds
+pub mod Code
+pub mod Heights
+pub mod Opened
+pub mod Reads
+pub mod Skeletons
+pub mod States
+pub mod Steps
+pub mod Straight
+pub mod Validity
+pub mod Variables

@@ -1,0 +1,46 @@
+ghost use Rattle.std.specs.Prelude.{◌≡◌, true, IfOk};
+ghost use Rattle.pads_image.specs.Heights.{stack_need as stack_need_of};
+ghost use Rattle.pads_image.specs.Validity.{is_valid};
+
+use crate::need::stack_need;
+use crate::{Entries, Ops};
+use pads_calc::Shape;
+use pads_value::Memory;
+use std::alloc::Global;
+
+/// A description as code: what reads a record, one instruction after another. Its code is that of
+/// declarations by their layout, and no record needs more stack entries than `need`.
+#[derive(Drop)]
+pub struct Image {
+    pub code: Ops,
+    pub entries: Entries,
+    pub shape: Shape,
+    pub need: u64,
+    pub ghost valid: { is_valid code entries shape ≡ true },
+    pub ghost needed: { need ≡ stack_need_of code entries shape },
+}
+
+impl Image {
+    /// The image of this code. Finds what it needs.
+    pub fn new(alloc: Global, code: Ops, entries: Entries, shape: Shape) -> Result<Image, Memory>
+        requires valid { is_valid code entries shape ≡ true }
+        ensures code { IfOk result (λ image. image.code ≡ code) }
+        ensures entries { IfOk result (λ image. image.entries ≡ entries) }
+        ensures shape { IfOk result (λ image. image.shape ≡ shape) }
+    {
+        let need = stack_need(alloc, code.as_slice(), entries.as_slice(), &shape)?;
+        Ok(Image {
+            code,
+            entries,
+            shape,
+            need,
+        })
+    }
+
+    /// A number of stack entries that no record passes.
+    pub fn stack_need(&self) -> u64
+        ensures need { result ≡ self.now.need }
+    {
+        self.need
+    }
+}
