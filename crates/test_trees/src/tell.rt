@@ -1,5 +1,6 @@
 //! What is told of a row.
 use crate::judgement::judged;
+use crate::path_text::pathed;
 use crate::tree_text::{described, filtered};
 use std::alloc::{AllocError, Global};
 
@@ -18,6 +19,8 @@ pub(crate) fn told(alloc: Global, asked: &str) -> Result<String, AllocError> {
         filtered(alloc, text, false)?
     } else if word == "filter@" {
         filtered(alloc, text, true)?
+    } else if word == "path" {
+        pathed(alloc, text)?
     } else if word == "judge" {
         judged(alloc, text)?
     } else {

@@ -11,12 +11,20 @@ use std::fmt::Write;
 /// The text that a tree is written to, with the places of its parts or without.
 #[derive(Drop)]
 pub(crate) struct TreeText {
-    alloc: Global,
-    text: String,
+    pub(crate) alloc: Global,
+    pub(crate) text: String,
     places: bool,
 }
 
 impl TreeText {
+    pub(crate) fn new(alloc: Global, places: bool) -> TreeText {
+        TreeText {
+            alloc,
+            text: String::new(alloc),
+            places,
+        }
+    }
+
     pub(crate) fn put(&mut self, words: &str) -> Result<(), AllocError> {
         self.text.push_str(words)
     }
@@ -80,7 +88,7 @@ impl TreeText {
         }
     }
 
-    fn refused(&mut self, refusal: Refusal<SyntaxFault>) -> Result<(), AllocError> {
+    pub(crate) fn refused(&mut self, refusal: Refusal<SyntaxFault>) -> Result<(), AllocError> {
         match refusal {
             Refusal::Fault(SyntaxFault { token, at }) => {
                 write!(self.text, "token {token} byte {at}")
@@ -92,11 +100,7 @@ impl TreeText {
 
 /// The tree of a description, or its fault.
 pub(crate) fn described(alloc: Global, text: &[u8], places: bool) -> Result<String, AllocError> {
-    let mut shown = TreeText {
-        alloc,
-        text: String::new(alloc),
-        places,
-    };
+    let mut shown = TreeText::new(alloc, places);
     match lex(alloc, text) {
         Ok(tokens) => match parse(alloc, &tokens) {
             Ok(tree) => shown.description(&tree)?,
@@ -109,11 +113,7 @@ pub(crate) fn described(alloc: Global, text: &[u8], places: bool) -> Result<Stri
 
 /// The tree of a filter, or its fault.
 pub(crate) fn filtered(alloc: Global, text: &[u8], places: bool) -> Result<String, AllocError> {
-    let mut shown = TreeText {
-        alloc,
-        text: String::new(alloc),
-        places,
-    };
+    let mut shown = TreeText::new(alloc, places);
     match lex(alloc, text) {
         Ok(tokens) => match parse_expr(alloc, &tokens) {
             Ok(tree) => shown.expr(&tree.expr)?,

@@ -1,0 +1,4 @@
+pub mod Indexes
+pub mod Paths
+pub mod Trees
+pub mod Answers
