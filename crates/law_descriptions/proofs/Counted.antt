@@ -3,13 +3,13 @@ use Rattle.std.proofs.Common.{◌≡◌, ◌∙◌, sym, ap, refl, ℕ, suc, tru
 use Rattle.std.specs.List.{list_all}
 use Rattle.std.proofs.lemmas.List.{length-map}
 use Rattle.std.proofs.lemmas.Bool.{and_from}
-use Rattle.pads_calc.specs.Counts.{few, most, counts_fit, option_counts, decl_counts, module_counts}
+use Rattle.pads_module.specs.Counts.{few, most, counts_fit, option_counts, decl_counts, module_counts}
 use Rattle.pads_calc.specs.declared.term.Arm.{Arm}
 use Rattle.pads_calc.specs.declared.term.Case.{Case}
 use Rattle.pads_calc.specs.declared.term.Part.{Part}
 use Rattle.pads_calc.specs.declared.term.Term.{Term}
 use Rattle.pads_calc.specs.declared.term.Term.TheVariants as term
-use Rattle.pads_calc.proofs.CountRolls.{counts-Unit, counts-Base, counts-Lit, counts-Eor, counts-Struct, counts-Alt, counts-Switch, counts-Guard, counts-Seq, counts-Call, counts-Compute, counts-Absorb, counts-Scan}
+use Rattle.pads_module.proofs.CountRolls.{counts-Unit, counts-Base, counts-Lit, counts-Eor, counts-Struct, counts-Alt, counts-Switch, counts-Guard, counts-Seq, counts-Call, counts-Compute, counts-Absorb, counts-Scan}
 use Rattle.pads_code.specs.declared.Coding.{Coding}
 use Rattle.pads_dispatch.specs.Labels.{labels_fit}
 use Rattle.pads_dispatch.specs.declared.base.Base.TheVariants as base

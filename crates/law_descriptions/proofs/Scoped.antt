@@ -2,8 +2,8 @@
 use Rattle.std.proofs.Common.{◌≡◌, ◌∙◌, sym, ap, refl, subst, ℕ, Bool, true, false, if◌then◌else◌, cond, ◌&&◌, ◌||◌, ◌==◌, nat_eq, nat_lt, List, ◌∷◌, ◌++◌, length, find, Option, Some, None, option_map, eq-eqb, append_assoc}
 use Rattle.std.proofs.lemmas.Bool.{or_right, and_from}
 use lib.Pointwise.{pointwise, bytes_decides}
-use Rattle.pads_calc.specs.Scopes.{is_bound, expr_in_scope}
-use Rattle.pads_calc.proofs.ExprRolls.{scope-Num, scope-Text, scope-Truth, scope-Var, scope-Part, scope-Arm, scope-Elem, scope-IsArm, scope-Len, scope-Neg, scope-Not, scope-Bin, scope-Forall}
+use Rattle.pads_module.specs.Scopes.{is_bound, expr_in_scope}
+use Rattle.pads_module.proofs.ExprRolls.{scope-Num, scope-Text, scope-Truth, scope-Var, scope-Part, scope-Arm, scope-Elem, scope-IsArm, scope-Len, scope-Neg, scope-Not, scope-Bin, scope-Forall}
 use Rattle.pads_expr.specs.declared.expr.Expr.{Expr as Made}
 use Rattle.pads_expr.specs.declared.expr.Expr.TheVariants as made
 use Rattle.pads_rules.specs.declared.sort.Sort.{Sort}

@@ -3,14 +3,14 @@ use Rattle.std.proofs.Common.{◌≡◌, ◌∙◌, sym, ap, refl, subst, ⊎_el
 use Rattle.std.specs.List.{flat_map, list_all}
 use Rattle.std.proofs.lemmas.List.{length-map}
 use Rattle.std.proofs.lemmas.Bool.{or_right, and_from}
-use Rattle.pads_calc.specs.Scopes.{is_bound, bind_name, name_there, in_scope, expr_in_scope, exprs_in_scope, option_in_scope, option_term_in, has_arity, arm_in, case_in, binding_of, parts_in, arities_of, decl_in_scope}
+use Rattle.pads_module.specs.Scopes.{is_bound, bind_name, name_there, in_scope, expr_in_scope, exprs_in_scope, option_in_scope, option_term_in, has_arity, arm_in, case_in, binding_of, parts_in, arities_of, decl_in_scope}
 use Rattle.pads_calc.specs.declared.decl.Decl.{Decl}
 use Rattle.pads_calc.specs.declared.term.Arm.{Arm}
 use Rattle.pads_calc.specs.declared.term.Case.{Case}
 use Rattle.pads_calc.specs.declared.term.Part.{Part}
 use Rattle.pads_calc.specs.declared.term.Term.{Term}
 use Rattle.pads_calc.specs.declared.term.Term.TheVariants as term
-use Rattle.pads_calc.proofs.TermRolls.{in-Unit, in-Base, in-Lit, in-Eor, in-Struct, in-Alt, in-Switch, in-Guard, in-Seq, in-Call, in-Compute, in-Absorb, in-Scan}
+use Rattle.pads_module.proofs.TermRolls.{in-Unit, in-Base, in-Lit, in-Eor, in-Struct, in-Alt, in-Switch, in-Guard, in-Seq, in-Call, in-Compute, in-Absorb, in-Scan}
 use Rattle.pads_code.specs.declared.Coding.{Coding}
 use Rattle.pads_dispatch.specs.declared.base.Base.TheVariants as base
 use Rattle.pads_rules.specs.declared.sort.Form.TheVariants as form

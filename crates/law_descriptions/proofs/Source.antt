@@ -3,7 +3,7 @@ use Rattle.std.proofs.Common.{◌≡◌, ◌∙◌, sym, ap, refl, subst, arith,
 use Rattle.std.specs.List.{list_any, enumerate_from, position_or_len}
 use Rattle.std.proofs.lemmas.List.{length-map}
 use Rattle.std.proofs.lemmas.Bool.{not-false}
-use Rattle.pads_calc.specs.Counts.{few}
+use Rattle.pads_module.specs.Counts.{few}
 use Rattle.pads_ast.specs.declared.decl.Ast.{Ast}
 use Rattle.pads_ast.specs.declared.decl.Decl.{Decl as WrittenDecl}
 use Rattle.pads_ast.specs.declared.decl.DeclBody.{DeclBody as WrittenBody}

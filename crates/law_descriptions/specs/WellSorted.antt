@@ -5,7 +5,7 @@ use Rattle.pads_base_names.specs.Names.{takes}
 use Rattle.pads_base_names.specs.declared.meaning.Takes.{Takes}
 use Rattle.pads_base_names.specs.declared.meaning.Takes.TheVariants as takes_form
 use Rattle.pads_bases.specs.Enums.{SpellingsDiffer}
-use Rattle.pads_calc.specs.Counts.{few}
+use Rattle.pads_module.specs.Counts.{few}
 use Rattle.pads_rules.specs.declared.sort.Form.TheVariants as form
 use Rattle.pads_rules.specs.declared.sort.Sort.{Sort}
 use Rattle.pads_typed_tree.specs.declared.decl.Array.{Array}

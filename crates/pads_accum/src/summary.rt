@@ -1,5 +1,5 @@
 ghost use Rattle.std.specs.Prelude.{◌≡◌, ◌<◌, ◌≤◌, [], ◌∷◌, ◌++◌, List, None, Some, false, IfOk, OnOk};
-ghost use Rattle.pads_calc.specs.Modules.{contents};
+ghost use Rattle.pads_module.specs.Modules.{contents};
 ghost use Rattle.pads_plan.specs.Plans.{lists_of, size, most};
 ghost use Rattle.pads_value.specs.Refusals.{OnFault};
 ghost use Rattle.pads_value.specs.declared.row.Row.{Row as RowOf};
@@ -8,7 +8,7 @@ ghost use Rattle.pads_accum.specs.States.{IsSummaryOf, is_memory};
 
 use crate::Limit;
 use crate::sums::Sums;
-use pads_calc::Module;
+use pads_module::Module;
 use pads_plan::{PlanLists, TooManyParts, plan_of};
 use pads_sums::SumLists;
 use pads_value::{Memory, Refusal, Row};

@@ -1,15 +1,11 @@
 pub mod Arguments
 pub mod Arrays
-pub mod Bound
 pub mod Calculus
 pub mod Choices
-pub mod Counts
 pub mod Leaves
-pub mod Modules
 pub mod Places
 pub mod Readings
 pub mod Rows
-pub mod Scopes
 pub mod Skeletons
 pub mod Structs
 pub mod Wrappers

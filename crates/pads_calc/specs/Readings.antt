@@ -11,16 +11,11 @@ use Rattle.pads_value.specs.declared.value.Val.TheVariants as val
 use Rattle.pads_value.specs.Header.{head, is_clean}
 use Rattle.pads_expr.specs.Value.{Pairs}
 use Rattle.pads_calc.specs.declared.reading.Reading.{Reading}
-use Rattle.pads_calc.specs.declared.record.Record.{Record}
 
 -- what is read: the bytes of a record, and the offset of the first of them in the whole input
 pub record Subject : Type 0 where
   pub origin : ℕ
   pub bytes : List ℕ
-
--- what the code reads, as the rules have it
-abbrev pub subject_of : Record → Subject
-subject_of from = record { origin = from.origin; bytes = from.bytes.now }
 
 -- what a term reads as in an environment at a place
 abbrev pub Reader : Type 0

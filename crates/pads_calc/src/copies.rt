@@ -1,13 +1,8 @@
-//! Copies of terms and modules, each with memory of its own.
+//! Copies of terms, each with memory of its own.
 ghost use Rattle.std.specs.Prelude.{◌≡◌, [], ◌∷◌, ◌++◌, IfOk, OnOk};
-ghost use Rattle.pads_calc.specs.Modules.{contents};
 ghost use Rattle.pads_calc.specs.declared.term.Term.TheVariants as term_form;
 
-use crate::decl::copy_decls;
-use crate::skeleton::erasing;
-use crate::{
-    Arm, Arms, Base, Case, Cases, ComputedForm, Exprs, Key, Module, Part, Parts, Seq, Term,
-};
+use crate::{Arm, Arms, Base, Case, Cases, ComputedForm, Exprs, Key, Part, Parts, Seq, Term};
 use pads_expr::Expr;
 use pads_value::{Boxed, Bytes, Items, Memory};
 use std::alloc::Global;
@@ -268,21 +263,4 @@ fn copy_array(alloc: Global, seq: &Seq) -> Result<Term, Memory>
     let sep = copy_optional(alloc, &seq.sep)?;
     let stop = copy_optional(alloc, &seq.stop)?;
     array_like(alloc, seq, elem, sep, stop)
-}
-
-impl Module {
-    /// A module with the same contents.
-    pub fn copy(&self, alloc: Global) -> Result<Module, Memory>
-        ensures equal { IfOk result (λ copied. contents copied ≡ contents self.now) }
-    {
-        let decls = copy_decls(alloc, self.decls.as_slice())?;
-        let names = self.names.copy(alloc)?;
-        let erasing = erasing(alloc, decls.as_slice())?;
-        Ok(Module {
-            decls,
-            names,
-            shape: self.shape,
-            erasing,
-        })
-    }
 }

@@ -1,4 +1,5 @@
 ghost use Rattle.std.specs.Prelude.{◌≡◌, IfOk};
+ghost use Rattle.pads_calc.specs.Rows.{type_of};
 
 use crate::Term;
 use pads_value::{Items, Memory};
@@ -37,7 +38,7 @@ impl Decl {
 }
 
 /// Declarations equal to these.
-pub(crate) fn copy_decls(alloc: Global, decls: &[Decl]) -> Result<Decls, Memory>
+pub fn copy_decls(alloc: Global, decls: &[Decl]) -> Result<Decls, Memory>
     ensures equal { IfOk result (λ copied. copied ≡ decls.now) }
 {
     let mut copied = Items::new(alloc);
@@ -54,3 +55,18 @@ pub struct Shape {
     pub head: Option<u16>,
     pub each: u16,
 }
+
+impl Shape {
+    /// The declaration that a record of this number has.
+    pub fn type_of(&self, record_no: u64) -> u16
+        ensures number { result ≡ type_of self.now record_no }
+    {
+        match self.head {
+            Some(head) if record_no == 0 => head,
+            _ => self.each,
+        }
+    }
+}
+
+/// How deep calls of declarations may be nested.
+pub const DEEPEST: u8 = 128;

@@ -18,7 +18,7 @@ use Rattle.pads_calc.specs.Readings.{is_ok}
 use Rattle.pads_calc.specs.Rows.{deepest, type_of, subject_of_cut, body_reading, kept_reading, extra, row_by, row_of}
 use Rattle.pads_calc.specs.Skeletons.{KeepsAll}
 use Rattle.pads_calc.proofs.CleanNodes.{clean-own}
-use Rattle.pads_calc.proofs.KeptReadings.{kept-value}
+use Rattle.pads_module.proofs.KeptReadings.{kept-value}
 use Rattle.law_calculus.specs.Plain.{Plain}
 use Rattle.law_calculus.proofs.SoundTerms.{sound-caller}
 use Rattle.pads_canonical.specs.Canonical.{call_spelled, canon_of}

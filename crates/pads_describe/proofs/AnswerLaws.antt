@@ -13,7 +13,7 @@ use Rattle.pads_syntax.proofs.Trees as trees
 use Rattle.pads_describe.specs.declared.verdict.Verdict.{Verdict}
 use Rattle.pads_describe.specs.declared.verdict.Verdict.TheVariants as verdict
 use Rattle.pads_code.specs.declared.Coding.{Coding}
-use Rattle.pads_calc.specs.Modules.{Contents}
+use Rattle.pads_module.specs.Modules.{Contents}
 use Rattle.pads_trans.specs.Modules.{is_module}
 use Rattle.pads_describe.specs.Describing.{Describes, contents_in}
 use Rattle.pads_describe.specs.Trees.{HasTokens, HasTree, IsAccepted}

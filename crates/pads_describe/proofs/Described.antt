@@ -8,7 +8,7 @@ use Rattle.pads_rules.specs.Violations.{violations}
 use Rattle.pads_typed_tree.specs.declared.decl.Description.{Description}
 use Rattle.law_calculus.specs.Plain.{Plain}
 use Rattle.law_calculus.specs.Sorted.{Sorted}
-use Rattle.pads_calc.specs.Modules.{Contents}
+use Rattle.pads_module.specs.Modules.{Contents}
 use Rattle.pads_calc.specs.Skeletons.{KeepsAll}
 use Rattle.pads_trans.specs.Modules.{is_module, module_of}
 use Rattle.pads_trans.proofs.Kept.{translated-kept}

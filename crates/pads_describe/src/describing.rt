@@ -6,15 +6,15 @@ ghost use Rattle.pads_describe.specs.Describing.{Describes};
 ghost use Rattle.pads_describe.specs.Verdicts.{IsRefused};
 ghost use Rattle.law_calculus.specs.Plain.{Plain};
 ghost use Rattle.law_calculus.specs.Sorted.{Sorted};
-ghost use Rattle.pads_calc.specs.Modules.{contents};
+ghost use Rattle.pads_module.specs.Modules.{contents};
 ghost use Rattle.pads_calc.specs.Skeletons.{KeepsAll};
 
 use crate::reading::tree_in;
 use crate::text_check::checked;
 use crate::translating::translate;
 use crate::verdict::Verdict;
-use pads_calc::Module;
 use pads_code::Coding;
+use pads_module::Module;
 use pads_value::{Memory, Refusal};
 use std::alloc::Global;
 

@@ -8,7 +8,7 @@ ghost use Rattle.pads_describe.specs.Describing.{Describes};
 ghost use Rattle.pads_describe.specs.Verdicts.{IsRefused};
 ghost use Rattle.law_calculus.specs.Plain.{Plain};
 ghost use Rattle.law_calculus.specs.Sorted.{Sorted};
-ghost use Rattle.pads_calc.specs.Modules.{Contents};
+ghost use Rattle.pads_module.specs.Modules.{Contents};
 ghost use Rattle.pads_calc.specs.Skeletons.{KeepsAll};
 ghost use Rattle.pads_trans.specs.Modules.{is_module};
 ghost use Rattle.pads_describe.specs.declared.verdict.Verdict.{Verdict};

@@ -3,13 +3,13 @@
 ghost use Rattle.std.specs.Prelude.{◌≡◌, IfOk};
 ghost use Rattle.law_calculus.specs.Plain.{Plain};
 ghost use Rattle.law_calculus.specs.Sorted.{Sorted};
-ghost use Rattle.pads_calc.specs.Modules.{contents};
+ghost use Rattle.pads_module.specs.Modules.{contents};
 ghost use Rattle.pads_calc.specs.Skeletons.{KeepsAll};
 ghost use Rattle.pads_trans.specs.Modules.{module_of};
 
 use crate::checked::Checked;
-use pads_calc::Module;
 use pads_code::Coding;
+use pads_module::Module;
 use pads_trans::module_of_description;
 use pads_value::{Memory, Refusal};
 use std::alloc::Global;

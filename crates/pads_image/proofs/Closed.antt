@@ -3,8 +3,8 @@ use Rattle.std.proofs.Common.{◌≡◌, ◌∙◌, sym, ap, refl, arith, ℕ, z
 use Rattle.std.specs.List.{list_all}
 use Rattle.std.proofs.lemmas.Bool.{and_parts}
 use Rattle.pads_expr.specs.declared.expr.Expr.{Expr, Expr-F, fold_out-Expr, out-Expr, roll-Expr, roll-out-Expr, map-Expr, size-Expr, the_lemmas}
-use Rattle.pads_calc.specs.Scopes.{InScope, expr_in_scope, exprs_in_scope, option_in_scope}
-use Rattle.pads_calc.specs.Scopes as scopes
+use Rattle.pads_module.specs.Scopes.{InScope, expr_in_scope, exprs_in_scope, option_in_scope}
+use Rattle.pads_module.specs.Scopes as scopes
 use Rattle.pads_image.specs.Variables.{is_closed, all_closed, option_closed, expr_step}
 
 pub both : (a b : Bool) → a ≡ true → b ≡ true → (a && b) ≡ true

@@ -3,7 +3,7 @@ use Rattle.std.proofs.Common.{◌≡◌, ◌∙◌, sym, ap, refl, subst, arith,
 use Rattle.std.specs.List.{list_all}
 use Rattle.std.proofs.lemmas.Bool.{and_parts}
 use Rattle.pads_calc.specs.declared.decl.Decl.{Decl}
-use Rattle.pads_calc.specs.Scopes.{arities_of}
+use Rattle.pads_module.specs.Scopes.{arities_of}
 use Rattle.pads_calc.specs.Skeletons.{skeleton_of}
 use Rattle.pads_image.specs.declared.entry.Entry.{Entry}
 use Rattle.pads_image.specs.declared.op.Op.{Op}
@@ -11,7 +11,7 @@ use Rattle.pads_image.specs.declared.op.Op.TheVariants as op
 use Rattle.pads_image.specs.Blocks.{layout}
 use Rattle.pads_image.specs.Code.{code_from, entries_from, decl_length}
 use Rattle.pads_image.specs.Heights.{Deeper, height_after, needs_from, later_arities, next_arity}
-use Rattle.pads_image.specs.Straight.{is_straight, all_straight}
+use Rattle.pads_module.specs.Straight.{is_straight, all_straight}
 use Rattle.pads_image.proofs.Lengths.{sized}
 use Rattle.pads_image.proofs.Levels.{AllBelow, height_behind, peak, peak-below, needs-behind, levelled}
 use Rattle.pads_image.proofs.Needs.{needs-cons}

@@ -16,7 +16,7 @@ use Rattle.pads_calc.specs.Calculus.{caller, read, meaning}
 use Rattle.pads_calc.specs.Readings.{Subject, fails}
 use Rattle.pads_calc.specs.Leaves.{unit_of}
 use Rattle.pads_calc.specs.Rows.{body_reading, deepest, kept_by, row_by, subject_of_cut, type_of}
-use Rattle.pads_calc.specs.Scopes.{arities_of, name_there, shape_there}
+use Rattle.pads_module.specs.Scopes.{arities_of, name_there, shape_there}
 use Rattle.pads_calc.proofs.Bindings.{bound-none}
 use Rattle.pads_calc.proofs.Calls.{caller-zero, call-unargued, call-undeclared, call-found}
 use Rattle.pads_image.specs.declared.op.Op.{Op}
@@ -28,7 +28,7 @@ use Rattle.pads_image.specs.Heights.{Deeper, call_needs, inside, need_of, needs,
 use Rattle.pads_image.specs.Validity.{arities_of as arities_of_entries}
 use Rattle.pads_image.specs.States.{State, Caller, entries, seen}
 use Rattle.pads_image.specs.Steps.{Goes, Halts, does_there, call_step, call_in}
-use Rattle.pads_image.specs.Straight.{is_straight, all_straight}
+use Rattle.pads_module.specs.Straight.{is_straight, all_straight}
 use Rattle.pads_image.proofs.Declared.{Declared, declared, undeclared, entry_for, needs_of, stands}
 use Rattle.pads_image.proofs.ValidCode.{arities-same, kept-same}
 use Rattle.pads_image.proofs.Levels.{AllBelow, below-left, below-right, levelled}

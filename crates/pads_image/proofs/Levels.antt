@@ -13,12 +13,12 @@ use Rattle.pads_image.specs.declared.op.Op.{Op}
 use Rattle.pads_image.specs.declared.op.Op.TheVariants as op
 use Rattle.pads_image.specs.Blocks.{Block, bindings_of, single, followed, parts_code, named, struct_block, layout, part_layout}
 use Rattle.pads_image.specs.Heights.{Deeper, later_arities, needs_from, next_arity, height_after, entries_at}
-use Rattle.pads_image.specs.Straight.{is_straight}
+use Rattle.pads_module.specs.Straight.{is_straight}
 use Rattle.pads_image.specs.Variables.{is_return}
 use Rattle.pads_image.proofs.Layouts.{layout-Unit, layout-Base, layout-Lit, layout-Eor, layout-Struct, layout-Guard, layout-Call, layout-Compute, layout-Absorb}
 use Rattle.pads_image.proofs.Needs.{needs-cons}
 use Rattle.pads_image.proofs.ReadBack.{all-there, never}
-use Rattle.pads_image.proofs.StraightRolls.{straight-Struct, straight-Alt, straight-Switch, straight-Guard, straight-Seq, straight-Absorb, straight-Scan}
+use Rattle.pads_module.proofs.StraightRolls.{straight-Struct, straight-Alt, straight-Switch, straight-Guard, straight-Seq, straight-Absorb, straight-Scan}
 
 module _ (deeper : Deeper) (most : ℕ) where
   -- at no instruction are there more entries than `most`, over those below the declaration's own

@@ -13,6 +13,5 @@ pub mod Rows
 pub mod Running
 pub mod SameSkeletons
 pub mod Standing
-pub mod StraightRolls
 pub mod Tables
 pub mod ValidCode

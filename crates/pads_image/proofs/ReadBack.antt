@@ -7,11 +7,11 @@ use Rattle.pads_calc.specs.declared.decl.Decl.{Decl}
 use Rattle.pads_calc.specs.declared.term.Part.{Part}
 use Rattle.pads_calc.specs.declared.term.Term.{Term}
 use Rattle.pads_calc.specs.declared.term.Term.TheVariants as term
-use Rattle.pads_calc.specs.Counts.{few, counts_fit, decl_counts}
-use Rattle.pads_image.specs.Straight.{is_straight, all_straight}
-use Rattle.pads_calc.proofs.CountRolls.{counts-Struct, counts-Guard, counts-Absorb, few-parts, fit-parts}
+use Rattle.pads_module.specs.Counts.{few, counts_fit, decl_counts}
+use Rattle.pads_module.specs.Straight.{is_straight, all_straight}
+use Rattle.pads_module.proofs.CountRolls.{counts-Struct, counts-Guard, counts-Absorb, few-parts, fit-parts}
 use Rattle.pads_calc.proofs.Induction.{EachPart, EachForm, each-term}
-use Rattle.pads_image.proofs.StraightRolls.{straight-Struct, straight-Alt, straight-Switch, straight-Guard, straight-Seq, straight-Absorb, straight-Scan}
+use Rattle.pads_module.proofs.StraightRolls.{straight-Struct, straight-Alt, straight-Switch, straight-Guard, straight-Seq, straight-Absorb, straight-Scan}
 use Rattle.pads_image.specs.declared.op.Op.{Op}
 use Rattle.pads_image.specs.declared.op.Op.TheVariants as op
 use Rattle.pads_image.specs.Blocks.{Block, bindings_of, single, followed, parts_size, parts_code, named, struct_block, layout, part_layout}

@@ -27,14 +27,14 @@ use Rattle.pads_image.specs.Heights.{Deeper, entries_at, height_after}
 use Rattle.pads_image.specs.States.{State, Node, entries, seen}
 use Rattle.pads_image.specs.States as states
 use Rattle.pads_image.specs.Steps.{Goes, does, new_node, part_step, with_reading}
-use Rattle.pads_image.specs.Straight.{is_straight}
+use Rattle.pads_module.specs.Straight.{is_straight}
 use Rattle.pads_image.proofs.Layouts.{layout-Unit, layout-Base, layout-Lit, layout-Eor, layout-Struct, layout-Guard, layout-Call, layout-Compute, layout-Absorb}
 use Rattle.pads_image.proofs.Lengths.{parts-sized, sized}
 use Rattle.pads_image.proofs.Levels.{AllBelow, Levelled, height_behind, below-left, below-right, levelled, parts-level}
 use Rattle.pads_image.proofs.Places.{StandsAt, first-there, rest-there, left-there, right-there}
 use Rattle.pads_image.proofs.Reaching.{To, here, once, join, to-same, seen-is, seen-behind, seen-bind, seen-open}
 use Rattle.pads_image.proofs.ReadBack.{append-none, all-there, never}
-use Rattle.pads_image.proofs.StraightRolls.{straight-Struct, straight-Alt, straight-Switch, straight-Guard, straight-Seq, straight-Absorb, straight-Scan}
+use Rattle.pads_module.proofs.StraightRolls.{straight-Struct, straight-Alt, straight-Switch, straight-Guard, straight-Seq, straight-Absorb, straight-Scan}
 
 -- a state at which a block of code is to run
 module _ (code : List Op) (of_entries : List Entry) (subject : Subject) (most : ℕ) (deeper : Deeper) (depth : ℕ) where

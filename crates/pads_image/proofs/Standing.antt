@@ -10,13 +10,13 @@ use Rattle.pads_calc.specs.declared.term.ComputedForm.{ComputedForm}
 use Rattle.pads_calc.specs.declared.term.Part.{Part}
 use Rattle.pads_calc.specs.declared.term.Term.{Term}
 use Rattle.pads_calc.specs.declared.term.Term.TheVariants as term
-use Rattle.pads_calc.specs.Counts.{few, counts_fit, decl_counts}
-use Rattle.pads_calc.specs.Scopes.{in_scope, parts_in, binding_of, bind_name, name_there, has_arity, exprs_in_scope, expr_in_scope, decl_in_scope}
-use Rattle.pads_image.specs.Straight.{is_straight, all_straight}
-use Rattle.pads_calc.proofs.CountRolls.{counts-Base, counts-Struct, counts-Guard, counts-Absorb, fit-parts}
+use Rattle.pads_module.specs.Counts.{few, counts_fit, decl_counts}
+use Rattle.pads_module.specs.Scopes.{in_scope, parts_in, binding_of, bind_name, name_there, has_arity, exprs_in_scope, expr_in_scope, decl_in_scope}
+use Rattle.pads_module.specs.Straight.{is_straight, all_straight}
+use Rattle.pads_module.proofs.CountRolls.{counts-Base, counts-Struct, counts-Guard, counts-Absorb, fit-parts}
 use Rattle.pads_calc.proofs.Induction.{EachPart, EachForm, each-term}
-use Rattle.pads_image.proofs.StraightRolls.{straight-Struct, straight-Alt, straight-Switch, straight-Guard, straight-Seq, straight-Absorb, straight-Scan}
-use Rattle.pads_calc.proofs.TermRolls.{in-Base, in-Struct, in-Guard, in-Call, in-Compute, in-Absorb}
+use Rattle.pads_module.proofs.StraightRolls.{straight-Struct, straight-Alt, straight-Switch, straight-Guard, straight-Seq, straight-Absorb, straight-Scan}
+use Rattle.pads_module.proofs.TermRolls.{in-Base, in-Struct, in-Guard, in-Call, in-Compute, in-Absorb}
 use Rattle.pads_image.specs.declared.op.Op.{Op}
 use Rattle.pads_image.specs.declared.op.Op.TheVariants as op
 use Rattle.pads_image.specs.Blocks.{Block, single, followed, parts_code, named, bindings_of, struct_block, layout, part_layout}

@@ -5,12 +5,12 @@ use Rattle.std.proofs.lemmas.Bool.{and_parts, le-leb}
 use lib.Pointwise.{pointwise}
 use Rattle.pads_calc.specs.declared.decl.Decl.{Decl}
 use Rattle.pads_calc.specs.declared.decl.Shape.{Shape}
-use Rattle.pads_calc.specs.Counts.{few, counts_fit, decl_counts, module_counts}
-use Rattle.pads_calc.specs.Scopes.{module_in_scope, decl_in_scope, shape_there}
-use Rattle.pads_calc.specs.Scopes as scopes
+use Rattle.pads_module.specs.Counts.{few, counts_fit, decl_counts, module_counts}
+use Rattle.pads_module.specs.Scopes.{module_in_scope, decl_in_scope, shape_there}
+use Rattle.pads_module.specs.Scopes as scopes
 use Rattle.pads_calc.specs.Skeletons.{keeping_of, keepings_of, skeleton_of}
 use Rattle.pads_image.specs.Skeletons.{kept_in, same_skeleton}
-use Rattle.pads_image.specs.Straight.{all_straight}
+use Rattle.pads_module.specs.Straight.{all_straight}
 use Rattle.pads_image.specs.declared.entry.Entry.{Entry}
 use Rattle.pads_image.specs.Code.{code_from, entries_from, code_of, entries_of, length_of, decl_length}
 use Rattle.pads_image.specs.Opened.{Body}

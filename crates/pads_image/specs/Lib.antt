@@ -8,6 +8,5 @@ pub mod Reads
 pub mod Skeletons
 pub mod States
 pub mod Steps
-pub mod Straight
 pub mod Validity
 pub mod Variables

@@ -3,8 +3,8 @@ use Rattle.std.specs.Prelude.{ℕ, Bool, true, false, ◌&&◌, nat_eq, nat_le, 
 use Rattle.std.specs.List.{list_all}
 use lib.Pointwise.{pointwise}
 use Rattle.pads_calc.specs.declared.decl.Shape.{Shape}
-use Rattle.pads_calc.specs.Counts.{few}
-use Rattle.pads_calc.specs.Scopes.{shape_there}
+use Rattle.pads_module.specs.Counts.{few}
+use Rattle.pads_module.specs.Scopes.{shape_there}
 use Rattle.pads_calc.specs.Skeletons.{skeleton_of}
 use Rattle.pads_image.specs.declared.entry.Entry.{Entry}
 use Rattle.pads_image.specs.declared.op.Op.{Op}

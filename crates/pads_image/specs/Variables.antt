@@ -4,7 +4,7 @@ use Rattle.std.specs.Prelude.{ℕ, Bool, true, false, ◌&&◌, List, [], ◌∷
 use Rattle.std.specs.List.{list_all}
 use Rattle.pads_expr.specs.declared.expr.Expr.{Expr, Expr-F, fold-Expr}
 use Rattle.pads_dispatch.specs.Labels.{labels_fit}
-use Rattle.pads_calc.specs.Scopes.{InScope, is_bound, bind_name, has_arity}
+use Rattle.pads_module.specs.Scopes.{InScope, is_bound, bind_name, has_arity}
 use Rattle.pads_image.specs.declared.op.Op.{Op}
 use Rattle.pads_image.specs.declared.op.Op.TheVariants as op
 

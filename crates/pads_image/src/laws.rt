@@ -2,12 +2,12 @@
 ghost use Rattle.std.specs.Prelude.{◌≡◌, ◌&&◌, ◌≤◌, ℕ, true, List, length};
 ghost use Rattle.pads_calc.specs.declared.decl.Decl.{Decl};
 ghost use Rattle.pads_calc.specs.declared.decl.Shape.{Shape};
-ghost use Rattle.pads_calc.specs.Counts.{module_counts};
-ghost use Rattle.pads_calc.specs.Scopes.{module_in_scope, shape_there};
+ghost use Rattle.pads_module.specs.Counts.{module_counts};
+ghost use Rattle.pads_module.specs.Scopes.{module_in_scope, shape_there};
 ghost use Rattle.pads_image.specs.Answers.{StandsFor};
 ghost use Rattle.pads_image.specs.Code.{code_of, entries_of, length_of};
 ghost use Rattle.pads_image.specs.Heights.{stack_need};
-ghost use Rattle.pads_image.specs.Straight.{all_straight};
+ghost use Rattle.pads_module.specs.Straight.{all_straight};
 ghost use Rattle.pads_image.specs.Validity.{is_valid, longest};
 
 /// The law of valid code: the code of a straight module is valid, where it isn't too long.

@@ -6,10 +6,8 @@ mod image;
 mod laws;
 mod need;
 mod op;
-mod straight;
 
 pub use entry::{Entries, Entry};
 pub use image::Image;
 pub use laws::{straight_code_is_valid, straight_code_stands_for_its_module};
 pub use op::{Op, Ops, Target, Targets};
-pub use straight::is_straight;

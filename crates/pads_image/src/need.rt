@@ -2,7 +2,7 @@
 ghost use Rattle.std.specs.Prelude.{◌≡◌, ℕ, ◌<◌, ◌≤◌, ◌+◌, ◌^◌, true, nat_le, length, get_or, IfOk};
 ghost use Rattle.std.specs.List.{list_all};
 ghost use Rattle.std.specs.Option.{option_copied};
-ghost use Rattle.pads_calc.specs.Counts.{few};
+ghost use Rattle.pads_module.specs.Counts.{few};
 ghost use Rattle.pads_image.specs.Blocks.{bindings_of as bindings_made};
 ghost use Rattle.pads_image.specs.Bounds.{AreBelow};
 ghost use Rattle.pads_image.specs.Heights.{height_after as height_behind, call_needs as call_needs_of, entries_at as entries_counted, needs_over as needs_at, needs as needs_of, inside, need_of as need_by};

@@ -10,7 +10,7 @@ use Rattle.pads_value.specs.declared.row.Row.{Row}
 use Rattle.pads_value.specs.declared.value.Val.{Val}
 use Rattle.pads_calc.specs.declared.decl.Decl.{Decl}
 use Rattle.pads_calc.specs.declared.decl.Shape.{Shape}
-use Rattle.pads_calc.specs.declared.module.Module.{Module}
+use Rattle.pads_module.specs.declared.module.Module.{Module}
 use Rattle.pads_calc.specs.declared.term.Term.{Term}
 use Rattle.pads_calc.specs.declared.term.Term.TheVariants as term
 use Rattle.pads_calc.specs.Rows.{deepest, type_of}

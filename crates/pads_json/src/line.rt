@@ -10,8 +10,9 @@ use crate::faults::{write_faults, write_own_at_point};
 use crate::number::{write_count, write_span};
 use crate::place::Place;
 use crate::value::write_value;
-use pads_calc::{DEEPEST, Module, Shape, Term};
+use pads_calc::{DEEPEST, Shape, Term};
 use pads_forms::Terms;
+use pads_module::Module;
 use pads_value::{Bytes, Class, Items, Memory, Pd, Row, Val};
 use std::alloc::Global;
 

@@ -11,12 +11,12 @@ use Rattle.pads_calc.specs.declared.term.Case.{Case}
 use Rattle.pads_calc.specs.declared.term.Part.{Part}
 use Rattle.pads_calc.specs.declared.term.Seq.{Seq}
 use Rattle.pads_calc.specs.declared.term.Term.{Term}
-use Rattle.pads_calc.specs.Counts.{counts_fit, option_counts, decl_counts, module_counts, few, most}
-use Rattle.pads_calc.specs.Modules.{Contents, is_formed}
-use Rattle.pads_calc.specs.Scopes.{arities_of, arm_in, bind_name, binding_of, case_in, decl_in_scope, exprs_in_scope, expr_in_scope, in_scope, module_in_scope, name_there, option_in_scope, option_term_in, parts_in, seq_in, shape_there}
-use Rattle.pads_calc.proofs.CountRolls.{counts-Struct, counts-Alt, counts-Switch, counts-Guard, counts-Seq, counts-Absorb, counts-Scan}
+use Rattle.pads_module.specs.Counts.{counts_fit, option_counts, decl_counts, module_counts, few, most}
+use Rattle.pads_module.specs.Modules.{Contents, is_formed}
+use Rattle.pads_module.specs.Scopes.{arities_of, arm_in, bind_name, binding_of, case_in, decl_in_scope, exprs_in_scope, expr_in_scope, in_scope, module_in_scope, name_there, option_in_scope, option_term_in, parts_in, seq_in, shape_there}
+use Rattle.pads_module.proofs.CountRolls.{counts-Struct, counts-Alt, counts-Switch, counts-Guard, counts-Seq, counts-Absorb, counts-Scan}
 use Rattle.pads_calc.proofs.Induction.{EachArm, EachCase, EachForm, EachPart, InSeq, WhereThere, each-term}
-use Rattle.pads_calc.proofs.TermRolls.{in-Struct, in-Alt, in-Switch, in-Guard, in-Seq, in-Absorb, in-Scan}
+use Rattle.pads_module.proofs.TermRolls.{in-Struct, in-Alt, in-Switch, in-Guard, in-Seq, in-Absorb, in-Scan}
 use Rattle.pads_modes.specs.declared.mask.Mask.{Mask}
 use Rattle.pads_modes.specs.declared.mode.Mode.{Mode}
 use Rattle.pads_modes.specs.Modes.{checks, mode_for}

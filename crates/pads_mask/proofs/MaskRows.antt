@@ -11,9 +11,9 @@ use Rattle.pads_calc.specs.declared.term.ComputedForm.TheVariants as form
 use Rattle.pads_calc.specs.declared.term.Part.{Part}
 use Rattle.pads_calc.specs.declared.term.Term.{Term}
 use Rattle.pads_calc.specs.declared.term.Term.TheVariants as term
-use Rattle.pads_calc.specs.Modules.{Contents}
+use Rattle.pads_module.specs.Modules.{Contents}
 use Rattle.pads_calc.specs.Skeletons.{skeleton_of}
-use Rattle.pads_calc.proofs.SkeletonRolls.{skeleton_rules}
+use Rattle.pads_module.proofs.SkeletonRolls.{skeleton_rules}
 use Rattle.pads_erase.specs.declared.skeleton.Skeleton.TheVariants as skeleton
 use Rattle.pads_modes.specs.declared.mask.Mask.{Mask}
 use Rattle.pads_modes.specs.declared.mask.NamedMode.{NamedMode}

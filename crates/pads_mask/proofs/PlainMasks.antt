@@ -3,7 +3,7 @@ use Rattle.std.proofs.Common.{◌≡◌, ◌∙◌, sym, ap, refl, subst, ℕ, z
 use Rattle.pads_calc.specs.declared.decl.Decl.{Decl}
 use Rattle.pads_calc.specs.declared.term.Term.{Term, Term-F, out-Term, roll-Term, roll-out-Term}
 use Rattle.pads_calc.specs.declared.term.Term.TheVariants as term
-use Rattle.pads_calc.specs.Modules.{Contents}
+use Rattle.pads_module.specs.Modules.{Contents}
 use Rattle.pads_calc.proofs.Choices.{slice_get-map}
 use Rattle.law_calculus.specs.Plain.{IsAbsorb, IsMark, IsPlain, IsPlainHere, IsSeparator, Plain, plain}
 use Rattle.law_calculus.specs.Terms.{terms_in}

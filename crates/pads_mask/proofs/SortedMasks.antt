@@ -15,7 +15,7 @@ use Rattle.pads_calc.specs.declared.term.ComputedForm.TheVariants as form
 use Rattle.pads_calc.specs.declared.term.Seq.{Seq}
 use Rattle.pads_calc.specs.declared.term.Term.{Term, Term-F, out-Term, roll-Term, roll-out-Term}
 use Rattle.pads_calc.specs.declared.term.Term.TheVariants as term
-use Rattle.pads_calc.specs.Modules.{Contents}
+use Rattle.pads_module.specs.Modules.{Contents}
 use Rattle.law_calculus.specs.Expressions.{SortScope, sort_in}
 use Rattle.law_calculus.specs.Plain.{IsPlain, Plain}
 use Rattle.law_calculus.specs.Sorted.{AreSorted, IsSorted, IsSortedDecl, Sorted, Sorts, Standing, are_arguments, are_parameters, bind_sort, calls, chooses, computes, fits, has, is_argument, is_number_key, is_text_key, last_fits, no_argument, one_number, one_text, params_scope, parts_standing, size_fits, sorted, sorts_in, standing_in, stands, takes}

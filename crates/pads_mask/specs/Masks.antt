@@ -4,7 +4,7 @@ use Rattle.std.specs.Prelude.{ℕ, Bool, ◌+◌, ◌&&◌, not, List, map, Opti
 use Rattle.std.specs.List.{list_any}
 use Rattle.std.specs.Str.{bytes_eq}
 use Rattle.pads_calc.specs.declared.decl.Decl.{Decl}
-use Rattle.pads_calc.specs.Modules.{Contents, made_of}
+use Rattle.pads_module.specs.Modules.{Contents, made_of}
 use Rattle.pads_forms.specs.Terms.{name_at}
 use Rattle.pads_modes.specs.declared.mask.Mask.{Mask}
 use Rattle.pads_modes.specs.declared.mode.Mode.{Mode}

@@ -2,7 +2,7 @@
 ghost use Rattle.std.specs.Prelude.{◌≡◌, true, []};
 ghost use Rattle.law_calculus.specs.Plain.{Plain};
 ghost use Rattle.law_calculus.specs.Sorted.{Sorted};
-ghost use Rattle.pads_calc.specs.Modules.{Contents, is_formed};
+ghost use Rattle.pads_module.specs.Modules.{Contents, is_formed};
 ghost use Rattle.pads_mask.specs.Masks.{masked};
 ghost use Rattle.pads_modes.specs.declared.mask.Mask.{Mask};
 ghost use Rattle.pads_modes.specs.declared.mode.Mode.TheVariants as mode;

@@ -1,5 +1,5 @@
 ghost use Rattle.std.specs.Prelude.{◌≡◌, ◌<◌, ◌≤◌, ◌∷◌, [], codes, length, reverse, IfOk, OnOk};
-ghost use Rattle.pads_calc.specs.Modules.{contents};
+ghost use Rattle.pads_module.specs.Modules.{contents};
 ghost use Rattle.pads_calc.specs.declared.term.Term.TheVariants as code;
 ghost use Rattle.pads_value.specs.Refusals.{OnFault};
 ghost use Rattle.pads_plan.specs.Pending.{ListsOne, ListsAll, Listing, ListMade, ListsMade, numbered, parts_at, pending, whole};
@@ -11,8 +11,9 @@ ghost use Rattle.pads_samples.specs.declared.form.PartForm.TheVariants as form;
 use crate::form::form_of;
 use crate::listing::{Above, Pending, behind, push_kids};
 use crate::part::{PlanList, PlanLists, PlanPart, PlanParts, Step};
-use pads_calc::{Module, Term};
+use pads_calc::Term;
 use pads_forms::{Terms, name_at};
+use pads_module::Module;
 use pads_samples::PartForm;
 use pads_value::{Items, Memory, Refusal};
 use std::alloc::Global;

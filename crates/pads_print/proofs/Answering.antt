@@ -6,7 +6,7 @@ use Rattle.pads_frame.specs.declared.discipline.Discipline.{Discipline}
 use Rattle.pads_frame.specs.Cutting.{records}
 use Rattle.pads_frame.specs.Framed.{framed}
 use Rattle.pads_frame.specs.OnlyFrame.{only}
-use Rattle.pads_calc.specs.Modules.{Contents}
+use Rattle.pads_module.specs.Modules.{Contents}
 use Rattle.pads_print.specs.Printing.{IsReadOtherwise, canonical, framed_if, printed, read_otherwise}
 use Rattle.pads_print.specs.ReadBack.{frames_in, is_back, reads_back, row_in}
 use Rattle.pads_print.specs.Same.{holds_of}

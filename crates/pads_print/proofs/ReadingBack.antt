@@ -13,7 +13,7 @@ use Rattle.pads_frame.specs.declared.discipline.Discipline.{Discipline}
 use Rattle.pads_frame.specs.Cutting.{records}
 use Rattle.pads_frame.specs.Framed.{framed}
 use Rattle.pads_frame.specs.OnlyFrame.{only}
-use Rattle.pads_calc.specs.Modules.{Contents}
+use Rattle.pads_module.specs.Modules.{Contents}
 use Rattle.pads_print.specs.Printing.{IsAmbiguous, ambiguous, canonical, framed_if, printed, read_otherwise}
 use Rattle.pads_print.specs.ReadBack.{IsInput, ReadsBack, frames_in, frames_of, is_back, is_of, is_plain, reads_back, row_in}
 use Rattle.pads_print.specs.Same.{same, holds_of}

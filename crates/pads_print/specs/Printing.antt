@@ -4,7 +4,7 @@ use Rattle.pads_value.specs.declared.row.Row.{Row}
 use Rattle.pads_value.specs.declared.value.Val.{Val}
 use Rattle.pads_frame.specs.declared.discipline.Discipline.{Discipline}
 use Rattle.pads_frame.specs.Framed.{framed}
-use Rattle.pads_calc.specs.Modules.{Contents}
+use Rattle.pads_module.specs.Modules.{Contents}
 use Rattle.pads_calc.specs.Rows.{type_of}
 use Rattle.pads_canonical.specs.Canonical.{canon_of}
 use Rattle.pads_print.specs.declared.printed.Printed.{Printed}

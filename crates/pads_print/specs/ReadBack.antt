@@ -11,7 +11,7 @@ use Rattle.pads_frame.specs.declared.discipline.Discipline.{Discipline}
 use Rattle.pads_frame.specs.Cutting.{records}
 use Rattle.pads_frame.specs.Framed.{framed}
 use Rattle.pads_frame.specs.OnlyFrame.{only}
-use Rattle.pads_calc.specs.Modules.{Contents}
+use Rattle.pads_module.specs.Modules.{Contents}
 use Rattle.pads_calc.specs.Rows.{row_of}
 use Rattle.pads_print.specs.Same.{same, holds_of}
 

@@ -2,7 +2,7 @@
 ghost use Rattle.std.specs.Prelude.{◌≡◌, ℕ, Decides, List, Some};
 ghost use Rattle.pads_value.specs.declared.value.Val.{Val};
 ghost use Rattle.pads_frame.specs.declared.discipline.Discipline.{Discipline};
-ghost use Rattle.pads_calc.specs.Modules.{Contents};
+ghost use Rattle.pads_module.specs.Modules.{Contents};
 ghost use Rattle.pads_print.specs.Printing.{IsAmbiguous, ambiguous, printed};
 ghost use Rattle.pads_print.specs.ReadBack.{IsInput, ReadsBack, reads_back};
 ghost use Rattle.pads_print.specs.Same.{same};

@@ -5,9 +5,10 @@ ghost use Rattle.pads_canonical.specs.Canonical.{is_unit as is_unit_of, of_base,
 ghost use Rattle.pads_print.specs.Writes.{behind, filled};
 ghost use Rattle.pads_value.specs.declared.value.Val.{out-Val};
 
-use pads_calc::{Base, ComputedForm, arguments_lent};
+use pads_calc::{Base, ComputedForm};
 use pads_dispatch::spell_base;
 use pads_expr::{Expr, Lent};
+use pads_steps::arguments_lent;
 use pads_value::{Bytes, Memory, Val};
 use std::alloc::Global;
 

@@ -1,13 +1,14 @@
 ghost use Rattle.std.specs.Prelude.{◌≡◌, ◌<◌, ◌≤◌, IfOk};
 ghost use Rattle.pads_frame.specs.Fits.{FitsLimit};
-ghost use Rattle.pads_calc.specs.Modules.{contents};
+ghost use Rattle.pads_module.specs.Modules.{contents};
 ghost use Rattle.pads_print.specs.Printing.{PrintGives, canonical};
 
 use crate::Printed;
 use crate::reading::{reads_as, rows_of};
 use crate::writer::Writer;
-use pads_calc::{DEEPEST, Module};
+use pads_calc::DEEPEST;
 use pads_frame::{Discipline, frame_of};
+use pads_module::Module;
 use pads_value::{Bytes, Items, Memory, Val};
 use std::alloc::Global;
 

@@ -1,14 +1,14 @@
 //! Reading back: what framed bytes are as an input.
 ghost use Rattle.std.specs.Prelude.{◌≡◌, ◌<◌, ◌≤◌, ◌^◌, length, map, IfOk};
-ghost use Rattle.pads_calc.specs.Modules.{contents};
+ghost use Rattle.pads_module.specs.Modules.{contents};
 ghost use Rattle.pads_frame.specs.Cutting.{records};
 ghost use Rattle.pads_frame.specs.Fits.{FitsLimit};
 ghost use Rattle.pads_frame.specs.OnlyFrame.{only};
 ghost use Rattle.pads_print.specs.ReadBack.{is_back, is_of as is_of_value, is_plain as is_plain_of, row_in};
 ghost use Rattle.pads_print.specs.Same.{holds_of, same};
 
-use pads_calc::Module;
 use pads_frame::{Discipline, first_frame, only_frame};
+use pads_module::Module;
 use pads_value::{Class, Items, Mark, Memory, Row, Rows, Val};
 use pads_walk::walk;
 use std::alloc::Global;

@@ -8,8 +8,9 @@ ghost use Rattle.pads_value.specs.declared.value.Val.{out-Val};
 
 use crate::leaf;
 use crate::scope::{bind, scope_over};
-use pads_calc::{Arm, Case, Decl, Part, Seq, Term, arguments_lent, bound};
+use pads_calc::{Arm, Case, Decl, Part, Seq, Term};
 use pads_expr::{Expr, Lent};
+use pads_steps::{arguments_lent, bound};
 use pads_value::{Bytes, Memory, Val};
 use std::alloc::Global;
 

@@ -10,7 +10,7 @@ use Rattle.pads_describe.specs.Verdicts.{IsRefused}
 use Rattle.pads_orders.specs.declared.order.Order.{Order}
 use Rattle.pads_orders.specs.declared.order.Order.TheVariants as order
 use Rattle.pads_orders.specs.declared.order.Settings.{Settings}
-use Rattle.pads_calc.specs.Modules.{Contents}
+use Rattle.pads_module.specs.Modules.{Contents}
 use Rattle.pads_describe.specs.declared.verdict.Verdict.{Verdict}
 use Rattle.pads_tool.proofs.Texts.{if-known, within}
 use Rattle.pads_drive.specs.Outputs.{Work}

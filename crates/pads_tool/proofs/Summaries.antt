@@ -1,6 +1,6 @@
 -- How the promise of a summary is kept.
 use Rattle.std.proofs.Common.{◌≡◌, ◌∙◌, ◌<◌, ◌≤◌, inl, refl, sym, subst, ℕ, true, false, List, Option, IfSome, Ok, Err, arith}
-use Rattle.pads_calc.specs.Modules.{Contents}
+use Rattle.pads_module.specs.Modules.{Contents}
 use Rattle.pads_describe.proofs.AnswerLaws.{not_refused, one_description}
 use Rattle.pads_describe.specs.Describing.{Describes}
 use Rattle.pads_describe.specs.Verdicts.{IsRefused}

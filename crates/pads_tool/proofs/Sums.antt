@@ -6,7 +6,7 @@ use Rattle.pads_accum.specs.Limits.{limit_of}
 use Rattle.pads_accum.specs.States.{IsSummaryOf, State}
 use Rattle.pads_accum.specs.Summaries.{summary_of}
 use Rattle.pads_accum.specs.declared.limit.Limit.{Limit}
-use Rattle.pads_calc.specs.Modules.{Contents}
+use Rattle.pads_module.specs.Modules.{Contents}
 use Rattle.pads_drive.specs.Outputs.{Tallies}
 use Rattle.pads_plan.specs.Plans.{lists_of}
 use Rattle.pads_value.specs.declared.row.Row.{Row}

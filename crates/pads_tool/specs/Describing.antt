@@ -11,7 +11,7 @@ use Rattle.pads_drive.specs.Outputs.{Work}
 use Rattle.pads_frame.specs.Cutting.{records, closed}
 use Rattle.pads_json.specs.Lines.{line_told}
 use Rattle.pads_orders.specs.declared.order.Cutting.{Cutting}
-use Rattle.pads_calc.specs.Modules.{Contents}
+use Rattle.pads_module.specs.Modules.{Contents}
 
 -- A description's module, and how the records lie in the input.
 pub record Description : Type 0 where

@@ -12,7 +12,7 @@ use Rattle.pads_drive.specs.declared.stop.Stop.{Stop}
 use Rattle.pads_drive.specs.declared.stop.Stop.TheVariants as stop
 use Rattle.pads_io.specs.Faults.{Rose}
 use Rattle.pads_orders.specs.declared.order.Settings.{Settings}
-use Rattle.pads_calc.specs.Modules.{Contents}
+use Rattle.pads_module.specs.Modules.{Contents}
 use Rattle.pads_value.specs.Cuts.{Cut}
 use Rattle.pads_value.specs.declared.row.Row.{Row}
 use Rattle.pads_tool.specs.Causes.{SinkFailed}

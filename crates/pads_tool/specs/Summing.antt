@@ -5,7 +5,7 @@ use Rattle.std.specs.Io.KnownBytes.{Appends, Consumes, IsAtEnd}
 use Rattle.std.specs.List.{list_all}
 use Rattle.pads_accum.specs.Limits.{passes}
 use Rattle.pads_accum.specs.Summaries.{summary_of}
-use Rattle.pads_calc.specs.Modules.{Contents}
+use Rattle.pads_module.specs.Modules.{Contents}
 use Rattle.pads_code.specs.declared.Coding.{Coding}
 use Rattle.pads_describe.specs.Describing.{Describes}
 use Rattle.pads_drive.specs.Outputs.{Work, rows_of}

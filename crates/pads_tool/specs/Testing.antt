@@ -2,7 +2,7 @@
 -- isn't ambiguous without writing its bytes, and tells in one line what it counted.
 use Rattle.std.specs.Prelude.{ℕ, ◌+◌, ◌^◌, nat_lt, Bool, List, [], ◌++◌, length, codes, count_by, decimal, sum_by}
 use Rattle.std.specs.List.{list_all}
-use Rattle.pads_calc.specs.Modules.{Contents}
+use Rattle.pads_module.specs.Modules.{Contents}
 use Rattle.pads_describe.specs.Describing.{Describes}
 use Rattle.pads_drive.specs.Outputs.{Work, rows_of}
 use Rattle.pads_orders.specs.declared.order.Settings.{Settings}

@@ -5,7 +5,7 @@ use Rattle.pads_describe.specs.Answers.{IsAcceptedWith}
 use Rattle.pads_describe.specs.Describing.{Describes}
 use Rattle.pads_describe.specs.Verdicts.{IsRefused}
 use Rattle.pads_io.specs.Faults.{Rose}
-use Rattle.pads_calc.specs.Modules.{Contents}
+use Rattle.pads_module.specs.Modules.{Contents}
 use Rattle.pads_describe.specs.declared.verdict.Verdict.{Verdict}
 use Rattle.pads_tool.specs.declared.reason.Reason.{Reason}
 use Rattle.pads_tool.specs.declared.reason.Reason.TheVariants as reason

@@ -6,17 +6,17 @@ ghost use Rattle.pads_tool.specs.Reading.{RecordsGive};
 ghost use Rattle.pads_tool.specs.Promises.{Keeps, counts, parsing, seen};
 ghost use Rattle.pads_tool.specs.Running.{IsBeforeInput};
 ghost use Rattle.pads_tool.specs.declared.ending.Ending.TheVariants as ending;
-ghost use Rattle.pads_calc.specs.Modules.{contents};
+ghost use Rattle.pads_module.specs.Modules.{contents};
 
 use crate::ending::Ending;
 use crate::rows::{are_clean, ending_of, rows_in};
 use crate::text::described_in;
 use crate::unused::unused;
-use pads_calc::Module;
 use pads_code::Coding;
 use pads_drive::{Command, Limit, Output, drive};
 use pads_io::{Files, Sink, Source};
 use pads_json::record_line;
+use pads_module::Module;
 use pads_orders::{Cutting, Settings};
 use pads_value::{Kept, Memory, Refusal, Row, Rows};
 use std::alloc::Global;
@@ -30,7 +30,7 @@ pub(crate) struct Lines {
 impl Command for Lines {
     ghost use Rattle.std.specs.Prelude.{false};
     ghost use Rattle.pads_tool.specs.Describing.{lines};
-    ghost use Rattle.pads_calc.specs.Modules.{contents};
+    ghost use Rattle.pads_module.specs.Modules.{contents};
 
     type Row = Row;
 

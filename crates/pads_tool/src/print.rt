@@ -1,5 +1,5 @@
 ghost use Rattle.std.specs.Prelude.{◌≡◌, ◌≢◌, ◌<◌, ◌≤◌, true, IfOk};
-ghost use Rattle.pads_calc.specs.Modules.{contents};
+ghost use Rattle.pads_module.specs.Modules.{contents};
 ghost use Rattle.pads_frame.specs.Fits.{FitsLimit};
 ghost use Rattle.pads_orders.specs.Orders.{IsWithinLimits};
 ghost use Rattle.pads_tool.specs.Describing.{described};
@@ -15,9 +15,9 @@ use crate::ending::Ending;
 use crate::rows::{ending_of, is_clean, rows_in};
 use crate::telling::Told;
 use crate::text::described_in;
-use pads_calc::Module;
 use pads_drive::{Command, Limit, Output, drive};
 use pads_io::{Files, Sink, Source};
+use pads_module::Module;
 use pads_orders::{Cutting, Settings};
 use pads_print::Printed;
 use pads_value::{Bytes, Kept, Memory, Refusal, Row, Rows};
@@ -37,7 +37,7 @@ impl Command for Prints {
     ghost use Rattle.std.specs.Prelude.{false};
     ghost use Rattle.pads_tool.specs.Describing.{described};
     ghost use Rattle.pads_tool.specs.Printing.{prints};
-    ghost use Rattle.pads_calc.specs.Modules.{contents};
+    ghost use Rattle.pads_module.specs.Modules.{contents};
 
     type Row = Row;
 

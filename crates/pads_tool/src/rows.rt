@@ -1,5 +1,5 @@
 ghost use Rattle.std.specs.Prelude.{◌≡◌, ◌≢◌, ◌&&◌, ◌+◌, ◌<◌, ◌^◌, length, map, IfOk, Err};
-ghost use Rattle.pads_calc.specs.Modules.{contents};
+ghost use Rattle.pads_module.specs.Modules.{contents};
 ghost use Rattle.pads_drive.specs.Outputs.{rows_of};
 ghost use Rattle.pads_drive.specs.declared.stop.Stop.TheVariants as stop;
 ghost use Rattle.pads_tool.specs.Describing.{is_clean, lines};
@@ -7,8 +7,8 @@ ghost use Rattle.pads_tool.specs.Reading.{ending_of};
 ghost use Rattle.pads_value.specs.Cuts.{cut_of_kept};
 
 use crate::ending::Ending;
-use pads_calc::Module;
 use pads_drive::{Ended, Stop};
+use pads_module::Module;
 use pads_value::{Class, Kept, Memory, Row, Rows};
 use pads_walk::walk;
 use std::alloc::Global;

@@ -1,5 +1,5 @@
 ghost use Rattle.std.specs.Prelude.{◌≡◌, ◌≢◌, ◌^◌, ◌≤◌, ℕ, List, Option, IfErr, IfOk, length};
-ghost use Rattle.pads_calc.specs.Modules.{contents};
+ghost use Rattle.pads_module.specs.Modules.{contents};
 ghost use Rattle.pads_describe.specs.Describing.{Describes};
 ghost use Rattle.pads_describe.specs.Verdicts.{IsRefused};
 ghost use Rattle.pads_orders.specs.Orders.{IsWithinLimits};
@@ -18,10 +18,10 @@ use crate::rows::{is_clean, rows_in};
 use crate::tell::tell;
 use crate::test_tally::TestTally;
 use crate::unused::unused;
-use pads_calc::Module;
 use pads_code::Coding;
 use pads_drive::{Command, Ended, Limit, Output, Stop, drive};
 use pads_io::Sink;
+use pads_module::Module;
 use pads_orders::Settings;
 use pads_selftest::{MadeRecords, bytes_made, description};
 use pads_value::{Kept, Memory, Refusal, Row, Rows};
@@ -35,7 +35,7 @@ pub(crate) struct Tests {
 
 impl Command for Tests {
     ghost use Rattle.std.specs.Prelude.{◌^◌, length};
-    ghost use Rattle.pads_calc.specs.Modules.{contents};
+    ghost use Rattle.pads_module.specs.Modules.{contents};
     ghost use Rattle.pads_selftest.proofs.Limits.{above-still};
     ghost use Rattle.pads_tool.specs.Describing.{described};
     ghost use Rattle.pads_tool.specs.Printing.{prints};

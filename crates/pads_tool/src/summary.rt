@@ -1,6 +1,6 @@
 ghost use Rattle.std.specs.Prelude.{◌≡◌, ◌≢◌, ℕ, [], List, Option, false, IfErr, IfOk, OnErr};
 ghost use Rattle.pads_accum.specs.States.{IsSummaryOf};
-ghost use Rattle.pads_calc.specs.Modules.{contents};
+ghost use Rattle.pads_module.specs.Modules.{contents};
 ghost use Rattle.pads_orders.specs.Orders.{IsWithinLimits};
 ghost use Rattle.pads_plan.specs.Plans.{lists_of, most, size};
 ghost use Rattle.pads_report.specs.Reports.{report_text};
@@ -20,9 +20,9 @@ use crate::tell::tell;
 use crate::text::described_in;
 use crate::unused::unused;
 use pads_accum::Summary;
-use pads_calc::Module;
 use pads_drive::{Command, Ended, Limit, Output, Stop, drive};
 use pads_io::{Files, Sink, Source};
+use pads_module::Module;
 use pads_orders::{Cutting, Settings};
 use pads_report::report;
 use pads_value::{Kept, Memory, Refusal, Row, Rows};
@@ -36,7 +36,7 @@ pub(crate) struct Sums {
 
 impl Command for Sums {
     ghost use Rattle.pads_accum.proofs.Passing.{passes_on};
-    ghost use Rattle.pads_calc.specs.Modules.{contents};
+    ghost use Rattle.pads_module.specs.Modules.{contents};
     ghost use Rattle.pads_plan.specs.Plans.{lists_of};
     ghost use Rattle.pads_tool.specs.Summing.{sums};
 

@@ -2,17 +2,17 @@ ghost use Rattle.std.specs.Prelude.{◌≡◌, IfOk, IfErr, ◌≢◌, OnOk};
 ghost use Rattle.pads_tool.specs.Texts.{IsAcceptedIn, IsDescribedIn, IsRefusedIn, IsTextIn, StopsBefore};
 ghost use Rattle.pads_tool.specs.declared.ending.Ending.TheVariants as ending;
 ghost use Rattle.law_calculus.specs.Plain.{Plain};
-ghost use Rattle.pads_calc.specs.Modules.{contents};
+ghost use Rattle.pads_module.specs.Modules.{contents};
 ghost use Rattle.pads_calc.specs.Skeletons.{KeepsAll};
 
 use crate::description::Described;
 use crate::ending::Ending;
 use crate::files::read_description;
 use crate::reason::Reason;
-use pads_calc::Module;
 use pads_code::Coding;
 use pads_describe::Verdict;
 use pads_io::Files;
+use pads_module::Module;
 use pads_value::{Bytes, Refusal};
 use std::alloc::Global;
 

@@ -3,7 +3,7 @@ use Rattle.std.proofs.Common.{◌≡◌, ◌∙◌, ap, refl, true, ◌&&◌, na
 use Rattle.std.specs.List.{flat_map}
 use Rattle.pads_code.specs.declared.Coding.{Coding}
 use Rattle.pads_typed_tree.specs.declared.decl.Description.{Description}
-use Rattle.pads_calc.specs.Modules.{is_formed}
+use Rattle.pads_module.specs.Modules.{is_formed}
 use Rattle.pads_trans.specs.Modules.{module_by_table, module_of, is_module}
 use Rattle.pads_trans_expr.specs.Met.{in_decl, names_of}
 use Rattle.pads_trans_expr.specs.Names.{Name, with_names}

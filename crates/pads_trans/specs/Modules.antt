@@ -1,6 +1,6 @@
 -- The translation of a description: its module.
 use Rattle.std.specs.Prelude.{Bool, ◌&&◌, nat_lt, List, [], length, map}
-use Rattle.pads_calc.specs.Modules.{Contents, made_of, is_formed}
+use Rattle.pads_module.specs.Modules.{Contents, made_of, is_formed}
 use Rattle.pads_calc.specs.declared.decl.Shape.{Shape}
 use Rattle.pads_code.specs.declared.Coding.{Coding}
 use Rattle.pads_typed_tree.specs.declared.decl.Description.{Description}

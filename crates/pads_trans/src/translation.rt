@@ -1,11 +1,12 @@
 ghost use Rattle.std.specs.Prelude.{◌≡◌, true, false, IfOk, OnOk};
-ghost use Rattle.pads_calc.specs.Modules.{contents, is_formed};
+ghost use Rattle.pads_module.specs.Modules.{contents, is_formed};
 ghost use Rattle.pads_trans.specs.Modules.{shape_of, module_by_table, module_of, is_module};
 ghost use Rattle.pads_value.specs.Refusals.{OnFault};
 
 use crate::decl::decls;
-use pads_calc::{IllFormed, Module, Shape};
+use pads_calc::Shape;
 use pads_code::Coding;
+use pads_module::{IllFormed, Module};
 use pads_trans_expr::Numbering;
 use pads_typed_tree::{Description, Source};
 use pads_value::Refusal;

@@ -12,11 +12,12 @@ use Rattle.pads_value.specs.declared.cause.Cause.TheVariants as cause
 use Rattle.pads_value.specs.declared.descriptor.Pd.{out-roll-Pd}
 use Rattle.pads_value.specs.declared.value.Val.TheVariants as val
 use Rattle.pads_calc.specs.declared.decl.Decl.{Decl}
-use Rattle.pads_calc.specs.declared.record.Record.{Record}
+use Rattle.pads_steps.specs.declared.record.Record.{Record}
 use Rattle.pads_calc.specs.declared.term.Term.{Term}
 use Rattle.pads_calc.specs.declared.term.Term.TheVariants as term
 use Rattle.pads_calc.specs.Leaves.{lit_of}
-use Rattle.pads_calc.specs.Readings.{Subject, subject_of, Reader, leaf, fails, is_ok, blame}
+use Rattle.pads_calc.specs.Readings.{Subject, Reader, leaf, fails, is_ok, blame}
+use Rattle.pads_steps.specs.Records.{subject_of}
 use Rattle.pads_calc.specs.Wrappers.{absorb_of, found_at, scan, scan_from}
 use Rattle.pads_calc.proofs.Cases.{pick}
 use Rattle.pads_calc.proofs.Rolls.{read-Lit, read-Absorb}

@@ -1,11 +1,12 @@
 -- Searches of a literal: which terms are one, and what a search reads as.
 use Rattle.std.specs.Prelude.{◌≡◌, ◌⊎◌, ℕ, List}
 use Rattle.pads_calc.specs.declared.reading.Reading.{Reading}
-use Rattle.pads_calc.specs.declared.record.Record.{Record}
+use Rattle.pads_steps.specs.declared.record.Record.{Record}
 use Rattle.pads_calc.specs.declared.term.Term.{Term}
 use Rattle.pads_calc.specs.declared.term.Term.TheVariants as term
 use Rattle.pads_calc.specs.Leaves.{lit_of}
-use Rattle.pads_calc.specs.Readings.{subject_of, Reader}
+use Rattle.pads_calc.specs.Readings.{Reader}
+use Rattle.pads_steps.specs.Records.{subject_of}
 use Rattle.pads_calc.specs.Wrappers.{scan}
 use Rattle.pads_expr.specs.Value.{Pairs}
 

@@ -1,7 +1,7 @@
 -- What is read of a record by a module's declarations, as the calculus has it.
 use Rattle.std.specs.Prelude.{ℕ, List}
 use Rattle.pads_calc.specs.declared.decl.Decl.{Decl}
-use Rattle.pads_calc.specs.declared.record.Record.{Record}
+use Rattle.pads_steps.specs.declared.record.Record.{Record}
 use Rattle.pads_calc.specs.declared.term.Arm.{Arm}
 use Rattle.pads_calc.specs.declared.term.Case.{Case}
 use Rattle.pads_calc.specs.declared.term.Part.{Part}
@@ -9,7 +9,8 @@ use Rattle.pads_calc.specs.declared.term.Seq.{Seq}
 use Rattle.pads_calc.specs.declared.term.Term.{Term}
 use Rattle.pads_calc.specs.Arrays.{SeqReader}
 use Rattle.pads_calc.specs.Calculus.{Caller, caller, read, part_reader, arm_reader, case_reader, seq_reader}
-use Rattle.pads_calc.specs.Readings.{subject_of, Reader}
+use Rattle.pads_calc.specs.Readings.{Reader}
+use Rattle.pads_steps.specs.Records.{subject_of}
 use Rattle.pads_calc.specs.Structs.{Named}
 
 abbrev pub calls : Record → List Decl → ℕ → Caller

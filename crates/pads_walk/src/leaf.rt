@@ -3,13 +3,14 @@ ghost use Rattle.std.specs.Prelude.{◌≡◌, ◌≤◌, true, length, IfOk};
 ghost use Rattle.pads_calc.specs.Arguments.{arguments};
 ghost use Rattle.pads_calc.specs.Leaves.{base_of, compute_of, eor_of, lit_of, unit_of};
 ghost use Rattle.pads_calc.specs.Places.{EndsWithin};
-ghost use Rattle.pads_calc.specs.Readings.{subject_of};
+ghost use Rattle.pads_steps.specs.Records.{subject_of};
 ghost use Rattle.pads_dispatch.specs.Labels.{labels_fit};
 ghost use Rattle.pads_expr.specs.Value.{value};
 ghost use Rattle.pads_expr.specs.Worth.{worth_or_none};
 
-use pads_calc::{Base, ComputedForm, Exprs, Reading, Record};
+use pads_calc::{Base, ComputedForm, Exprs, Reading};
 use pads_expr::{Env, Expr};
+use pads_steps::Record;
 use pads_value::Memory;
 use std::alloc::Global;
 

@@ -4,9 +4,9 @@ ghost use Rattle.std.specs.Option.{option_copied, option_map};
 ghost use Rattle.pads_calc.specs.Arguments.{argument};
 ghost use Rattle.pads_calc.specs.Arrays.{ending_at, is_stopped, turn_from, element_at as element_place, seq_of};
 ghost use Rattle.pads_calc.specs.Choices.{alt_from, chosen as chosen_of, switch_of};
-ghost use Rattle.pads_calc.specs.Counts.{few, counts_fit, option_counts, module_counts};
+ghost use Rattle.pads_module.specs.Counts.{few, counts_fit, option_counts, module_counts};
 ghost use Rattle.pads_calc.specs.Places.{EndsWithin, TurnsWithin};
-ghost use Rattle.pads_calc.specs.Readings.{subject_of};
+ghost use Rattle.pads_steps.specs.Records.{subject_of};
 ghost use Rattle.pads_calc.specs.Structs.{in_turn, struct_of};
 ghost use Rattle.pads_calc.specs.Wrappers.{scan};
 ghost use Rattle.pads_walk.specs.Reads.{calls, reads, reads_part, reads_arm, reads_case, reads_seq};
@@ -14,11 +14,9 @@ ghost use Rattle.pads_walk.specs.Reads.{calls, reads, reads_part, reads_arm, rea
 use crate::fields::Fields;
 use crate::leaf;
 use crate::search::{find_from, sought};
-use pads_calc::{
-    Arm, Case, Decl, Ending, Part, Reading, Record, Run, Seq, Term, Turn, arguments, bound, chosen,
-    guarded, is_full, short_of, size_at,
-};
+use pads_calc::{Arm, Case, Decl, Ending, Part, Reading, Seq, Term, Turn};
 use pads_expr::{Env, Expr};
+use pads_steps::{Record, Run, arguments, bound, chosen, guarded, is_full, short_of, size_at};
 use pads_value::{Cause, Memory};
 use std::alloc::Global;
 

@@ -3,8 +3,10 @@ ghost use Rattle.pads_calc.specs.Rows.{body_reading, row_of, type_of};
 ghost use Rattle.pads_value.specs.Cuts.{cut_of_frame};
 
 use crate::reader::Reader;
-use pads_calc::{DEEPEST, Module, Reading, Record, row_over, row_without};
+use pads_calc::{DEEPEST, Reading};
 use pads_expr::Env;
+use pads_module::Module;
+use pads_steps::{Record, row_over, row_without};
 use pads_value::{Frame, Memory, Row};
 use std::alloc::Global;
 

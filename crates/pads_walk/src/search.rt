@@ -4,7 +4,8 @@ ghost use Rattle.pads_calc.specs.Places.{EndsWithin};
 ghost use Rattle.pads_walk.specs.Literals.{IsLiteral, IsFound};
 
 use memchr::memmem;
-use pads_calc::{Reading, Record, Term};
+use pads_calc::{Reading, Term};
+use pads_steps::Record;
 use pads_value::Cause;
 use std::alloc::Global;
 

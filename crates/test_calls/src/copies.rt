@@ -1,8 +1,9 @@
 //! Copies of modules: that memory for one is there where memory is ample.
 use crate::pieces::{Made, boxed, two};
 use crate::terms::{module, named, wrapped};
-use pads_calc::{Arm, Case, ComputedForm, Key, Module, Seq, Term};
+use pads_calc::{Arm, Case, ComputedForm, Key, Seq, Term};
 use pads_expr::Expr;
+use pads_module::Module;
 use pads_value::Bytes;
 use std::alloc::Global;
 use std::test::Fail;

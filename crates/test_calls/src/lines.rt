@@ -1,9 +1,9 @@
 //! `record_line` of values and descriptors that no reading gives.
 use crate::pieces::{Made, boxed, leaf, node, one, row, two};
-use pads_calc::Module;
 use pads_code::Coding;
 use pads_describe::describe;
 use pads_json::record_line;
+use pads_module::Module;
 use pads_value::{Bytes, Cause, Pd, Val};
 use std::alloc::Global;
 use std::test::Fail;

@@ -1,10 +1,11 @@
 //! Lines of values by terms that no description stands for.
 use crate::lines::{clean_line, value_line};
 use crate::pieces::{Made, boxed, one, two};
-use pads_calc::{Base, Decl, IllFormed, Module, Part, Shape, Term};
+use pads_calc::{Base, Decl, Part, Shape, Term};
 use pads_code::Coding;
 use pads_expr::Expr;
 use pads_int::Kind;
+use pads_module::{IllFormed, Module};
 use pads_value::{Items, NameTable, Refusal, Val};
 use std::alloc::Global;
 use std::test::Fail;

@@ -1,12 +1,12 @@
 //! What names mean in trees that break rules, and what such trees resolve and translate to.
 use pads_ast::Ast;
-use pads_calc::IllFormed;
 use pads_code::Coding;
 use pads_declared::{
     Meaning, NameSet, TypeTable, choice_position, declared, element, has_choice, is_precord_type,
     meaning_of, meaning_sort, member,
 };
 use pads_lex::lex;
+use pads_module::IllFormed;
 use pads_resolve::resolve;
 use pads_rules::{ExprSort, Form};
 use pads_syntax::parse;

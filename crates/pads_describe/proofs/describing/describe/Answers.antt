@@ -1,4 +1,4 @@
-use Rattle.pads_calc.specs.Modules.{contents}
+use Rattle.pads_module.specs.Modules.{contents}
 use Rattle.pads_describe.proofs.Described.{describes}
 use Rattle.pads_describe.proofs.describing.describe.Goals as goal
 

@@ -1,4 +1,4 @@
-use Rattle.pads_calc.specs.Modules.{contents}
+use Rattle.pads_module.specs.Modules.{contents}
 use Rattle.pads_describe.proofs.Described.{never-unformed, tree-keeps, tree-plain, tree-sorted}
 use Rattle.pads_describe.proofs.translating.translate.Goals as goal
 

@@ -1,8 +1,8 @@
 use Rattle.std.proofs.Common.{◌≡◌, ◌∙◌, sym, Bool, true, false, ◌&&◌}
 use Rattle.std.proofs.lemmas.Bool.{and_from}
-use Rattle.pads_calc.specs.Counts.{module_counts}
-use Rattle.pads_calc.specs.Modules.{contents, is_formed}
-use Rattle.pads_calc.specs.Scopes.{module_in_scope}
+use Rattle.pads_module.specs.Counts.{module_counts}
+use Rattle.pads_module.specs.Modules.{contents, is_formed}
+use Rattle.pads_module.specs.Scopes.{module_in_scope}
 use Rattle.pads_mask.specs.Masks.{masked}
 use Rattle.pads_mask.proofs.Formed.{stays-formed}
 use Rattle.pads_mask.proofs.masking.mask_module.Goals as goal

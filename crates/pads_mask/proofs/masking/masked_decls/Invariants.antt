@@ -1,5 +1,5 @@
 use Rattle.std.proofs.Common.{◌≡◌, take}
-use Rattle.pads_calc.specs.Modules.{contents}
+use Rattle.pads_module.specs.Modules.{contents}
 use Rattle.pads_mask.specs.Masks.{masked_decls}
 use Rattle.pads_mask.proofs.masking.masked_decls.Given as goal
 

@@ -1,5 +1,5 @@
 use Rattle.std.proofs.Common.{◌≡◌, ◌∙◌, sym, true, false, Some, None}
-use Rattle.pads_calc.specs.Modules.{contents}
+use Rattle.pads_module.specs.Modules.{contents}
 use Rattle.pads_frame.specs.Cutting.{records}
 use Rattle.pads_frame.specs.Framed.{framed}
 use Rattle.pads_frame.specs.OnlyFrame.{only}

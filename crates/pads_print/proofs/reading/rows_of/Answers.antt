@@ -1,6 +1,6 @@
 use Rattle.std.proofs.Common.{◌≡◌, ◌∙◌, sym, ap, [], ◌++◌, true, map, drop, length, ◌-◌, ◌≤◌, arith}
 use Rattle.std.proofs.lemmas.List.{append-nil, length-drop, take_all}
-use Rattle.pads_calc.specs.Modules.{contents}
+use Rattle.pads_module.specs.Modules.{contents}
 use Rattle.pads_frame.specs.Cutting.{cuts}
 use Rattle.pads_frame.proofs.CuttingLemmas.{cuts_nil}
 use Rattle.pads_print.specs.ReadBack.{row_in}

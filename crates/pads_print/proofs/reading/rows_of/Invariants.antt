@@ -1,5 +1,5 @@
 use Rattle.std.proofs.Common.{◌≡◌, ◌-◌, ◌≤◌, ◌++◌, true, length, map, drop}
-use Rattle.pads_calc.specs.Modules.{contents}
+use Rattle.pads_module.specs.Modules.{contents}
 use Rattle.pads_frame.specs.Cutting.{cuts, records}
 use Rattle.pads_print.specs.ReadBack.{row_in}
 use Rattle.pads_print.proofs.reading.rows_of.Given as goal

@@ -1,5 +1,5 @@
 use Rattle.std.proofs.Common.{refl, false, None}
-use Rattle.pads_calc.specs.Modules.{contents}
+use Rattle.pads_module.specs.Modules.{contents}
 use Rattle.pads_tool.specs.Describing.{described, lines}
 use Rattle.pads_tool.specs.Promises.{counts}
 use Rattle.pads_tool.proofs.Promises.{reading-read, reading-stopped}

@@ -1,5 +1,5 @@
 use Rattle.std.proofs.Common.{refl}
-use Rattle.pads_calc.specs.Modules.{contents}
+use Rattle.pads_module.specs.Modules.{contents}
 use Rattle.pads_tool.specs.Describing.{described, lines}
 use Rattle.pads_tool.proofs.Records.{records-give, quiet-give, out-kept, source-kept}
 use Rattle.pads_tool.proofs.parse.write_lines.Goals as goal

@@ -1,4 +1,4 @@
-use Rattle.pads_calc.specs.Modules.{contents}
+use Rattle.pads_module.specs.Modules.{contents}
 use Rattle.pads_tool.specs.Describing.{described}
 use Rattle.pads_tool.specs.Printing.{prints}
 use Rattle.pads_tool.proofs.Records.{records-give, notes-kept, out-kept, source-kept}

@@ -1,6 +1,6 @@
 use Rattle.std.proofs.Common.{◌∙◌, sym, arith}
 use Rattle.pads_drive.proofs.Outputs.{rows_of-none, rows-more}
-use Rattle.pads_calc.specs.Modules.{contents}
+use Rattle.pads_module.specs.Modules.{contents}
 use Rattle.pads_tool.specs.Describing.{lines}
 use Rattle.pads_tool.proofs.rows.rows_in.Goals as goal
 

@@ -1,6 +1,6 @@
 use Rattle.std.proofs.Common.{◌≡◌, ℕ, ◌+◌, List, map, take}
 use Rattle.pads_drive.specs.Outputs.{rows_of}
-use Rattle.pads_calc.specs.Modules.{contents}
+use Rattle.pads_module.specs.Modules.{contents}
 use Rattle.pads_value.specs.Cuts.{cut_of_kept}
 use Rattle.pads_value.specs.declared.row.Row.{Row}
 use Rattle.pads_tool.specs.Describing.{lines}

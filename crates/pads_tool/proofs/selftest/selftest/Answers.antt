@@ -1,5 +1,5 @@
 use Rattle.std.proofs.Common.{◌≡◌, ◌∙◌, ap, nat_eq, refl}
-use Rattle.pads_calc.specs.Modules.{contents}
+use Rattle.pads_module.specs.Modules.{contents}
 use Rattle.pads_tool.proofs.Promises.{test-stopped, test-told}
 use Rattle.pads_tool.proofs.Tested.{counted-clean}
 use Rattle.pads_tool.specs.Describing.{described}

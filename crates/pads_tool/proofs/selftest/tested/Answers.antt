@@ -1,4 +1,4 @@
-use Rattle.pads_calc.specs.Modules.{contents}
+use Rattle.pads_module.specs.Modules.{contents}
 use Rattle.pads_tool.proofs.Tested.{never-over}
 use Rattle.pads_tool.specs.Describing.{described}
 use Rattle.pads_tool.proofs.selftest.tested.Goals as goal

@@ -1,5 +1,5 @@
 use Rattle.std.proofs.Common.{refl}
-use Rattle.pads_calc.specs.Modules.{contents}
+use Rattle.pads_module.specs.Modules.{contents}
 use Rattle.pads_tool.proofs.Summaries.{summary-ended, summary-none, summary-stopped, summary-told}
 use Rattle.pads_tool.specs.Promises.{counts, seen}
 use Rattle.pads_tool.proofs.summary.summary.Goals as goal

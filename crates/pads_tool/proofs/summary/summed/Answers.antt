@@ -1,4 +1,4 @@
-use Rattle.pads_calc.specs.Modules.{contents}
+use Rattle.pads_module.specs.Modules.{contents}
 use Rattle.pads_tool.proofs.Sums.{none-summed}
 use Rattle.pads_tool.proofs.summary.summed.Goals as goal
 

@@ -1,6 +1,6 @@
 use Rattle.pads_describe.specs.Describing.{Describes}
 use Rattle.pads_describe.specs.Verdicts.{IsRefused}
-use Rattle.pads_calc.specs.Modules.{contents}
+use Rattle.pads_module.specs.Modules.{contents}
 use Rattle.pads_tool.proofs.Texts.{of-text}
 use Rattle.pads_tool.proofs.text.described_in.Goals as goal
 

@@ -1,5 +1,6 @@
 use Rattle.std.proofs.Common.{◌∙◌, ◌+◌, ap}
-use Rattle.pads_calc.specs.Readings.{subject_of, is_ok}
+use Rattle.pads_calc.specs.Readings.{is_ok}
+use Rattle.pads_steps.specs.Records.{subject_of}
 use Rattle.pads_calc.specs.Wrappers.{found_at}
 use Rattle.pads_walk.proofs.Searches.{ok-there, occurs-starts, scan-literal, scan-none}
 use Rattle.pads_walk.proofs.search.find.Goals as goal

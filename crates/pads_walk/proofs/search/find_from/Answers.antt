@@ -1,5 +1,6 @@
 use Rattle.std.proofs.Common.{◌∙◌, sym, ap}
-use Rattle.pads_calc.specs.Readings.{subject_of, is_ok}
+use Rattle.pads_calc.specs.Readings.{is_ok}
+use Rattle.pads_steps.specs.Records.{subject_of}
 use Rattle.pads_calc.proofs.Scans.{scan-here}
 use Rattle.pads_walk.specs.Literals.{literal_reader}
 use Rattle.pads_walk.proofs.search.find_from.Goals as goal

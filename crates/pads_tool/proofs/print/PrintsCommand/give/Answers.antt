@@ -1,5 +1,5 @@
 use Rattle.std.proofs.Common.{◌∙◌, ◌&&◌, ap, refl}
-use Rattle.pads_calc.specs.Modules.{contents}
+use Rattle.pads_module.specs.Modules.{contents}
 use Rattle.pads_tool.proofs.Counted.{counted-more}
 use Rattle.pads_tool.specs.Describing.{described}
 use Rattle.pads_tool.specs.Printing.{is_printed, told_of}

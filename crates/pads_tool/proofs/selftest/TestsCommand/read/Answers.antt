@@ -1,5 +1,5 @@
 use Rattle.std.proofs.Common.{map, refl}
-use Rattle.pads_calc.specs.Modules.{contents}
+use Rattle.pads_module.specs.Modules.{contents}
 use Rattle.pads_tool.proofs.Alike.{rows-alike}
 use Rattle.pads_tool.specs.Describing.{described, lines}
 use Rattle.pads_tool.specs.Testing.{tests}

@@ -1,4 +1,4 @@
-use Rattle.pads_calc.specs.Modules.{contents}
+use Rattle.pads_module.specs.Modules.{contents}
 use Rattle.pads_tool.proofs.Sums.{over-next, summed-more, within-next}
 use Rattle.pads_tool.specs.declared.summed.Summed.{Summed}
 use Rattle.pads_tool.proofs.summary.SumsCommand.give.Goals as goal

@@ -13,11 +13,12 @@ use Rattle.pads_calc.specs.Choices.{chosen}
 use Rattle.pads_calc.specs.Places.{TurnsWithin}
 use Rattle.pads_calc.specs.declared.turn.Ending.TheVariants as ending
 use Rattle.pads_calc.specs.declared.turn.Turn.TheVariants as turn
-use Rattle.pads_calc.specs.Counts.{counts_fit}
-use Rattle.pads_calc.specs.Readings.{subject_of, Reader, is_ok}
+use Rattle.pads_module.specs.Counts.{counts_fit}
+use Rattle.pads_calc.specs.Readings.{Reader, is_ok}
+use Rattle.pads_steps.specs.Records.{subject_of}
 use Rattle.pads_calc.specs.Structs.{bind, in_turn}
 use Rattle.pads_calc.specs.Wrappers.{scan}
-use Rattle.pads_calc.proofs.CountRolls.{counts-Base, counts-Guard, counts-Absorb, counts-Scan, fit-parts, few-arms, fit-arms, few-cases, fit-cases, fit-elem, fit-sep, fit-stop, fit-body, all-there}
+use Rattle.pads_module.proofs.CountRolls.{counts-Base, counts-Guard, counts-Absorb, counts-Scan, fit-parts, few-arms, fit-arms, few-cases, fit-cases, fit-elem, fit-sep, fit-stop, fit-body, all-there}
 use Rattle.pads_calc.proofs.Calls.{call-deep, call-unargued, call-undeclared, call-found}
 use Rattle.pads_calc.proofs.Scans.{scan-here, scan-on, scan-found, scan-next, scan-over}
 use Rattle.pads_calc.proofs.Lists.{drop-past'}

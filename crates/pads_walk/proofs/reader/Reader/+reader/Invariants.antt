@@ -7,7 +7,7 @@ use Rattle.pads_calc.specs.declared.term.Seq.{size-Seq}
 use Rattle.pads_calc.specs.declared.term.Term.{size-Term}
 use Rattle.pads_calc.specs.Arrays.{elements, turns_from}
 use Rattle.pads_calc.specs.Choices.{alt_from}
-use Rattle.pads_calc.specs.Readings.{subject_of}
+use Rattle.pads_steps.specs.Records.{subject_of}
 use Rattle.pads_calc.specs.Structs.{in_turn}
 use Rattle.pads_calc.specs.Wrappers.{scan, scan_from}
 use Rattle.pads_calc.proofs.Elements.{Kept}
