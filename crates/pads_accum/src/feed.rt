@@ -46,6 +46,9 @@ fn feed_all(
     Ok(())
 }
 
+/// How many nodes there is room for at first: most rows have fewer, so that memory is asked for once.
+const FIRST_ROOM: usize = 32;
+
 /// The nodes of a row that belong to a part of its list.
 pub(crate) fn row_nodes<'r>(
     alloc: Global,
@@ -54,7 +57,7 @@ pub(crate) fn row_nodes<'r>(
 ) -> Result<Vec<Found<'r>>, Memory>
     ensures nodes { IfOk result (λ nodes. map found_seen nodes.items ≡ row_nodes_of guide.now.plan.parts row.now) }
 {
-    let mut nodes = Vec::new(alloc);
+    let mut nodes = Vec::with_capacity(alloc, FIRST_ROOM)?;
     place(guide, &mut nodes, &row.pd, 0, Some(&row.value))?;
     Ok(nodes)
 }

@@ -1,9 +1,8 @@
-ghost use Rattle.std.specs.Prelude.{◌≡◌, IfOk};
+ghost use Rattle.std.specs.Prelude.{◌≡◌};
 ghost use Rattle.pads_calc.specs.Rows.{type_of};
 
 use crate::Term;
-use pads_value::{Items, Memory};
-use std::alloc::Global;
+use pads_value::Items;
 
 /// The numbers of names in their order.
 pub type NameIds = Items<u16>;
@@ -19,33 +18,6 @@ pub struct Decl {
     pub body: Term,
     /// Whether the values of its own body are kept.
     pub set: bool,
-}
-
-impl Decl {
-    /// A declaration equal to this one.
-    pub fn copy(&self, alloc: Global) -> Result<Decl, Memory>
-        ensures equal { IfOk result (λ copied. copied ≡ self.now) }
-    {
-        let params = Items::from_slice(alloc, self.params.as_slice())?;
-        let body = self.body.copy(alloc)?;
-        Ok(Decl {
-            name: self.name,
-            params,
-            body,
-            set: self.set,
-        })
-    }
-}
-
-/// Declarations equal to these.
-pub fn copy_decls(alloc: Global, decls: &[Decl]) -> Result<Decls, Memory>
-    ensures equal { IfOk result (λ copied. copied ≡ decls.now) }
-{
-    let mut copied = Items::new(alloc);
-    for decl in decls {
-        copied.push(decl.copy(alloc)?)?;
-    }
-    Ok(copied)
 }
 
 /// Which declarations the records of a source have: a header for the first, if there is one, and one

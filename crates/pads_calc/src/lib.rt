@@ -1,13 +1,12 @@
 //! The calculus of data descriptions: its terms, and what they mean.
 #![tactic(auto)]
 
-mod copies;
 mod decl;
 mod reading;
 mod term;
 mod turn;
 
-pub use decl::{DEEPEST, Decl, Decls, NameIds, Shape, copy_decls};
+pub use decl::{DEEPEST, Decl, Decls, NameIds, Shape};
 pub use pads_dispatch::{Arg, Args, Base};
 pub use reading::Reading;
 pub use term::{Arm, Arms, Case, Cases, ComputedForm, Exprs, Key, Part, Parts, Seq, Term};

@@ -7,6 +7,7 @@ ghost use Rattle.pads_value.specs.Refusals.{OnFault};
 
 use crate::unguarded::unguarded;
 use pads_calc::{Decl, Decls, Term};
+use pads_copies::copy_decl;
 use pads_forms::{Terms, name_at};
 use pads_modes::{Mask, Mode};
 use pads_module::Module;
@@ -79,7 +80,7 @@ fn masked_decl(alloc: Global, decl: &Decl, mode: Mode) -> Result<Decl, Memory>
         params,
         body,
         set,
-    } = decl.copy(alloc)?;
+    } = copy_decl(alloc, decl)?;
     let body = masked_body(alloc, body, mode)?;
     Ok(Decl {
         name,

@@ -1,16 +1,15 @@
 ghost use Rattle.std.specs.Prelude.{◌≡◌, ◌&&◌, true, false, IfOk, OnOk};
 ghost use Rattle.pads_module.specs.Counts.{module_counts};
 ghost use Rattle.pads_module.specs.Scopes.{module_in_scope};
-ghost use Rattle.pads_module.specs.Modules.{contents};
 ghost use Rattle.pads_calc.specs.Skeletons.{erasing_of};
 ghost use Rattle.pads_value.specs.Refusals.{OnFault};
 
 use crate::checking::all_in_scope;
 use crate::counts::decls_fit;
 use crate::skeleton::erasing;
-use pads_calc::{Decls, Shape, copy_decls};
+use pads_calc::{Decls, Shape};
 use pads_erase::Keepings;
-use pads_value::{Memory, NameTable, Refusal};
+use pads_value::{NameTable, Refusal};
 use std::alloc::Global;
 
 /// A whole description. It is well formed: each name, declaration and variable that it speaks of is
@@ -54,21 +53,6 @@ impl Module {
             decls,
             names,
             shape,
-            erasing,
-        })
-    }
-
-    /// A module with the same contents.
-    pub fn copy(&self, alloc: Global) -> Result<Module, Memory>
-        ensures equal { IfOk result (λ copied. contents copied ≡ contents self.now) }
-    {
-        let decls = copy_decls(alloc, self.decls.as_slice())?;
-        let names = self.names.copy(alloc)?;
-        let erasing = erasing(alloc, decls.as_slice())?;
-        Ok(Module {
-            decls,
-            names,
-            shape: self.shape,
             erasing,
         })
     }

@@ -1,9 +1,9 @@
-//! Copies of modules: that memory for one is there where memory is ample.
+//! Copies of declarations: that memory for one is there where memory is ample.
 use crate::pieces::{Made, boxed, two};
 use crate::terms::{module, named, wrapped};
-use pads_calc::{Arm, Case, ComputedForm, Key, Seq, Term};
+use pads_calc::{Arm, Case, ComputedForm, Decls, Key, Seq, Term};
+use pads_copies::copy_decls;
 use pads_expr::Expr;
-use pads_module::Module;
 use pads_value::Bytes;
 use std::alloc::Global;
 use std::test::Fail;
@@ -64,17 +64,17 @@ fn forms(alloc: Global) -> Made<Term> {
     both(alloc, front, wrapped(alloc))
 }
 
-fn shown(alloc: Global, module: &Module) -> Made<String> {
-    let text = format!(in alloc; "{:?}", module.decls)?;
+fn shown(alloc: Global, decls: &Decls) -> Made<String> {
+    let text = format!(in alloc; "{:?}", decls)?;
     Ok(text)
 }
 
 #[test]
-fn a_copied_module_is_the_same(rt: HostRuntime) -> Result<(), Fail> {
+fn copied_declarations_are_the_same(rt: HostRuntime) -> Result<(), Fail> {
     let alloc = rt.alloc();
     let module = module(alloc, forms(alloc))?;
-    let copied = module.copy(alloc)?;
-    let wanted = shown(alloc, &module)?;
+    let copied = copy_decls(alloc, module.decls.as_slice())?;
+    let wanted = shown(alloc, &module.decls)?;
     let text = shown(alloc, &copied)?;
     assert_eq!(rt; text.as_str(), wanted.as_str());
     Ok(())

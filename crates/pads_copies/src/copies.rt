@@ -2,29 +2,28 @@
 ghost use Rattle.std.specs.Prelude.{◌≡◌, [], ◌∷◌, ◌++◌, IfOk, OnOk};
 ghost use Rattle.pads_calc.specs.declared.term.Term.TheVariants as term_form;
 
-use crate::{Arm, Arms, Base, Case, Cases, ComputedForm, Exprs, Key, Part, Parts, Seq, Term};
+use pads_calc::{
+    Arm, Arms, Base, Case, Cases, ComputedForm, Decl, Decls, Exprs, Key, Part, Parts, Seq, Term,
+};
 use pads_expr::Expr;
 use pads_value::{Boxed, Bytes, Items, Memory};
 use std::alloc::Global;
 
-impl Key {
-    /// A key equal to this one.
-    pub fn copy(&self, alloc: Global) -> Result<Key, Memory>
-        ensures equal { IfOk result (λ copied. copied ≡ self.now) }
-    {
-        Ok(match self {
-            Key::Num(number) => Key::Num(*number),
-            Key::Text(text) => Key::Text(Bytes::from_slice(alloc, text.as_slice())?),
-        })
-    }
+fn copy_key(alloc: Global, key: &Key) -> Result<Key, Memory>
+    ensures equal { IfOk result (λ copied. copied ≡ key.now) }
+{
+    Ok(match key {
+        Key::Num(number) => Key::Num(*number),
+        Key::Text(text) => Key::Text(Bytes::from_slice(alloc, text.as_slice())?),
+    })
 }
 
-fn copy_key(alloc: Global, key: &Option<Key>) -> Result<Option<Key>, Memory>
+fn copy_optional_key(alloc: Global, key: &Option<Key>) -> Result<Option<Key>, Memory>
     ensures equal { IfOk result (λ copied. copied ≡ key.now) }
 {
     Ok(match key {
         None => None,
-        Some(key) => Some(key.copy(alloc)?),
+        Some(key) => Some(copy_key(alloc, key)?),
     })
 }
 
@@ -100,7 +99,7 @@ fn push_case(alloc: Global, cases: &mut Cases, like: &Case, term: Term) -> Resul
         name: like.arm.name,
         term,
     };
-    let key = copy_key(alloc, &like.key)?;
+    let key = copy_optional_key(alloc, &like.key)?;
     cases.push(Case { key, arm })
 }
 
@@ -176,29 +175,27 @@ fn array_like(
     array(alloc, seq_like(like, elem, sep, stop, of))
 }
 
-impl Term {
-    /// A term equal to this one.
-    #[cycle(copy)]
-    pub fn copy(&self, alloc: Global) -> Result<Term, Memory>
-        ensures equal { IfOk result (λ copied. copied ≡ self.now) }
-    {
-        match self {
-            Term::Unit => Ok(Term::Unit),
-            Term::Base(base, args) => copy_base(alloc, base, args.as_slice()),
-            Term::Lit(bytes) => copy_literal(alloc, bytes.as_slice()),
-            Term::Eor => Ok(Term::Eor),
-            Term::Struct(parts) => copy_struct(alloc, parts.as_slice()),
-            Term::Alt(arms) => copy_alt(alloc, arms.as_slice()),
-            Term::Switch(selector, cases) => copy_switch(alloc, cases.as_slice(), selector),
-            Term::Guard(inner, name, condition) => {
-                guard_like(alloc, copy_boxed(alloc, inner)?, *name, condition)
-            }
-            Term::Seq(seq) => copy_array(alloc, seq.get()),
-            Term::Call(number, args) => copy_call(alloc, *number, args.as_slice()),
-            Term::Compute(value, form) => copy_computed(alloc, value, *form),
-            Term::Absorb(inner) => Ok(Term::Absorb(copy_boxed(alloc, inner)?)),
-            Term::Scan(inner) => Ok(Term::Scan(copy_boxed(alloc, inner)?)),
+/// An equal term.
+#[cycle(copy)]
+pub fn copy_term(alloc: Global, term: &Term) -> Result<Term, Memory>
+    ensures equal { IfOk result (λ copied. copied ≡ term.now) }
+{
+    match term {
+        Term::Unit => Ok(Term::Unit),
+        Term::Base(base, args) => copy_base(alloc, base, args.as_slice()),
+        Term::Lit(bytes) => copy_literal(alloc, bytes.as_slice()),
+        Term::Eor => Ok(Term::Eor),
+        Term::Struct(parts) => copy_struct(alloc, parts.as_slice()),
+        Term::Alt(arms) => copy_alt(alloc, arms.as_slice()),
+        Term::Switch(selector, cases) => copy_switch(alloc, cases.as_slice(), selector),
+        Term::Guard(inner, name, condition) => {
+            guard_like(alloc, copy_boxed(alloc, inner)?, *name, condition)
         }
+        Term::Seq(seq) => copy_array(alloc, seq.get()),
+        Term::Call(number, args) => copy_call(alloc, *number, args.as_slice()),
+        Term::Compute(value, form) => copy_computed(alloc, value, *form),
+        Term::Absorb(inner) => Ok(Term::Absorb(copy_boxed(alloc, inner)?)),
+        Term::Scan(inner) => Ok(Term::Scan(copy_boxed(alloc, inner)?)),
     }
 }
 
@@ -206,7 +203,7 @@ impl Term {
 fn copy_boxed(alloc: Global, term: &Boxed<Term>) -> Result<Boxed<Term>, Memory>
     ensures equal { IfOk result (λ copied. copied ≡ term.now) }
 {
-    Boxed::new(alloc, term.get().copy(alloc)?)
+    Boxed::new(alloc, copy_term(alloc, term.get())?)
 }
 
 #[cycle(copy)]
@@ -215,7 +212,7 @@ fn copy_optional(alloc: Global, term: &Option<Term>) -> Result<Option<Term>, Mem
 {
     match term {
         None => Ok(None),
-        Some(term) => Ok(Some(term.copy(alloc)?)),
+        Some(term) => Ok(Some(copy_term(alloc, term)?)),
     }
 }
 
@@ -225,7 +222,7 @@ fn copy_struct(alloc: Global, parts: &[Part]) -> Result<Term, Memory>
 {
     let mut copied = Items::new(alloc);
     for part in parts {
-        let term = part.term.copy(alloc)?;
+        let term = copy_term(alloc, &part.term)?;
         push_part(&mut copied, part, term)?;
     }
     Ok(Term::Struct(copied))
@@ -237,7 +234,7 @@ fn copy_alt(alloc: Global, arms: &[Arm]) -> Result<Term, Memory>
 {
     let mut copied = Items::new(alloc);
     for arm in arms {
-        let term = arm.term.copy(alloc)?;
+        let term = copy_term(alloc, &arm.term)?;
         push_arm(&mut copied, arm, term)?;
     }
     Ok(Term::Alt(copied))
@@ -249,7 +246,7 @@ fn copy_switch(alloc: Global, cases: &[Case], selector: &Expr) -> Result<Term, M
 {
     let mut copied = Items::new(alloc);
     for case in cases {
-        let term = case.arm.term.copy(alloc)?;
+        let term = copy_term(alloc, &case.arm.term)?;
         push_case(alloc, &mut copied, case, term)?;
     }
     switch_like(alloc, selector, copied)
@@ -259,8 +256,33 @@ fn copy_switch(alloc: Global, cases: &[Case], selector: &Expr) -> Result<Term, M
 fn copy_array(alloc: Global, seq: &Seq) -> Result<Term, Memory>
     ensures equal { IfOk result (λ copied. copied ≡ term_form.Seq seq.now) }
 {
-    let elem = seq.elem.copy(alloc)?;
+    let elem = copy_term(alloc, &seq.elem)?;
     let sep = copy_optional(alloc, &seq.sep)?;
     let stop = copy_optional(alloc, &seq.stop)?;
     array_like(alloc, seq, elem, sep, stop)
+}
+
+/// An equal declaration.
+pub fn copy_decl(alloc: Global, decl: &Decl) -> Result<Decl, Memory>
+    ensures equal { IfOk result (λ copied. copied ≡ decl.now) }
+{
+    let params = Items::from_slice(alloc, decl.params.as_slice())?;
+    let body = copy_term(alloc, &decl.body)?;
+    Ok(Decl {
+        name: decl.name,
+        params,
+        body,
+        set: decl.set,
+    })
+}
+
+/// Equal declarations.
+pub fn copy_decls(alloc: Global, decls: &[Decl]) -> Result<Decls, Memory>
+    ensures equal { IfOk result (λ copied. copied ≡ decls.now) }
+{
+    let mut copied = Items::new(alloc);
+    for decl in decls {
+        copied.push(copy_decl(alloc, decl)?)?;
+    }
+    Ok(copied)
 }
