@@ -5,9 +5,9 @@ ghost use Rattle.pads_mask.specs.Unguarded.{unguarded as unguarded_of};
 ghost use Rattle.pads_modes.specs.Modes.{checks, mode_for};
 ghost use Rattle.pads_value.specs.Refusals.{OnFault};
 
+use crate::copies::copy_decl;
 use crate::unguarded::unguarded;
 use pads_calc::{Decl, Decls, Term};
-use pads_copies::copy_decl;
 use pads_forms::{Terms, name_at};
 use pads_modes::{Mask, Mode};
 use pads_module::Module;

@@ -3,7 +3,6 @@
 #![tactic(auto)]
 
 #[cfg(test)]
-mod copies;
 #[cfg(test)]
 mod environments;
 #[cfg(test)]

@@ -67,7 +67,7 @@ fn sought(alloc: Global) -> Made<Term> {
 }
 
 /// A search for a number under a constraint.
-pub(crate) fn wrapped(alloc: Global) -> Made<Term> {
+fn wrapped(alloc: Global) -> Made<Term> {
     let inner = boxed(alloc, sought(alloc))?;
     Ok(Term::Guard(inner, 0, Expr::Truth(true)))
 }

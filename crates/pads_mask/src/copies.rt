@@ -1,9 +1,9 @@
-//! Copies of terms, each with memory of its own.
+//! Copies of terms and declarations, each with memory of its own.
 ghost use Rattle.std.specs.Prelude.{◌≡◌, [], ◌∷◌, ◌++◌, IfOk, OnOk};
 ghost use Rattle.pads_calc.specs.declared.term.Term.TheVariants as term_form;
 
 use pads_calc::{
-    Arm, Arms, Base, Case, Cases, ComputedForm, Decl, Decls, Exprs, Key, Part, Parts, Seq, Term,
+    Arm, Arms, Base, Case, Cases, ComputedForm, Decl, Exprs, Key, Part, Parts, Seq, Term,
 };
 use pads_expr::Expr;
 use pads_value::{Boxed, Bytes, Items, Memory};
@@ -177,7 +177,7 @@ fn array_like(
 
 /// An equal term.
 #[cycle(copy)]
-pub fn copy_term(alloc: Global, term: &Term) -> Result<Term, Memory>
+pub(crate) fn copy_term(alloc: Global, term: &Term) -> Result<Term, Memory>
     ensures equal { IfOk result (λ copied. copied ≡ term.now) }
 {
     match term {
@@ -263,7 +263,7 @@ fn copy_array(alloc: Global, seq: &Seq) -> Result<Term, Memory>
 }
 
 /// An equal declaration.
-pub fn copy_decl(alloc: Global, decl: &Decl) -> Result<Decl, Memory>
+pub(crate) fn copy_decl(alloc: Global, decl: &Decl) -> Result<Decl, Memory>
     ensures equal { IfOk result (λ copied. copied ≡ decl.now) }
 {
     let params = Items::from_slice(alloc, decl.params.as_slice())?;
@@ -274,15 +274,4 @@ pub fn copy_decl(alloc: Global, decl: &Decl) -> Result<Decl, Memory>
         body,
         set: decl.set,
     })
-}
-
-/// Equal declarations.
-pub fn copy_decls(alloc: Global, decls: &[Decl]) -> Result<Decls, Memory>
-    ensures equal { IfOk result (λ copied. copied ≡ decls.now) }
-{
-    let mut copied = Items::new(alloc);
-    for decl in decls {
-        copied.push(copy_decl(alloc, decl)?)?;
-    }
-    Ok(copied)
 }

@@ -1,5 +1,5 @@
 use Rattle.std.proofs.Common.{◌≡◌, take}
-use Rattle.pads_copies.proofs.copies.+copy.Given as goal
+use Rattle.pads_mask.proofs.copies.+copy.Given as goal
 
 abbrev pub invariant-copy_struct-loop-part : goal.invariant-copy_struct-loop-part
 invariant-copy_struct-loop-part l = l.copied ≡ take l.part-index l.parts
