@@ -72,9 +72,9 @@ def send(client: distributed.Client) -> None:
 
 
 def hush() -> None:
-    """Keeps the engine's own words from standard error, which has the last words of the run alone."""
-    for name in ("distributed", "asyncio", "tornado"):
-        logging.getLogger(name).setLevel(logging.CRITICAL + 1)
+    """Keeps the engine's own words from standard error, which has the last words of the run alone. Its loggers have levels of
+    their own, so all of them are shut off."""
+    logging.disable(logging.CRITICAL)
 
 
 @contextlib.contextmanager
