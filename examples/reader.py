@@ -3,6 +3,7 @@
 
     examples/reader.py parse DESC [--records=..] [--coding=..] < INPUT
     examples/reader.py check DESC       the number of declarations, whatever rules are broken
+    examples/reader.py query DESC PATH [EXPR] [--records=..] [--coding=..] < INPUT
 
 It shares no code with the program. With PADS_BIN=examples/reader.py the commands of the pages run on it.
 """
@@ -10,6 +11,7 @@ import signal
 import sys
 from pathlib import Path
 
+import queries
 import tables
 
 # Cutting, by docs/FORMATS.md: frames are a mark, the first offset and the bytes, or the end where there are none.
@@ -45,27 +47,34 @@ def option(options, name, default):
     return next((word.split('=')[1] for word in options if word.startswith(f'--{name}=')), default)
 
 
-def lines(description, data, options):
-    """The lines that `pads parse` must write."""
+def rows(description, data, options):
     module = tables.Translation(description, 'cp037' if option(options, 'coding', 'ascii') == 'ebcdic' else 'latin-1')
     for number, (mark, first, record) in enumerate(frames(data, option(options, 'records', 'nl'))):
         held = f'{len(data)}' if record is None else record.hex()
-        yield tables.Row(module, f'{number} {mark} {first} {held}').json() + '\n'
+        yield tables.Row(module, f'{number} {mark} {first} {held}')
+
+
+def lines(description, data, options):
+    """The lines that `pads parse` must write."""
+    for row in rows(description, data, options):
+        yield row.json() + '\n'
 
 
 def main():
     sys.setrecursionlimit(100000)
     signal.signal(signal.SIGPIPE, signal.SIG_DFL)
     words = [word for word in sys.argv[1:] if not word.startswith('--')]
-    if len(words) != 2 or words[0] not in ('parse', 'check'):
-        sys.exit(f'{sys.argv[0]}: only `parse DESC` and `check DESC` are done a second time')
+    form = words[:1] + [len(words)]
+    if form not in (['parse', 2], ['check', 2], ['query', 3], ['query', 4]):
+        sys.exit(f'{sys.argv[0]}: only `parse DESC`, `check DESC` and `query DESC PATH [EXPR]` are done a second time')
     if words[0] == 'check':
         print('accepted', len(tables.Parser(Path(words[1]).read_text()).description()))
         return 0
-    clean = True
-    for line in lines(Path(words[1]).read_text(), sys.stdin.buffer.read(), sys.argv[1:]):
-        clean = clean and line.startswith('{"class":"Ok"')
-        sys.stdout.buffer.write(line.encode())
+    clean, kept = True, tables.Parser(words[3]).expr() if len(words) == 4 else None
+    for row in rows(Path(words[1]).read_text(), sys.stdin.buffer.read(), sys.argv[1:]):
+        clean = clean and row.node.clean()
+        for line in queries.queried(row, words[2], kept) if words[0] == 'query' else [row.json()]:
+            sys.stdout.buffer.write(f'{line}\n'.encode())
     return 0 if clean else 1
 
 
