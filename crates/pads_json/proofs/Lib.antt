@@ -2,5 +2,6 @@ pub mod FaultLayers
 pub mod Keys
 pub mod Layers
 pub mod Members
+pub mod NodeSteps
 pub mod Texts
 pub mod Written

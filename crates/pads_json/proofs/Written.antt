@@ -8,7 +8,7 @@ use Rattle.serde_json.specs.Written.{compact_text, items_text}
 use Rattle.pads_value.specs.declared.cause.Cause.{Cause}
 use Rattle.pads_value.specs.declared.descriptor.Class.{Class}
 use Rattle.pads_value.specs.declared.descriptor.Class.TheVariants as class
-use Rattle.pads_value.specs.declared.descriptor.Pd.{out-Pd}
+use Rattle.pads_value.specs.declared.descriptor.Pd.{Pd, out-Pd}
 use Rattle.pads_value.specs.declared.descriptor.Span.{Span}
 use Rattle.pads_value.specs.declared.row.Row.{Row}
 use Rattle.pads_calc.specs.declared.decl.Decl.{Decl}
@@ -17,6 +17,7 @@ use Rattle.json.specs.Print.{escape, escape_byte}
 use Rattle.pads_json.specs.Faults.{span_shown, listed, fault, own_fault, fault_head, fault_tail}
 use Rattle.pads_calc.specs.Rows.{deepest}
 use Rattle.pads_json.specs.Lines.{class_name, row_data, row_faults, row_text, head_text, counts_text, later_key}
+use Rattle.pads_json.specs.NodeLines.{node_data, node_head}
 use Rattle.pads_json.specs.Values.{shown}
 
 pub listed_append : (ds es : List Data) → listed (ds ++ es) ≡ listed ds ++ listed es
@@ -118,4 +119,32 @@ row_written decls names body row old head counts key value h c k v =
     ∙ append_assoc (old ++ text) (counts_text row) (later_key (codes "value") ++ (shown-text ++ 125 ∷ []))
     ∙ append_assoc old text (counts_text row ++ (later_key (codes "value") ++ (shown-text ++ 125 ∷ [])))
     ∙ ap (λ (text : List ℕ). old ++ text) (text-written decls names body row)
+    )
+
+-- ---- the line of a node
+
+node-object : (class : Class) (span value : Data) (nerr record_number : ℕ)
+    → (123 ∷ 34 ∷ (codes "class" ++ 34 ∷ 58 ∷ 34 ∷ (class_name class ++ 34 ∷ (later_key (codes "nerr") ++ (decimal nerr
+    ++ (later_key (codes "record") ++ (decimal record_number ++ (later_key (codes "span") ++ compact_text span))))))))
+    ++ (later_key (codes "value") ++ (compact_text value ++ 125 ∷ []))
+    ≡ compact_text (object (member (codes "class") (string (class_name class)) (member (codes "nerr") (number (unsigned nerr))
+    (member (codes "record") (number (unsigned record_number)) (member (codes "span") span (member (codes "value") value no_members))))))
+unfolding escape_byte
+node-object class.Ok span value nerr record_number = simp append_assoc refl
+node-object class.Err span value nerr record_number = simp append_assoc refl
+node-object class.Fail span value nerr record_number = simp append_assoc refl
+
+-- one piece after another
+pub node_written : (record_number : ℕ) (pd : Pd) (shown : Data) (old head key value : List ℕ)
+    → head ≡ old ++ node_head record_number pd
+    → key ≡ head ++ later_key (codes "value")
+    → value ≡ key ++ compact_text shown
+    → value ++ 125 ∷ [] ≡ old ++ compact_text (node_data record_number pd shown)
+node_written record_number pd shown old head key value h k v =
+    let text = node_head record_number pd in
+    rw (v, k, h) (
+    append_assoc ((old ++ text) ++ later_key (codes "value")) (compact_text shown) (125 ∷ [])
+    ∙ append_assoc (old ++ text) (later_key (codes "value")) (compact_text shown ++ 125 ∷ [])
+    ∙ append_assoc old text (later_key (codes "value") ++ (compact_text shown ++ 125 ∷ []))
+    ∙ ap (λ (text : List ℕ). old ++ text) (node-object (out-Pd pd).class (span_shown (out-Pd pd).span) shown (out-Pd pd).nerr record_number)
     )

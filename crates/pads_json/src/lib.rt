@@ -3,6 +3,7 @@
 
 mod faults;
 mod line;
+mod node;
 mod number;
 mod order;
 mod place;
@@ -10,4 +11,5 @@ mod text;
 mod value;
 
 pub use line::record_line;
+pub use node::node_line;
 pub use text::write_quoted;

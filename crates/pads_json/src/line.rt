@@ -17,12 +17,12 @@ use pads_value::{Bytes, Class, Items, Memory, Pd, Row, Val};
 use std::alloc::Global;
 
 /// How deep calls may be nested in a record.
-const DEPTH: u64 = DEEPEST as u64;
+pub(crate) const DEPTH: u64 = DEEPEST as u64;
 
 /// Room for most lines, in bytes.
 const ROOM: usize = 512;
 
-fn class_name(class: Class) -> &'static str
+pub(crate) fn class_name(class: Class) -> &'static str
     ensures name { result.now ≡ class_name_of class }
 {
     match class {
@@ -124,7 +124,7 @@ fn write_head<'m>(
 }
 
 /// Writes a number of a row under its key.
-fn write_member(out: &mut Bytes, key: &[u8], count: u64) -> Result<(), Memory>
+pub(crate) fn write_member(out: &mut Bytes, key: &[u8], count: u64) -> Result<(), Memory>
     ensures member { OnOk result (out.new ≡ out.old ++ (key.now ++ decimal count)) }
 {
     out.extend_from_slice(key)?;
@@ -192,7 +192,7 @@ fn write_line(
 }
 
 /// Bytes without any, with room for most lines.
-fn room(alloc: Global) -> Result<Bytes, Memory>
+pub(crate) fn room(alloc: Global) -> Result<Bytes, Memory>
     ensures empty { IfOk result (λ room. room ≡ []) }
 {
     Ok(Items::from_vec(Vec::with_capacity(alloc, ROOM)?))
