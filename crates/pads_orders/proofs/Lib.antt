@@ -1,3 +1,4 @@
 pub mod Folding
+pub mod Pieces
 pub mod TakenApart
 pub mod Values

@@ -3,7 +3,7 @@ use Rattle.std.proofs.Common.{◌≡◌, ℕ, ◌≤◌, ◌<◌, true, false, n
 use Rattle.std.proofs.lemmas.Bool.{lt-ltb}
 use Rattle.std.specs.List.{list_any}
 use Rattle.pads_orders.specs.Options.{values, behind, arguments, is_option, once}
-use Rattle.pads_orders.specs.Orders.{name_in, only}
+use Rattle.pads_orders.specs.Orders.{name_in}
 
 some_there : (xs : List (List ℕ)) (x : List ℕ) → slice_get xs 0 ≡ Some x → 0 < length xs
 some_there [] x h = cc
@@ -48,34 +48,6 @@ once_again usual (v ∷ w ∷ given) many = refl
 -- an option is no argument
 pub option_passed : (words more : List (List ℕ)) (word : List ℕ) → words ≡ word ∷ more → is_option word ≡ true → arguments more ≡ arguments words
 option_passed words more word whole is = rw (whole, is) refl
-
-pub no_more : (words : List (List ℕ)) → list_any (λ word. not (is_option word)) words ≡ false → arguments words ≡ []
-no_more [] none = refl
-no_more (word ∷ words) none = elim (is_option word) as (λ b. is_option word ≡ b → arguments (word ∷ words) ≡ []) [
-  | true ↦ λ e. rw e (no_more words (rw e at none))
-  | false ↦ λ e. let broken : true ≡ false = rw e at none in cc
-] refl
-
-pub some_more : (words : List (List ℕ)) → list_any (λ word. not (is_option word)) words ≡ true → (first : List ℕ) × (more : List (List ℕ)) × (arguments words ≡ first ∷ more)
-some_more [] some = cc
-some_more (word ∷ words) some = elim (is_option word) as (λ b. is_option word ≡ b → (first : List ℕ) × (more : List (List ℕ)) × (arguments (word ∷ words) ≡ first ∷ more)) [
-  | true ↦ λ e. let found = some_more words (rw e at some) in (found.0, found.1, rw e found.2)
-  | false ↦ λ e. (word, arguments words, rw e refl)
-] refl
-
--- the only argument
-pub only_one : (words more : List (List ℕ)) (word : List ℕ) → words ≡ word ∷ more → is_option word ≡ false → arguments more ≡ [] → only (arguments words) ≡ Some word
-only_one words more word whole is none = rw (whole, is, none) refl
-
-several : (word : List ℕ) (others : List (List ℕ)) (first : List ℕ) (more : List (List ℕ)) → others ≡ first ∷ more → only (word ∷ others) ≡ None
-several word others first more e = rw e refl
-
-pub only_again : (words more : List (List ℕ)) (word : List ℕ) → words ≡ word ∷ more → is_option word ≡ false
-    → list_any (λ w. not (is_option w)) more ≡ true → only (arguments words) ≡ None
-only_again words more word whole is some =
-    let found = some_more more some in
-    let all : arguments words ≡ word ∷ arguments more = rw (whole, is) refl in
-    rw all (several word (arguments more) found.0 found.1 found.2)
 
 -- a name isn't empty
 pub named : (word : List ℕ) → 0 < length word → name_in word ≡ Some word

@@ -5,6 +5,7 @@ use Rattle.std.specs.List.{list_all, list_any}
 use Rattle.std.specs.Option.{is_some}
 use Rattle.std.specs.Str.{bytes_eq}
 use Rattle.pads_frame.specs.Fits.{FitsLimit}
+use Rattle.pads_modes.specs.declared.mask.Mask.{Mask}
 use Rattle.pads_orders.specs.declared.order.Command.{Command}
 use Rattle.pads_orders.specs.declared.order.Command.TheVariants as command
 use Rattle.pads_orders.specs.declared.order.Cutting.{Cutting}
@@ -12,13 +13,16 @@ use Rattle.pads_orders.specs.declared.order.OptionName.{OptionName}
 use Rattle.pads_orders.specs.declared.order.OptionName.TheVariants as option
 use Rattle.pads_orders.specs.declared.order.Order.{Order}
 use Rattle.pads_orders.specs.declared.order.Order.TheVariants as order
+use Rattle.pads_orders.specs.declared.order.Question.{Question}
 use Rattle.pads_orders.specs.declared.order.Settings.{Settings}
+use Rattle.pads_orders.specs.Masks.{mask_of}
 use Rattle.pads_orders.specs.Numbers.{count_to}
 use Rattle.pads_orders.specs.Options.{is_option, arguments, behind, values, once, coding_of, max_of, records_of, greatest_max}
 
 -- how each option begins
 abbrev pub beginning : OptionName → List ℕ
 beginning option.Coding = codes "--coding="
+beginning option.Mask = codes "--mask="
 beginning option.Max = codes "--max="
 beginning option.Records = codes "--records="
 beginning option.Top = codes "--top="
@@ -26,6 +30,7 @@ beginning option.Top = codes "--top="
 -- the value that it has where it isn't given
 abbrev pub usual : OptionName → List ℕ
 usual option.Coding = codes "ascii"
+usual option.Mask = codes "both"
 usual option.Max = codes "1048576"
 usual option.Records = codes "nl"
 usual option.Top = codes "10"
@@ -45,7 +50,7 @@ setting name read words = given (value_in name words) read
 abbrev pub greatest_top : ℕ
 greatest_top = 1000
 
--- what the value of each option comes to
+-- what the value of each option comes to but for the mask
 abbrev pub settings_in : List (List ℕ) → Option Settings
 settings_in words =
     given (setting option.Coding coding_of words) (λ coding.
@@ -54,12 +59,17 @@ settings_in words =
     given (setting option.Top (count_to greatest_top) words) (λ top.
     Some (record { coding = coding; cutting = record { discipline = discipline; max = max }; top = top })))))
 
+-- the mask
+abbrev pub mask_in : List (List ℕ) → Option Mask
+mask_in words = setting option.Mask mask_of words
+
 -- the options that each command takes
 abbrev pub options_of : Command → List OptionName
 options_of command.Check = option.Coding ∷ []
-options_of command.Parse = option.Coding ∷ option.Max ∷ option.Records ∷ []
+options_of command.Parse = option.Coding ∷ option.Mask ∷ option.Max ∷ option.Records ∷ []
 options_of command.Print = option.Coding ∷ option.Max ∷ option.Records ∷ []
-options_of command.Summary = option.Coding ∷ option.Max ∷ option.Records ∷ option.Top ∷ []
+options_of command.Query = option.Coding ∷ option.Mask ∷ option.Max ∷ option.Records ∷ []
+options_of command.Summary = option.Coding ∷ option.Mask ∷ option.Max ∷ option.Records ∷ option.Top ∷ []
 options_of command.Selftest = []
 
 -- the command of this name
@@ -69,6 +79,7 @@ command_of name =
     else if bytes_eq name (codes "parse") then Some command.Parse
     else if bytes_eq name (codes "print") then Some command.Print
     else if bytes_eq name (codes "summary") then Some command.Summary
+    else if bytes_eq name (codes "query") then Some command.Query
     else if bytes_eq name (codes "selftest") then Some command.Selftest
     else None
 
@@ -78,13 +89,26 @@ only [] = None
 only (word ∷ []) = Some word
 only (word ∷ other ∷ more) = None
 
--- It names a description's file, and so isn't empty.
+-- The name of a description's file isn't empty.
 abbrev pub name_in : List ℕ → Option (List ℕ)
 name_in [] = None
 name_in (letter ∷ name) = Some (letter ∷ name)
 
 abbrev pub description_of : List (List ℕ) → Option (List ℕ)
 description_of arguments = given (only arguments) name_in
+
+-- A file and a path, which aren't empty.
+abbrev pub question : (description path : List ℕ) → Option (List ℕ) → Option Question
+question description path filter =
+    given (name_in description) (λ description. option_map (λ path. record { description = description; path = path; filter = filter }) (name_in path))
+
+-- what a query asks: a description's file, a path and maybe a filter
+abbrev pub question_of : List (List ℕ) → Option Question
+question_of [] = None
+question_of (description ∷ []) = None
+question_of (description ∷ path ∷ []) = question description path None
+question_of (description ∷ path ∷ filter ∷ []) = question description path (Some filter)
+question_of (description ∷ path ∷ filter ∷ other ∷ more) = None
 
 -- the most records that are made for a self-test
 abbrev pub greatest_test : ℕ
@@ -95,12 +119,13 @@ abbrev pub records_asked : List (List ℕ) → Option ℕ
 records_asked arguments = given (only arguments) (count_to greatest_test)
 
 -- the order that a command is with these arguments and options
-abbrev pub order_with : Command → List (List ℕ) → Settings → Option Order
-order_with command.Check arguments settings = option_map (λ description. order.Check description settings) (description_of arguments)
-order_with command.Parse arguments settings = option_map (λ description. order.Parse description settings) (description_of arguments)
-order_with command.Print arguments settings = option_map (λ description. order.Print description settings) (description_of arguments)
-order_with command.Summary arguments settings = option_map (λ description. order.Summary description settings) (description_of arguments)
-order_with command.Selftest arguments settings = option_map (λ records. order.Selftest records settings) (records_asked arguments)
+abbrev pub order_with : Command → List (List ℕ) → Settings → Mask → Option Order
+order_with command.Check arguments settings mask = option_map (λ description. order.Check description settings) (description_of arguments)
+order_with command.Parse arguments settings mask = option_map (λ description. order.Parse description settings mask) (description_of arguments)
+order_with command.Print arguments settings mask = option_map (λ description. order.Print description settings) (description_of arguments)
+order_with command.Summary arguments settings mask = option_map (λ description. order.Summary description settings mask) (description_of arguments)
+order_with command.Query arguments settings mask = option_map (λ question. order.Query question settings mask) (question_of arguments)
+order_with command.Selftest arguments settings mask = option_map (λ records. order.Selftest records settings) (records_asked arguments)
 
 -- A word is no option, or one of these.
 abbrev pub is_one_of : List OptionName → List ℕ → Bool
@@ -110,7 +135,7 @@ is_one_of names word = not (is_option word) || list_any (λ name. is_some (behin
 abbrev pub has_only : List OptionName → List (List ℕ) → Bool
 has_only names words = list_all (is_one_of names) words
 
--- the values of the options behind a command, each of which it takes
+-- what the options behind a command come to, each of which it takes
 abbrev pub settings_for : Command → List (List ℕ) → Option Settings
 settings_for asked words = if has_only (options_of asked) words then settings_in words else None
 
@@ -119,7 +144,8 @@ order_of [] = None
 order_of (name ∷ words) =
     given (command_of name) (λ asked.
     given (settings_for asked words) (λ settings.
-    order_with asked (arguments words) settings))
+    given (mask_in words) (λ mask.
+    order_with asked (arguments words) settings mask)))
 
 -- A record has one byte at least and 16,777,216 at most, and a block isn't longer than a record may be.
 pub record IsWithinLimits (cutting : Cutting) : Type 0 where
@@ -130,7 +156,8 @@ pub record IsWithinLimits (cutting : Cutting) : Type 0 where
 -- What each order keeps.
 abbrev pub KeepsLimits : Order → Type 0
 KeepsLimits (order.Check description settings) = IsWithinLimits settings.cutting
-KeepsLimits (order.Parse description settings) = IsWithinLimits settings.cutting
+KeepsLimits (order.Parse description settings mask) = IsWithinLimits settings.cutting
 KeepsLimits (order.Print description settings) = IsWithinLimits settings.cutting
-KeepsLimits (order.Summary description settings) = IsWithinLimits settings.cutting
+KeepsLimits (order.Summary description settings mask) = IsWithinLimits settings.cutting
+KeepsLimits (order.Query question settings mask) = IsWithinLimits settings.cutting
 KeepsLimits (order.Selftest records settings) = IsWithinLimits settings.cutting × (records ≤ greatest_test)

@@ -1,13 +1,15 @@
 //! The words of the command line: which are an order, and with which options.
 #![tactic(auto)]
 
+mod mask;
+mod name;
 mod number;
 mod option;
 mod order;
 mod reading;
 mod word;
 
-pub use order::{Cutting, Order, Settings, Usage};
+pub use order::{Cutting, Order, Question, Settings, Usage};
 pub use reading::read_order;
 pub use word::{Word, Words};
 

@@ -1,14 +1,17 @@
 ghost use Rattle.std.specs.Prelude.{◌≡◌, ◌↔◌, Some, None, Err, IfOk, IfSome};
+ghost use Rattle.pads_orders.specs.MaskTexts.{mask_told};
 ghost use Rattle.pads_orders.specs.Options.{arguments};
 ghost use Rattle.pads_orders.specs.Orders.{beginning, usual, settings_in, options_of, command_of, order_with, IsWithinLimits, KeepsLimits};
 ghost use Rattle.pads_value.specs.declared.memory.Refusal.TheVariants as refusal;
 
+use crate::mask::MaskText;
 use crate::number::{count_to, number_to};
 use crate::option::{coding_of, records_of, value_in};
-use crate::reading::{description, records_asked};
+use crate::reading::{description, question, records_asked};
 use crate::word::Word;
 use pads_code::Coding;
 use pads_frame::Discipline;
+use pads_modes::Mask;
 use pads_value::Refusal;
 use std::alloc::Global;
 
@@ -28,6 +31,14 @@ pub struct Settings {
     pub top: u32,
 }
 
+/// What a query asks of the records that are read by the description in this file.
+#[derive(Drop)]
+pub struct Question {
+    pub description: Word,
+    pub path: Word,
+    pub filter: Option<Word>,
+}
+
 /// What the command line asks for.
 #[derive(Drop)]
 pub enum Order {
@@ -40,6 +51,7 @@ pub enum Order {
     Parse {
         description: Word,
         settings: Settings,
+        mask: Mask,
     },
     /// The canonical bytes of each clean record that is read by the description in this file.
     Print {
@@ -50,6 +62,13 @@ pub enum Order {
     Summary {
         description: Word,
         settings: Settings,
+        mask: Mask,
+    },
+    /// One line for each node of a record that a path names and a filter keeps.
+    Query {
+        question: Question,
+        settings: Settings,
+        mask: Mask,
     },
     /// What becomes of so many records that are made for this, at most 1,000,000.
     Selftest {
@@ -66,6 +85,7 @@ pub struct Usage;
 #[derive(Clone, Copy, Debug, PartialEq, Eq)]
 pub(crate) enum OptionName {
     Coding,
+    Mask,
     Max,
     Records,
     Top,
@@ -95,6 +115,7 @@ impl OptionName {
     {
         match self {
             OptionName::Coding => Line::new(b"--coding=", b"ascii"),
+            OptionName::Mask => Line::new(b"--mask=", b"both"),
             OptionName::Max => Line::new(b"--max=", b"1048576"),
             OptionName::Records => Line::new(b"--records=", b"nl"),
             OptionName::Top => Line::new(b"--top=", b"10"),
@@ -102,7 +123,7 @@ impl OptionName {
     }
 }
 
-/// What the value of each option comes to.
+/// What the value of each option comes to but for the mask.
 pub(crate) fn settings_in(words: &[Word]) -> Option<Settings>
     ensures settings { result ≡ settings_in words.now }
     ensures limits { IfSome result (λ settings. IsWithinLimits settings.cutting) }
@@ -125,6 +146,7 @@ pub(crate) enum Command {
     Parse,
     Print,
     Summary,
+    Query,
     Selftest,
 }
 
@@ -141,6 +163,8 @@ impl Command {
             Some(Command::Print)
         } else if name == "summary" {
             Some(Command::Summary)
+        } else if name == "query" {
+            Some(Command::Query)
         } else if name == "selftest" {
             Some(Command::Selftest)
         } else {
@@ -154,11 +178,16 @@ impl Command {
     {
         match self {
             Command::Check => &[OptionName::Coding],
-            Command::Parse | Command::Print => {
-                &[OptionName::Coding, OptionName::Max, OptionName::Records]
-            }
+            Command::Parse | Command::Query => &[
+                OptionName::Coding,
+                OptionName::Mask,
+                OptionName::Max,
+                OptionName::Records,
+            ],
+            Command::Print => &[OptionName::Coding, OptionName::Max, OptionName::Records],
             Command::Summary => &[
                 OptionName::Coding,
+                OptionName::Mask,
                 OptionName::Max,
                 OptionName::Records,
                 OptionName::Top,
@@ -174,10 +203,11 @@ impl Command {
         alloc: Global,
         words: &[Word],
         settings: Settings,
+        mask: MaskText<'_>,
     ) -> Result<Order, Refusal<Usage>>
         requires limits { IsWithinLimits settings.cutting }
-        ensures order { IfOk result (λ order. order_with self (arguments words.now) settings ≡ Some order) }
-        ensures usage { (result ≡ Err (refusal.Fault record {})) ↔ (order_with self (arguments words.now) settings ≡ None) }
+        ensures order { IfOk result (λ order. order_with self (arguments words.now) settings (mask_told mask.entry) ≡ Some order) }
+        ensures usage { (result ≡ Err (refusal.Fault record {})) ↔ (order_with self (arguments words.now) settings (mask_told mask.entry) ≡ None) }
         ensures limits { IfOk result KeepsLimits }
     {
         match self {
@@ -188,6 +218,7 @@ impl Command {
             Command::Parse => Ok(Order::Parse {
                 description: description(alloc, words)?,
                 settings,
+                mask: mask.mask(alloc)?,
             }),
             Command::Print => Ok(Order::Print {
                 description: description(alloc, words)?,
@@ -196,6 +227,12 @@ impl Command {
             Command::Summary => Ok(Order::Summary {
                 description: description(alloc, words)?,
                 settings,
+                mask: mask.mask(alloc)?,
+            }),
+            Command::Query => Ok(Order::Query {
+                question: question(alloc, words)?,
+                settings,
+                mask: mask.mask(alloc)?,
             }),
             Command::Selftest => match records_asked(words) {
                 Some(records) => Ok(Order::Selftest { records, settings }),

@@ -1,39 +1,49 @@
-ghost use Rattle.std.specs.Prelude.{◌≡◌, ◌↔◌, ◌≤◌, Some, None, Err, IfOk, IfSome, option_copied, not};
+ghost use Rattle.std.specs.Prelude.{◌≡◌, ◌↔◌, ◌≤◌, [], ◌∷◌, Some, None, Err, IfOk, IfSome, IfNone, option_copied, option_map};
 ghost use Rattle.std.specs.List.{list_any};
 ghost use Rattle.std.specs.Option.{is_some};
-ghost use Rattle.pads_orders.specs.Options.{arguments, is_option, behind};
-ghost use Rattle.pads_orders.specs.Orders.{beginning, description_of, is_one_of, only, records_asked as records_of_order, has_only, settings_for, order_of, IsWithinLimits, KeepsLimits};
+ghost use Rattle.pads_orders.specs.Options.{arguments, behind};
+ghost use Rattle.pads_orders.specs.Orders.{beginning, description_of, is_one_of, only, question as question_by, question_of, records_asked as records_of_order, has_only, settings_for, order_of, IsWithinLimits, KeepsLimits};
+ghost use Rattle.pads_orders.specs.Questions.{question_told};
 ghost use Rattle.pads_value.specs.declared.memory.Refusal.TheVariants as refusal;
 
+use crate::mask::mask_in;
 use crate::number::count_to;
 use crate::option::{behind, is_option};
-use crate::order::{Command, OptionName, Order, Settings, Usage, settings_in};
+use crate::order::{Command, OptionName, Order, Question, Settings, Usage, settings_in};
 use crate::word::{Word, Words};
-use pads_value::Refusal;
+use pads_value::{Memory, Refusal};
 use std::alloc::Global;
 
-/// Whether there is a word that is no option.
-fn has_argument(words: &[Word]) -> bool
-    ensures any { result ≡ list_any (λ word. not (is_option word)) words.now }
+/// The first word that is no option, and the words behind it.
+#[derive(Clone, Copy)]
+struct Argument<'w> {
+    word: &'w Word,
+    behind: &'w [Word],
+}
+
+fn first_argument<'w>(words: &'w [Word]) -> Option<Argument<'w>>
+    ensures first { IfSome result (λ first. arguments words.now ≡ first.word.now ∷ arguments first.behind.now) }
+    ensures none { IfNone result (arguments words.now ≡ []) }
 {
-    words.iter().any(|word| !is_option(word))
+    let mut rest = words;
+    'words: while let [word, more @ ..] = rest {
+        if !is_option(word) {
+            return Some(Argument { word, behind: more });
+        }
+        rest = more;
+    }
+    None
 }
 
 /// The one word that is no option.
 fn only_argument(words: &[Word]) -> Option<&Word>
     ensures only { option_copied result ≡ only (arguments words.now) }
 {
-    let mut rest = words;
-    'words: while let [word, more @ ..] = rest {
-        if !is_option(word) {
-            if has_argument(more) {
-                return None;
-            }
-            return Some(word);
-        }
-        rest = more;
+    let first = first_argument(words)?;
+    match first_argument(first.behind) {
+        None => Some(first.word),
+        Some(_) => None,
     }
-    None
 }
 
 /// The one argument, where it isn't empty.
@@ -56,6 +66,72 @@ pub(crate) fn description(alloc: Global, words: &[Word]) -> Result<Word, Refusal
         return Err(Refusal::Fault(Usage));
     };
     Ok(name.copy(alloc)?)
+}
+
+/// What a query asks, before memory is taken for it.
+#[derive(Clone, Copy)]
+struct QuestionWords<'w> {
+    description: &'w Word,
+    path: &'w Word,
+    filter: Option<&'w Word>,
+}
+
+/// What is asked by these arguments.
+fn asked<'w>(
+    description: &'w Word,
+    path: &'w Word,
+    filter: Option<&'w Word>,
+) -> Option<QuestionWords<'w>>
+    ensures asked { option_map question_told result ≡ question_by description.now path.now (option_copied filter.entry) }
+{
+    if description.as_str().is_empty() || path.as_str().is_empty() {
+        return None;
+    }
+    Some(QuestionWords {
+        description,
+        path,
+        filter,
+    })
+}
+
+/// What the arguments of a query ask.
+fn asked_in<'w>(words: &'w [Word]) -> Option<QuestionWords<'w>>
+    ensures asked { option_map question_told result ≡ question_of (arguments words.now) }
+{
+    let description = first_argument(words)?;
+    let path = first_argument(description.behind)?;
+    let Some(filter) = first_argument(path.behind) else {
+        return asked(description.word, path.word, None);
+    };
+    match first_argument(filter.behind) {
+        None => asked(description.word, path.word, Some(filter.word)),
+        Some(_) => None,
+    }
+}
+
+/// A word in memory of its own, where there is one.
+fn copied(alloc: Global, word: Option<&Word>) -> Result<Option<Word>, Memory>
+    ensures same { IfOk result (λ copied. copied ≡ option_copied word.entry) }
+{
+    match word {
+        None => Ok(None),
+        Some(word) => Ok(Some(word.copy(alloc)?)),
+    }
+}
+
+/// What the arguments of a query ask, in memory of its own.
+pub(crate) fn question(alloc: Global, words: &[Word]) -> Result<Question, Refusal<Usage>>
+    ensures question { IfOk result (λ question. question_of (arguments words.now) ≡ Some question) }
+    ensures usage { (result ≡ Err (refusal.Fault record {})) ↔ (question_of (arguments words.now) ≡ None) }
+{
+    let Some(asked) = asked_in(words) else {
+        return Err(Refusal::Fault(Usage));
+    };
+    Ok(Question {
+        description: asked.description.copy(alloc)?,
+        path: asked.path.copy(alloc)?,
+        filter: copied(alloc, asked.filter)?,
+    })
 }
 
 /// The one argument, which is the number of records for a self-test.
@@ -125,5 +201,8 @@ pub fn read_order(alloc: Global, words: &Words) -> Result<Order, Refusal<Usage>>
     let Some(settings) = settings_for(command, others) else {
         return Err(Refusal::Fault(Usage));
     };
-    command.order(alloc, others, settings)
+    let Some(mask) = mask_in(others) else {
+        return Err(Refusal::Fault(Usage));
+    };
+    command.order(alloc, others, settings, mask)
 }

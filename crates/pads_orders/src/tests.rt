@@ -1,6 +1,7 @@
 use crate::{Order, Usage, Word, Words, read_order};
 use pads_code::Coding;
 use pads_frame::Discipline;
+use pads_modes::{Mask, Mode};
 use pads_value::{Memory, Refusal};
 use std::alloc::Global;
 use std::process::Abort;
@@ -24,6 +25,7 @@ fn is_parse(order: &Order, wanted: Coding, discipline: Discipline, max: u64) -> 
     let Order::Parse {
         description,
         settings,
+        ..
     } = order
     else {
         return false;
@@ -102,6 +104,74 @@ fn checks(rt: &impl Abort, alloc: Global, line: &str, coding: Coding) -> Result<
         Err(_refusal) => false,
     };
     assert!(rt; checks);
+    Ok(())
+}
+
+/// The mask is that of all declarations, and these named ones behind it.
+fn is_mask(mask: &Mask, all: Mode, named: &[(&[u8], Mode)]) -> bool {
+    let items = mask.named.as_slice();
+    mask.all == all
+        && items.len() == named.len()
+        && items.iter().zip(named).all(|(item, wanted)| item.name.as_slice() == wanted.0
+            && item.mode == wanted.1)
+}
+
+/// The order is `parse` or `summary` with this mask.
+fn is_masked(order: &Order, all: Mode, named: &[(&[u8], Mode)]) -> bool {
+    match order {
+        Order::Parse { mask, .. } | Order::Summary { mask, .. } => is_mask(mask, all, named),
+        _ => false,
+    }
+}
+
+/// The line is `parse` or `summary` with this mask.
+fn masks(
+    rt: &impl Abort,
+    alloc: Global,
+    line: &str,
+    all: Mode,
+    named: &[(&[u8], Mode)],
+) -> Result<(), Fail> {
+    let masks = match read(alloc, line) {
+        Ok(order) => is_masked(&order, all, named),
+        Err(_refusal) => false,
+    };
+    assert!(rt; masks, "another mask");
+    Ok(())
+}
+
+/// Whether a word is this text, where there is one.
+fn is_filter(filter: &Option<Word>, wanted: Option<&str>) -> bool {
+    match (filter, wanted) {
+        (Some(word), Some(wanted)) => word.as_str() == wanted,
+        (None, None) => true,
+        _ => false,
+    }
+}
+
+/// The order is a query of the file `a` with this path and filter.
+fn is_query(order: &Order, path: &str, filter: Option<&str>) -> bool {
+    let Order::Query { question, .. } = order else {
+        return false;
+    };
+    question.description.as_str() == "a"
+        && question.path.as_str() == path
+        && is_filter(&question.filter, filter)
+}
+
+/// The line is a query of the file `a` with this path and filter.
+fn queries(
+    rt: &impl Abort,
+    alloc: Global,
+    line: &str,
+    path: &str,
+    filter: Option<&str>,
+) -> Result<(), Fail> {
+    let queries = match read(alloc, line) {
+        Ok(order) => is_query(&order, path, filter),
+        Err(_refusal) => false,
+    };
+    assert!(rt; queries, "another query");
     Ok(())
 }
 
@@ -310,6 +380,100 @@ fn wrong_disciplines(rt: HostRuntime) -> Result<(), Fail> {
             "parse a --records=term:0g",
             "parse a --records=fixed:",
             "parse a --records=fixed:08",
+        ],
+    )
+}
+
+#[test]
+fn masks_of_all(rt: HostRuntime) -> Result<(), Fail> {
+    masks(&rt, rt.alloc(), "parse a", Mode::Both, &[])?;
+    masks(&rt, rt.alloc(), "parse --mask=both a", Mode::Both, &[])?;
+    masks(&rt, rt.alloc(), "parse a --mask=check", Mode::Check, &[])?;
+    masks(&rt, rt.alloc(), "parse a --mask=set", Mode::Set, &[])?;
+    masks(&rt, rt.alloc(), "summary a --mask=none", Mode::None, &[])
+}
+
+#[test]
+fn masks_of_named_declarations(rt: HostRuntime) -> Result<(), Fail> {
+    masks(
+        &rt,
+        rt.alloc(),
+        "parse a --mask=both,entry_t:check",
+        Mode::Both,
+        &[(b"entry_t", Mode::Check)],
+    )?;
+    masks(
+        &rt,
+        rt.alloc(),
+        "summary --mask=none,_b2:set,both:both,Pip:none a --top=3",
+        Mode::None,
+        &[
+            (b"_b2", Mode::Set),
+            (b"both", Mode::Both),
+            (b"Pip", Mode::None),
+        ],
+    )
+}
+
+#[test]
+fn wrong_masks(rt: HostRuntime) -> Result<(), Fail> {
+    none_are(
+        &rt,
+        rt.alloc(),
+        &[
+            "parse a --mask=",
+            "parse a --mask=Both",
+            "parse a --mask=both,",
+            "parse a --mask=,b:set",
+            "parse a --mask=b:set",
+            "parse a --mask=both,b",
+            "parse a --mask=both,b:",
+            "parse a --mask=both,:set",
+            "parse a --mask=both,b:sets",
+            "parse a --mask=both,b:set:set",
+            "parse a --mask=both,2b:set",
+            "parse a --mask=both,b-c:set",
+            "parse a --mask=both,Pstruct:set",
+            "parse a --mask=both,true:set",
+            "parse a --mask=both,b:set,c:set,b:check",
+            "parse a --mask=both --mask=both",
+            "check a --mask=both",
+            "print a --mask=both",
+            "selftest 3 --mask=both",
+        ],
+    )
+}
+
+#[test]
+fn questions(rt: HostRuntime) -> Result<(), Fail> {
+    queries(&rt, rt.alloc(), "query a y", "y", None)?;
+    queries(
+        &rt,
+        rt.alloc(),
+        "query a $.y[*] it>2",
+        "$.y[*]",
+        Some("it>2"),
+    )?;
+    queries(&rt, rt.alloc(), "query a y ", "y", Some(""))?;
+    queries(
+        &rt,
+        rt.alloc(),
+        "query --mask=set a --max=9 y --records=whole --coding=ebcdic it",
+        "y",
+        Some("it"),
+    )?;
+    none_are(
+        &rt,
+        rt.alloc(),
+        &[
+            "query",
+            "query a",
+            "query a ",
+            "query  y",
+            "query a y it more",
+            "query a y --top=3",
+            "query a y --jobs=2",
+            "query a y --mask=all",
         ],
     )
 }
