@@ -1,0 +1,2 @@
+mod LevelRolls
+mod Scopes
