@@ -1,0 +1,36 @@
+ghost use Rattle.std.specs.Prelude.{◌≡◌, true, IfOk};
+ghost use Rattle.pads_compile.specs.Compiling.{Compiles};
+ghost use Rattle.pads_image.specs.Answers.{StandsFor};
+ghost use Rattle.pads_module.specs.Straight.{all_straight};
+
+use crate::emit::{Code, emit_decls};
+use crate::size::length;
+use pads_image::Image;
+use pads_module::Module;
+use pads_value::Refusal;
+use std::alloc::Global;
+
+/// The most instructions of an image.
+const LONGEST: u64 = 1_048_576;
+
+/// The image would have more instructions than an image may have.
+#[derive(Clone, Copy, Debug, Drop, PartialEq, Eq)]
+pub struct TooLarge {
+    /// How many instructions it would have, or 2^64 - 1 where they are more.
+    pub length: u64,
+}
+
+/// The image of a straight module. `TooLarge` exactly where it would have more than 1,048,576
+/// instructions.
+pub fn compile(alloc: Global, rules: &Module) -> Result<Image, Refusal<TooLarge>>
+    requires straight { all_straight rules.now.decls ≡ true }
+    ensures compiled { Compiles rules.now.decls rules.now.shape result }
+    ensures stands { IfOk result (λ image. StandsFor image.code image.entries image.shape image.need rules.now.decls) }
+{
+    let length = length(rules.decls.as_slice());
+    if length > LONGEST {
+        return Err(Refusal::Fault(TooLarge { length }));
+    }
+    let Code { ops, entries } = emit_decls(alloc, rules.decls.as_slice())?;
+    Ok(Image::new(alloc, ops, entries, rules.shape)?)
+}

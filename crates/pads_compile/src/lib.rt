@@ -1,0 +1,9 @@
+//! Compiling: from the terms of a module to the code of an image.
+#![tactic(auto)]
+
+mod compiling;
+mod emit;
+mod leaf;
+mod size;
+
+pub use compiling::{TooLarge, compile};
