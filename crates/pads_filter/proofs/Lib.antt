@@ -1,2 +1,3 @@
 mod LevelRolls
+mod Rows
 mod Scopes
