@@ -9,6 +9,7 @@ _pads_words() {
     parse) echo 'DESC' ;;
     print) echo 'DESC' ;;
     summary) echo 'DESC' ;;
+    query) echo 'DESC PATH EXPR' ;;
     selftest) echo 'N' ;;
     help) echo 'COMMAND' ;;
     --progress) echo 'ORDER' ;;
@@ -24,9 +25,10 @@ _pads_words() {
 _pads_options() {
   case $1 in
     check) echo '--coding=' ;;
-    parse) echo '--records= --coding= --max=' ;;
+    parse) echo '--records= --coding= --max= --mask=' ;;
     print) echo '--records= --coding= --max=' ;;
-    summary) echo '--records= --coding= --max= --top=' ;;
+    summary) echo '--records= --coding= --max= --mask= --top=' ;;
+    query) echo '--records= --coding= --max= --mask=' ;;
     selftest) echo '' ;;
   esac
 }
@@ -36,6 +38,7 @@ _pads_values() {
   case $1 in
     --records) printf '%s\n' nl term: fixed: rdw whole ;;
     --coding) printf '%s\n' ascii ebcdic ;;
+    --mask) printf '%s\n' both check set none ;;
   esac
 }
 
@@ -62,9 +65,9 @@ _pads() {
   COMPREPLY=()
   if [ "${tokens[1]}" = --progress ] && [ "$last" -gt 1 ]; then first=2; fi
   if [ "$last" -eq 1 ]; then
-    _pads_among "$token" check parse print summary selftest --help help --version --progress explain faults csv --install --uninstall
+    _pads_among "$token" check parse print summary query selftest --help help --version --progress explain faults csv --install --uninstall
   elif [ "$last" -eq "$first" ]; then
-    _pads_among "$token" check parse print summary selftest
+    _pads_among "$token" check parse print summary query selftest
   elif [[ $token = --*=* ]]; then
     option=${token%%=*}
     mapfile -t options < <(_pads_values "$option")
@@ -84,7 +87,7 @@ _pads() {
     case ${words[count]-} in
       DESC) _pads_files .pads "$typed" ;;
       FOLDER) compopt -o filenames; mapfile -t COMPREPLY < <(compgen -d -- "$typed") ;;
-      COMMAND) _pads_among "$typed" check parse print summary selftest --help help --version --progress explain faults csv --install --uninstall ;;
+      COMMAND) _pads_among "$typed" check parse print summary query selftest --help help --version --progress explain faults csv --install --uninstall ;;
     esac
   fi
 }

@@ -4,9 +4,12 @@ pub mod Told
 pub mod Texts
 pub mod Records
 pub mod Kept
+pub mod Described
 pub mod Tested
 pub mod Alike
+pub mod Masked
 pub mod Promises
+pub mod Queries
 pub mod Statuses
 pub mod Sums
 pub mod Summaries

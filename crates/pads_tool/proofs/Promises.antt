@@ -7,6 +7,8 @@ use Rattle.pads_describe.proofs.AnswerLaws.{not_both}
 use Rattle.pads_describe.specs.Describing.{Describes}
 use Rattle.pads_describe.specs.Trees.{IsAccepted}
 use Rattle.pads_describe.specs.Verdicts.{IsRefused}
+use Rattle.pads_code.specs.declared.Coding.{Coding}
+use Rattle.pads_orders.specs.declared.order.Cutting.{Cutting}
 use Rattle.pads_orders.specs.declared.order.Order.{Order}
 use Rattle.pads_orders.specs.declared.order.Order.TheVariants as order
 use Rattle.pads_orders.specs.declared.order.Settings.{Settings}
@@ -22,12 +24,15 @@ use Rattle.pads_orders.specs.Orders.{IsWithinLimits}
 use Rattle.pads_tool.proofs.Kept.{all-kept}
 use Rattle.pads_tool.specs.Describing.{Description, described, frames_of, is_clean, lines}
 use Rattle.pads_tool.specs.Printing.{IsKept, prints}
+use Rattle.pads_tool.specs.Querying.{answers}
 use Rattle.pads_tool.specs.Reading.{RecordsGive, WroteAll, WroteMost, rows_in}
 use Rattle.pads_tool.specs.Promises.{Promise, Seen, seen, Counts, counts, Keeps, checking, printing, reading, testing, promise_of}
 use Rattle.pads_tool.specs.Running.{Ordered}
 use Rattle.pads_tool.specs.Telling.{Tells}
 use Rattle.pads_tool.specs.Testing.{all_clean, selftest_line}
-use Rattle.pads_tool.specs.Texts.{IsDescribedIn, IsRefusedIn, StopsBefore}
+use Rattle.pads_tool.specs.Masking.{Preparation, describing}
+use Rattle.pads_tool.specs.Texts.{IsRefusedFor, IsRefusedIn, StopsBefore}
+use Rattle.pads_tool.specs.declared.reason.Reason.{Reason}
 use Rattle.pads_tool.specs.declared.reason.Reason.TheVariants as reason
 use Rattle.pads_tool.specs.declared.ending.Ending.{Ending}
 use Rattle.pads_tool.specs.declared.ending.Ending.TheVariants as ending
@@ -40,12 +45,25 @@ known-at P None x e h = cc
 pub not-refused : (content : Option (List ℕ)) (text : List ℕ) (tree : Ast) (v : Verdict) → content ≡ Some text → IsAccepted text tree → IsRefusedIn content v → ⊥
 not-refused content text tree v is accepted refused = not_both text tree v accepted (known-at (λ text. IsRefused text v) content text is refused)
 
--- The run of a command ends before the description in a file is there.
-pub stopped : (p : Promise) (s : Seen) (n : Counts) (Refuses : Verdict → Type 0) (e : Ending) → p.reads_files ≡ true
-    → ((v : Verdict) → Refuses v → p.refused_for s.content (reason.Description v) × (p.can_finish s.content s.left → ⊥))
+-- It is refused for no reason.
+not-refused-for : (content : Option (List ℕ)) (text : List ℕ) (tree : Ast) (why : Reason) → content ≡ Some text → IsAccepted text tree → IsRefusedFor content why → ⊥
+not-refused-for content text tree (reason.Description v) is accepted refused = not-refused content text tree v is accepted refused
+not-refused-for content text tree (reason.MaskItem item) is accepted refused = absurd refused
+not-refused-for content text tree (reason.Question fault) is accepted refused = absurd refused
+not-refused-for content text tree reason.SummaryTooLarge is accepted refused = absurd refused
+
+-- Where there is a module, there is no reason that there is none.
+abbrev pub Excludes : Preparation → Type 0
+Excludes prepared = (content : Option (List ℕ)) (why : Reason) → prepared.can_make content → prepared.refused_for content why → ⊥
+
+pub describing-excludes : (coding : Coding) → Excludes (describing coding)
+describing-excludes coding content why can refused = not-refused-for content can.0 can.1 why can.2 can.3 refused
+
+-- The run of a command ends before its module is there.
+pub stopped : (p : Promise) (s : Seen) (n : Counts) (Refuses : Reason → Type 0) (e : Ending) → p.reads_files ≡ true
+    → ((why : Reason) → Refuses why → p.refused_for s.content why × (p.can_finish s.content s.left → ⊥))
     → p.stops_early s → s.out' ≡ s.out → StopsBefore Refuses n.files n.files' e → Keeps p s n e
-stopped p s n Refuses (ending.Refused (reason.Description verdict)) reads refused early same h = ((refused verdict h).0, same, (refused verdict h).1)
-stopped p s n Refuses (ending.Refused reason.SummaryTooLarge) reads refused early same h = absurd h
+stopped p s n Refuses (ending.Refused why) reads refused early same h = ((refused why h).0, same, (refused why h).1)
 stopped p s n Refuses ending.FileFault reads refused early same h = (reads, h, same)
 stopped p s n Refuses ending.Memory reads refused early same h = early
 stopped p s n Refuses ending.Done reads refused early same h = absurd h
@@ -57,22 +75,23 @@ stopped p s n Refuses ending.TooLong reads refused early same h = absurd h
 stopped p s n Refuses ending.Limit reads refused early same h = absurd h
 
 pub check-stopped : (name : List ℕ) (content : List ℕ → Option (List ℕ)) (left left' out noted noted' : Option (List ℕ)) (n : Counts) (e : Ending)
-    → StopsBefore (IsRefusedIn (content name)) n.files n.files' e → Keeps (checking name) (seen content left left' out out noted noted') n e
+    → StopsBefore (IsRefusedFor (content name)) n.files n.files' e → Keeps (checking name) (seen content left left' out out noted noted') n e
 check-stopped name content left left' out noted noted' n e h =
-    stopped (checking name) (seen content left left' out out noted noted') n (IsRefusedIn (content name)) e refl
-    (λ v refused. (refused, λ can. not-refused (content name) can.0 can.1 v can.2 can.3 refused)) refl refl h
+    stopped (checking name) (seen content left left' out out noted noted') n (IsRefusedFor (content name)) e refl
+    (λ why refused. (refused, λ can. not-refused-for (content name) can.0 can.1 why can.2 can.3 refused)) refl refl h
 
-pub reading-stopped : (work : Description → Work Row Bool) (noting : Bool) (name : List ℕ) (settings : Settings) (content : List ℕ → Option (List ℕ)) (left out noted : Option (List ℕ)) (n : Counts) (e : Ending)
-    → StopsBefore (IsRefusedIn (content name)) n.files n.files' e → Keeps (reading work noting name settings) (seen content left left out out noted noted) n e
-reading-stopped work noting name settings content left out noted n e h =
-    stopped (reading work noting name settings) (seen content left left out out noted noted) n (IsRefusedIn (content name)) e refl
-    (λ v refused. (refused, λ can. not-refused (content name) can.0 can.1 v can.3 can.4 refused)) (inl (refl, refl, refl)) refl h
+pub reading-stopped : (prepared : Preparation) (work : Description → Work Row Bool) (noting : Bool) (name : List ℕ) (cutting : Cutting) (content : List ℕ → Option (List ℕ)) (left out noted : Option (List ℕ)) (n : Counts)
+    (e : Ending) → Excludes prepared → StopsBefore (prepared.refused_for (content name)) n.files n.files' e
+    → Keeps (reading prepared work noting name cutting) (seen content left left out out noted noted) n e
+reading-stopped prepared work noting name cutting content left out noted n e excludes h =
+    stopped (reading prepared work noting name cutting) (seen content left left out out noted noted) n (prepared.refused_for (content name)) e refl
+    (λ why refused. (refused, λ can. excludes (content name) why can.0 refused)) (inl (refl, refl, refl)) refl h
 
 pub printing-stopped : (name : List ℕ) (settings : Settings) (content : List ℕ → Option (List ℕ)) (left out noted : Option (List ℕ)) (n : Counts) (e : Ending)
-    → StopsBefore (IsRefusedIn (content name)) n.files n.files' e → Keeps (printing name settings) (seen content left left out out noted noted) n e
+    → StopsBefore (IsRefusedFor (content name)) n.files n.files' e → Keeps (printing name settings) (seen content left left out out noted noted) n e
 printing-stopped name settings content left out noted n e h =
-    stopped (printing name settings) (seen content left left out out noted noted) n (IsRefusedIn (content name)) e refl
-    (λ v refused. (refused, λ can. not-refused (content name) can.0 can.1 v can.3 can.4 refused)) (inl (refl, refl, refl)) refl h
+    stopped (printing name settings) (seen content left left out out noted noted) n (IsRefusedFor (content name)) e refl
+    (λ why refused. (refused, λ can. describing-excludes settings.coding (content name) why can.0 refused)) (inl (refl, refl, refl)) refl h
 
 module _ (work : Description → Work Row Bool) (left left' o o' n n' : Option (List ℕ)) where
   -- an input of at most 2^62 bytes isn't longer
@@ -81,23 +100,23 @@ module _ (work : Description → Work Row Bool) (left left' o o' n n' : Option (
       let long = known-at (WroteMost work left' o o' n n' d) left input is h in
       omega (arith, fits, long.2, within input left' long.0 long.1)
 
-  -- By a description that is there, an input was read.
-  pub reading-read : (noting : Bool) (name : List ℕ) (settings : Settings) (content : List ℕ → Option (List ℕ)) (files files' source source' out out' notes notes' : ℕ) (made : Contents)
-      (e : Ending) → IsDescribedIn (content name) settings.coding made
-      → RecordsGive work noting (described made settings.cutting) left left' o o' n n' source source' out out' notes notes' e
-      → Keeps (reading work noting name settings) (seen content left left' o o' n n') (counts files files' source source' out out' notes notes') e
-  reading-read noting name settings content files files' source source' out out' notes notes' made ending.Done h p = ((made, h, p), tt)
-  reading-read noting name settings content files files' source source' out out' notes notes' made ending.Dirty h p = ((made, h, p), tt)
-  reading-read noting name settings content files files' source source' out out' notes notes' made ending.ReadFault h p = (p.0, (made, h, p.1))
-  reading-read noting name settings content files files' source source' out out' notes notes' made ending.WriteFault h p =
+  -- By a module that is there, an input was read.
+  pub reading-read : (prepared : Preparation) (noting : Bool) (name : List ℕ) (cutting : Cutting) (content : List ℕ → Option (List ℕ)) (files files' source source' out out' notes notes' : ℕ) (made : Contents)
+      (e : Ending) → prepared.is_made (content name) made
+      → RecordsGive work noting (described made cutting) left left' o o' n n' source source' out out' notes notes' e
+      → Keeps (reading prepared work noting name cutting) (seen content left left' o o' n n') (counts files files' source source' out out' notes notes') e
+  reading-read prepared noting name cutting content files files' source source' out out' notes notes' made ending.Done h p = ((made, h, p), tt)
+  reading-read prepared noting name cutting content files files' source source' out out' notes notes' made ending.Dirty h p = ((made, h, p), tt)
+  reading-read prepared noting name cutting content files files' source source' out out' notes notes' made ending.ReadFault h p = (p.0, (made, h, p.1))
+  reading-read prepared noting name cutting content files files' source source' out out' notes notes' made ending.WriteFault h p =
       (p.0, (made, h, if-known _ _ left (λ input q. q.0) p.1), (made, h, if-known _ _ left (λ input q. q.1) p.1))
-  reading-read noting name settings content files files' source source' out out' notes notes' made ending.TooLong h p =
-      ((made, h, p), λ can. not-too-long (described made settings.cutting) can.2 can.5 can.6 p)
-  reading-read noting name settings content files files' source source' out out' notes notes' made ending.Memory h p = inr (made, h, p)
-  reading-read noting name settings content files files' source source' out out' notes notes' made ending.Usage h p = absurd p
-  reading-read noting name settings content files files' source source' out out' notes notes' made (ending.Refused verdict) h p = absurd p
-  reading-read noting name settings content files files' source source' out out' notes notes' made ending.FileFault h p = absurd p
-  reading-read noting name settings content files files' source source' out out' notes notes' made ending.Limit h p = absurd p
+  reading-read prepared noting name cutting content files files' source source' out out' notes notes' made ending.TooLong h p =
+      ((made, h, p), λ can. not-too-long (described made cutting) can.1 can.2 can.3 p)
+  reading-read prepared noting name cutting content files files' source source' out out' notes notes' made ending.Memory h p = inr (made, h, p)
+  reading-read prepared noting name cutting content files files' source source' out out' notes notes' made ending.Usage h p = absurd p
+  reading-read prepared noting name cutting content files files' source source' out out' notes notes' made (ending.Refused why) h p = absurd p
+  reading-read prepared noting name cutting content files files' source source' out out' notes notes' made ending.FileFault h p = absurd p
+  reading-read prepared noting name cutting content files files' source source' out out' notes notes' made ending.Limit h p = absurd p
 
 -- The same where records are printed.
 pub each-kept : (settings : Settings) (made : Contents) → Plain made.decls → KeepsAll made.decls → IsWithinLimits settings.cutting → (left : Option (List ℕ))
@@ -105,7 +124,7 @@ pub each-kept : (settings : Settings) (made : Contents) → Plain made.decls →
 each-kept settings made plain keeps within None = tt
 each-kept settings made plain keeps within (Some input) = all-kept (described made settings.cutting) plain keeps within.limit within.fits input
 
-pub printed : (name : List ℕ) (settings : Settings) (s : Seen) (n : Counts) (e : Ending) → (printing name settings).keeps_records s.content s.left → Keeps (reading prints true name settings) s n e → Keeps (printing name settings) s n e
+pub printed : (name : List ℕ) (settings : Settings) (s : Seen) (n : Counts) (e : Ending) → (printing name settings).keeps_records s.content s.left → Keeps (reading (describing settings.coding) prints true name settings.cutting) s n e → Keeps (printing name settings) s n e
 printed name settings s n ending.Done kept h = (h.0, kept)
 printed name settings s n ending.Dirty kept h = (h.0, kept)
 printed name settings s n ending.Usage kept h = h
@@ -118,8 +137,10 @@ printed name settings s n ending.TooLong kept h = h
 printed name settings s n ending.Limit kept h = h
 
 -- A self-test ends without its module; no file is opened, so none failed.
-pub test-stopped : (records : ℕ) (settings : Settings) (s : Seen) (n : Counts) (e : Ending) → s.out' ≡ s.out → StopsBefore (IsRefused description) 0 0 e → Keeps (testing records settings) s n e
+pub test-stopped : (records : ℕ) (settings : Settings) (s : Seen) (n : Counts) (e : Ending) → s.out' ≡ s.out → StopsBefore (IsRefusedFor (Some description)) 0 0 e → Keeps (testing records settings) s n e
 test-stopped records settings s n (ending.Refused (reason.Description verdict)) same h = (h, same, λ can. not_both description can.0 verdict can.1 h)
+test-stopped records settings s n (ending.Refused (reason.MaskItem item)) same h = absurd h
+test-stopped records settings s n (ending.Refused (reason.Question fault)) same h = absurd h
 test-stopped records settings s n (ending.Refused reason.SummaryTooLarge) same h = absurd h
 test-stopped records settings s n ending.Memory same h = same
 test-stopped records settings s n ending.FileFault same h = absurd (omega (arith, h))
@@ -148,9 +169,10 @@ test-told records settings s n made ending.Limit h t = absurd t
 -- Before anything was read or written there may be no memory.
 pub early : (asked : Order) (content : List ℕ → Option (List ℕ)) (left out noted : Option (List ℕ)) → (promise_of asked).stops_early (seen content left left out out noted noted)
 early (order.Check name settings) content left out noted = refl
-early (order.Parse name settings) content left out noted = inl (refl, refl, refl)
+early (order.Parse name settings mask) content left out noted = inl (refl, refl, refl)
 early (order.Print name settings) content left out noted = inl (refl, refl, refl)
-early (order.Summary name settings) content left out noted = refl
+early (order.Summary name settings mask) content left out noted = refl
+early (order.Query asks settings mask) content left out noted = inl (refl, refl, refl)
 early (order.Selftest records settings) content left out noted = refl
 
 -- What is kept for an order is kept for the same order.
@@ -172,11 +194,13 @@ noted-no-more work well d left left' o o' n m m' more h =
 pub finishes-still : (asked : Order) (clean : Bool) (content : List ℕ → Option (List ℕ)) (left left' out out' noted m m' : Option (List ℕ)) → Appends m m' []
     → (promise_of asked).finishes clean (seen content left left' out out' noted m) → (promise_of asked).finishes clean (seen content left left' out out' noted m')
 finishes-still (order.Check name settings) clean content left left' out out' noted m m' more h = h
-finishes-still (order.Parse name settings) clean content left left' out out' noted m m' more h =
+finishes-still (order.Parse name settings mask) clean content left left' out out' noted m m' more h =
     (h.0, h.1, noted-no-more (λ d. lines d.made) clean (described h.0 settings.cutting) left left' out out' noted m m' more h.2)
 finishes-still (order.Print name settings) clean content left left' out out' noted m m' more h =
     (h.0, h.1, noted-no-more prints clean (described h.0 settings.cutting) left left' out out' noted m m' more h.2)
-finishes-still (order.Summary name settings) clean content left left' out out' noted m m' more h = h
+finishes-still (order.Summary name settings mask) clean content left left' out out' noted m m' more h = h
+finishes-still (order.Query asks settings mask) clean content left left' out out' noted m m' more h =
+    (h.0, (h.1.0, h.1.1, noted-no-more (λ d. answers d.made h.0) clean (described h.1.0 settings.cutting) left left' out out' noted m m' more h.1.2))
 finishes-still (order.Selftest records settings) clean content left left' out out' noted m m' more h = h
 
 pub ordered-still : (words : List (List ℕ)) (clean : Bool) (content : List ℕ → Option (List ℕ)) (left left' out out' noted m m' : Option (List ℕ)) → Appends m m' []

@@ -1,9 +1,7 @@
 -- How the promise of a summary is kept.
 use Rattle.std.proofs.Common.{◌≡◌, ◌∙◌, ◌<◌, ◌≤◌, inl, refl, sym, subst, ℕ, true, false, List, Option, IfSome, Ok, Err, arith}
 use Rattle.pads_module.specs.Modules.{Contents}
-use Rattle.pads_describe.proofs.AnswerLaws.{not_refused, one_description}
-use Rattle.pads_describe.specs.Describing.{Describes}
-use Rattle.pads_describe.specs.Verdicts.{IsRefused}
+use Rattle.pads_modes.specs.declared.mask.Mask.{Mask}
 use Rattle.pads_orders.specs.declared.order.Settings.{Settings}
 use Rattle.pads_plan.specs.Plans.{lists_of, most, size}
 use Rattle.pads_report.specs.Reports.{report_text}
@@ -13,46 +11,40 @@ use Rattle.pads_tool.specs.Describing.{Description, described}
 use Rattle.pads_tool.specs.Promises.{Counts, Keeps, Seen, summarizing}
 use Rattle.pads_tool.specs.Summing.{CanBeSummed, HasNoSummary, SumsGive, SumsMost, SumsOver, all_rows, are_too_many, report_for, sums}
 use Rattle.pads_tool.specs.Telling.{Tells}
-use Rattle.pads_tool.specs.Texts.{IsDescribedIn, IsRefusedIn, StopsBefore}
+use Rattle.pads_tool.proofs.Masked.{masked-item, masked-verdict, one-masked}
+use Rattle.pads_tool.specs.Masking.{IsMaskedIn, IsRefusedUnder}
+use Rattle.pads_tool.specs.Texts.{StopsBefore}
 use Rattle.pads_tool.specs.declared.ending.Ending.{Ending}
 use Rattle.pads_tool.specs.declared.ending.Ending.TheVariants as ending
 use Rattle.pads_tool.specs.declared.reason.Reason.TheVariants as reason
 use Rattle.pads_tool.specs.declared.summed.Summed.{Summed}
 
--- What can be summed is described by one module.
-one-module : (content left : Option (List ℕ)) (settings : Settings) (made : Contents) (can : CanBeSummed content left settings) → IsDescribedIn content settings.coding made → can.made ≡ made
-one-module content left settings made can here =
-    one_description can.text settings.coding can.made made can.describes (known-at (λ text. Describes text settings.coding made) content can.text can.content_is here)
+module _ (content left : Option (List ℕ)) (settings : Settings) (mask : Mask) (can : CanBeSummed content left settings mask) where
+  -- What can be summed hasn't too many parts,
+  can-parts : (made : Contents) → IsMaskedIn content settings.coding mask made → most < size (lists_of made) → ⊥
+  can-parts made here many =
+      let few = subst (λ (m : Contents). size (lists_of m) ≤ most) (one-masked content settings.coding mask can.can_make made here) can.few in
+      omega (arith, few, many)
 
--- It isn't refused for its verdict,
-can-verdict : (content left : Option (List ℕ)) (settings : Settings) (can : CanBeSummed content left settings) → (v : _) → IsRefusedIn content v → ⊥
-can-verdict content left settings can v refused =
-    not_refused can.text settings.coding can.made v can.describes (known-at (λ text. IsRefused text v) content can.text can.content_is refused)
+  -- isn't too long,
+  can-most : (left' : Option (List ℕ)) (d : Description) → IfSome left (SumsMost left' d) → ⊥
+  can-most left' d h =
+      let long = known-at (SumsMost left' d) left can.input can.left_is h in
+      omega (arith, can.fits, long.2, within can.input left' long.0 long.1)
 
--- nor for its parts,
-can-parts : (content left : Option (List ℕ)) (settings : Settings) (made : Contents) → CanBeSummed content left settings → IsDescribedIn content settings.coding made → most < size (lists_of made) → ⊥
-can-parts content left settings made can here many =
-    let few = subst (λ (m : Contents). size (lists_of m) ≤ most) (one-module content left settings made can here) can.few in
-    omega (arith, few, many)
+  -- and meets no limit.
+  can-over : (left' : Option (List ℕ)) (made : Contents) → IsMaskedIn content settings.coding mask made → IfSome left (SumsOver left' (described made settings.cutting)) → ⊥
+  can-over left' made here h =
+      let over = known-at (SumsOver left' (described made settings.cutting)) left can.input can.left_is h in
+      let counted = subst (λ (m : Contents). are_too_many m (all_rows (described m settings.cutting) can.input) ≡ false) (one-masked content settings.coding mask can.can_make made here) can.counted in
+      let wrong : true ≡ false = sym over.2 ∙ counted in cc
 
--- nor too long,
-can-most : (content left left' : Option (List ℕ)) (settings : Settings) (d : Description) → CanBeSummed content left settings → IfSome left (SumsMost left' d) → ⊥
-can-most content left left' settings d can h =
-    let long = known-at (SumsMost left' d) left can.input can.left_is h in
-    omega (arith, can.fits, long.2, within can.input left' long.0 long.1)
-
--- nor meets a limit.
-can-over : (content left left' : Option (List ℕ)) (settings : Settings) (made : Contents) → CanBeSummed content left settings → IsDescribedIn content settings.coding made
-    → IfSome left (SumsOver left' (described made settings.cutting)) → ⊥
-can-over content left left' settings made can here h =
-    let over = known-at (SumsOver left' (described made settings.cutting)) left can.input can.left_is h in
-    let counted = subst (λ (m : Contents). are_too_many m (all_rows (described m settings.cutting) can.input) ≡ false) (one-module content left settings made can here) can.counted in
-    let wrong : true ≡ false = sym over.2 ∙ counted in cc
-
-module _ (name : List ℕ) (settings : Settings) (s : Seen) (n : Counts) where
+module _ (name : List ℕ) (settings : Settings) (mask : Mask) (s : Seen) (n : Counts) where
   -- The run ends before a summary is there.
-  pub summary-stopped : (e : Ending) → s.out' ≡ s.out → StopsBefore (IsRefusedIn (s.content name)) n.files n.files' e → Keeps (summarizing name settings) s n e
-  summary-stopped (ending.Refused (reason.Description verdict)) same h = (h, same, λ can. can-verdict (s.content name) s.left settings can verdict h)
+  pub summary-stopped : (e : Ending) → s.out' ≡ s.out → StopsBefore (IsRefusedUnder (s.content name) settings.coding mask) n.files n.files' e → Keeps (summarizing name settings mask) s n e
+  summary-stopped (ending.Refused (reason.Description verdict)) same h = (h, same, λ can. masked-verdict (s.content name) settings.coding mask can.can_make verdict h)
+  summary-stopped (ending.Refused (reason.MaskItem item)) same h = (h, same, λ can. masked-item (s.content name) settings.coding mask can.can_make item h)
+  summary-stopped (ending.Refused (reason.Question fault)) same h = absurd h
   summary-stopped (ending.Refused reason.SummaryTooLarge) same h = absurd h
   summary-stopped ending.FileFault same h = (refl, h, same)
   summary-stopped ending.Memory same h = same
@@ -64,10 +56,12 @@ module _ (name : List ℕ) (settings : Settings) (s : Seen) (n : Counts) where
   summary-stopped ending.TooLong same h = absurd h
   summary-stopped ending.Limit same h = absurd h
 
-  module _ (made : Contents) (here : IsDescribedIn (s.content name) settings.coding made) where
-    pub summary-none : (e : Ending) → s.out' ≡ s.out → HasNoSummary made e → Keeps (summarizing name settings) s n e
+  module _ (made : Contents) (here : IsMaskedIn (s.content name) settings.coding mask made) where
+    pub summary-none : (e : Ending) → s.out' ≡ s.out → HasNoSummary made e → Keeps (summarizing name settings mask) s n e
     summary-none (ending.Refused (reason.Description verdict)) same h = absurd h
-    summary-none (ending.Refused reason.SummaryTooLarge) same h = ((made, here, h), same, λ can. can-parts (s.content name) s.left settings made can here h)
+    summary-none (ending.Refused (reason.MaskItem item)) same h = absurd h
+    summary-none (ending.Refused (reason.Question fault)) same h = absurd h
+    summary-none (ending.Refused reason.SummaryTooLarge) same h = ((made, here, h), same, λ can. can-parts (s.content name) s.left settings mask can made here h)
     summary-none ending.Memory same h = same
     summary-none ending.FileFault same h = absurd h
     summary-none ending.Done same h = absurd h
@@ -79,10 +73,10 @@ module _ (name : List ℕ) (settings : Settings) (s : Seen) (n : Counts) where
     summary-none ending.Limit same h = absurd h
 
     -- The reading ends otherwise than at the end of the input.
-    pub summary-ended : (e : Ending) → s.out' ≡ s.out → SumsGive s.left' s.left n.source n.source' (described made settings.cutting) (Err e) → Keeps (summarizing name settings) s n e
+    pub summary-ended : (e : Ending) → s.out' ≡ s.out → SumsGive s.left' s.left n.source n.source' (described made settings.cutting) (Err e) → Keeps (summarizing name settings mask) s n e
     summary-ended ending.ReadFault same h = (h.0, (same, (made, here, h.1)))
-    summary-ended ending.TooLong same h = ((same, (made, here, h)), λ can. can-most (s.content name) s.left s.left' settings (described made settings.cutting) can h)
-    summary-ended ending.Limit same h = ((made, here, h), same, λ can. can-over (s.content name) s.left s.left' settings made can here h)
+    summary-ended ending.TooLong same h = ((same, (made, here, h)), λ can. can-most (s.content name) s.left settings mask can s.left' (described made settings.cutting) h)
+    summary-ended ending.Limit same h = ((made, here, h), same, λ can. can-over (s.content name) s.left settings mask can s.left' made here h)
     summary-ended ending.Memory same h = same
     summary-ended (ending.Refused why) same h = absurd h
     summary-ended ending.FileFault same h = absurd h
@@ -98,7 +92,7 @@ module _ (name : List ℕ) (settings : Settings) (s : Seen) (n : Counts) where
     told-of summed input e is h = subst (λ (t : Summed). Tells (report_text settings.top t.summary.lists) t.clean s.out s.out' n.out n.out' e) is h
 
     pub summary-told : (summed : Summed) (e : Ending) → SumsGive s.left' s.left n.source n.source' (described made settings.cutting) (Ok summed)
-        → Tells (report_text settings.top summed.summary.lists) summed.clean s.out s.out' n.out n.out' e → Keeps (summarizing name settings) s n e
+        → Tells (report_text settings.top summed.summary.lists) summed.clean s.out s.out' n.out n.out' e → Keeps (summarizing name settings mask) s n e
     summary-told summed ending.Done h t =
         ((made, here, if-known _ _ s.left (λ input p. let told = told-of summed input ending.Done p.0 t in (told.0, told.1, p.1)) h), tt)
     summary-told summed ending.Dirty h t =

@@ -1,6 +1,7 @@
 -- How a run ends: its status, and the words that it leaves on the notes.
-use Rattle.std.specs.Prelude.{ℕ, List, [], ◌∷◌, ◌++◌, codes}
+use Rattle.std.specs.Prelude.{ℕ, List, [], ◌∷◌, ◌++◌, codes, decimal}
 use Rattle.pads_describe.specs.VerdictLines.{refusal_line}
+use Rattle.pads_question.specs.FaultLines.{question_line}
 use Rattle.pads_tool.specs.declared.reason.Reason.{Reason}
 use Rattle.pads_tool.specs.declared.reason.Reason.TheVariants as reason
 use Rattle.pads_tool.specs.declared.status.Status.{Status}
@@ -41,6 +42,8 @@ line words = words ++ 10 ∷ []
 -- the last line where an order is refused
 abbrev pub reason_line : Reason → List ℕ
 reason_line (reason.Description verdict) = refusal_line verdict
+reason_line (reason.MaskItem item) = line (codes "pads: refused: mask item " ++ decimal item)
+reason_line (reason.Question fault) = question_line fault
 reason_line reason.SummaryTooLarge = line (codes "pads: refused: summary too large")
 
 -- the last line on the notes; a run that was done leaves none

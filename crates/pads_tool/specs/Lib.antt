@@ -5,8 +5,10 @@ pub mod Describing
 pub mod Descriptions
 pub mod Endings
 pub mod Limits
+pub mod Masking
 pub mod Printing
 pub mod Promises
+pub mod Querying
 pub mod Reading
 pub mod Running
 pub mod Summing

@@ -5,9 +5,13 @@ use Rattle.pads_ast.specs.declared.decl.Ast.{Ast}
 use Rattle.pads_describe.specs.Trees.{IsAccepted}
 use Rattle.pads_io.specs.Faults.{Rose}
 use Rattle.pads_io.specs.Transfer.{AppendsPrefix}
+use Rattle.pads_modes.specs.declared.mask.Mask.{Mask}
+use Rattle.pads_orders.specs.declared.order.Cutting.{Cutting}
 use Rattle.pads_orders.specs.declared.order.Order.{Order}
 use Rattle.pads_orders.specs.declared.order.Order.TheVariants as order
+use Rattle.pads_orders.specs.declared.order.Question.{Question}
 use Rattle.pads_orders.specs.declared.order.Settings.{Settings}
+use Rattle.pads_question.specs.declared.asked.Asked.{Asked}
 use Rattle.pads_drive.specs.Outputs.{Work}
 use Rattle.pads_selftest.specs.Description.{description}
 use Rattle.pads_value.specs.declared.row.Row.{Row}
@@ -15,10 +19,12 @@ use Rattle.pads_tool.specs.Causes.{SinkFailed}
 use Rattle.pads_tool.specs.Checking.{Accepts}
 use Rattle.pads_tool.specs.Describing.{Description, frames_of, is_clean, lines}
 use Rattle.pads_tool.specs.Printing.{IsKept, prints}
+use Rattle.pads_tool.specs.Querying.{CanBeAsked, IsUnaskedFor, answers, asking}
 use Rattle.pads_tool.specs.Reading.{ReadLittleAhead, Reads, WroteAll, WroteComplete, WroteMost, WrotePrefix, rows_in}
 use Rattle.pads_tool.specs.Testing.{TestsBy, all_clean, selftest_line}
 use Rattle.pads_tool.specs.Summing.{CanBeSummed, IsUnsummedFor, SumsAll, SumsComplete, SumsMost, SumsOver, SumsSome}
-use Rattle.pads_tool.specs.Texts.{IsRefusedFor}
+use Rattle.pads_tool.specs.Masking.{IsMaskedIn, Preparation, describing, masking}
+use Rattle.pads_tool.specs.Texts.{IsDescribedIn, IsRefusedFor}
 use Rattle.pads_tool.specs.declared.reason.Reason.{Reason}
 use Rattle.pads_tool.specs.declared.ending.Ending.{Ending}
 use Rattle.pads_tool.specs.declared.ending.Ending.TheVariants as ending
@@ -98,22 +104,21 @@ checking name = record {
   keeps_records = λ content left. Unit {0};
 }
 
--- A command that reads records, by what it makes of a description's records, and whether it writes on the notes for them.
--- By an accepted description and an input of at most 2^62 bytes, its output for each record is written on both sinks. Where
--- there is no memory, nothing was read and written, or a prefix was written.
-abbrev pub reading : (Description → Work Row Bool) → Bool → List ℕ → Settings → Promise
-reading work noting name settings = record {
-  finishes = λ well s. Reads (s.content name) settings s.left (WroteAll work s.left' s.out s.out' s.notes s.notes' well);
-  stops_reading = λ s. Reads (s.content name) settings s.left (WroteComplete work s.left' s.out s.out' s.notes s.notes');
-  stops_at_limit = λ s. Reads (s.content name) settings s.left (WroteMost work s.left' s.out s.out' s.notes s.notes');
+-- A command that reads records, by how it comes by its module, by what it makes of the module's records, and whether it
+-- writes on the notes for them. By a module that is there and an input of at most 2^62 bytes, its output for each record is
+-- written on both sinks. Where there is no memory, nothing was read and written, or a prefix was written.
+abbrev pub reading : Preparation → (Description → Work Row Bool) → Bool → List ℕ → Cutting → Promise
+reading prepared work noting name cutting = record {
+  finishes = λ well s. Reads (prepared.is_made (s.content name)) cutting s.left (WroteAll work s.left' s.out s.out' s.notes s.notes' well);
+  stops_reading = λ s. Reads (prepared.is_made (s.content name)) cutting s.left (WroteComplete work s.left' s.out s.out' s.notes s.notes');
+  stops_at_limit = λ s. Reads (prepared.is_made (s.content name)) cutting s.left (WroteMost work s.left' s.out s.out' s.notes s.notes');
   stops_at_count = λ s. ⊥;
-  stops_writing = λ s. Reads (s.content name) settings s.left (WrotePrefix work s.left' s.out s.out' s.notes s.notes');
-  stays_near = λ s. Reads (s.content name) settings s.left (ReadLittleAhead work s.left' s.out s.out' s.notes s.notes');
+  stops_writing = λ s. Reads (prepared.is_made (s.content name)) cutting s.left (WrotePrefix work s.left' s.out s.out' s.notes s.notes');
+  stays_near = λ s. Reads (prepared.is_made (s.content name)) cutting s.left (ReadLittleAhead work s.left' s.out s.out' s.notes s.notes');
   stops_early = λ s. ((s.out' ≡ s.out) × (s.notes' ≡ s.notes) × (s.left' ≡ s.left))
-      ⊎ Reads (s.content name) settings s.left (WrotePrefix work s.left' s.out s.out' s.notes s.notes');
-  refused_for = λ content reason. IsRefusedFor (content name) reason;
-  can_finish = λ content left.
-      (text : List ℕ) × (tree : Ast) × (input : List ℕ) × (content name ≡ Some text) × IsAccepted text tree × (left ≡ Some input) × (length input ≤ 2 ^ 62);
+      ⊎ Reads (prepared.is_made (s.content name)) cutting s.left (WrotePrefix work s.left' s.out s.out' s.notes s.notes');
+  refused_for = λ content why. prepared.refused_for (content name) why;
+  can_finish = λ content left. prepared.can_make (content name) × (input : List ℕ) × (left ≡ Some input) × (length input ≤ 2 ^ 62);
   reads_files = true;
   reads_source = true;
   writes_notes = noting;
@@ -121,29 +126,51 @@ reading work noting name settings = record {
 }
 
 -- `parse`: a line for each record.
-abbrev pub parsing : List ℕ → Settings → Promise
-parsing name settings = reading (λ d. lines d.made) false name settings
+abbrev pub parsing : List ℕ → Settings → Mask → Promise
+parsing name settings mask = reading (masking settings.coding mask) (λ d. lines d.made) false name settings.cutting
 
 -- `print`: the framed canonical bytes of each clean record that isn't ambiguous, and on the notes a line for each other. Each
 -- clean record has canonical bytes, and they are printed where they read back, and else noted.
 abbrev pub printing : List ℕ → Settings → Promise
-printing name settings = record (reading prints true name settings) {
-  keeps_records = λ content left.
-      Reads (content name) settings left (λ d input. All (λ row. is_clean row ≡ true → IsKept d row) (rows_in prints d (frames_of d input)));
+printing name settings = record (reading (describing settings.coding) prints true name settings.cutting) {
+  keeps_records = λ content left. Reads (IsDescribedIn (content name) settings.coding) settings.cutting left
+      (λ d input. All (λ row. is_clean row ≡ true → IsKept d row) (rows_in prints d (frames_of d input)));
 }
 
 -- `summary`: the report of all records, once the input has ended, and nothing before.
-abbrev pub summarizing : List ℕ → Settings → Promise
-summarizing name settings = record {
-  finishes = λ well s. Reads (s.content name) settings s.left (SumsAll s.left' s.out s.out' settings.top well);
-  stops_reading = λ s. (s.out' ≡ s.out) × Reads (s.content name) settings s.left (SumsComplete s.left');
-  stops_at_limit = λ s. (s.out' ≡ s.out) × Reads (s.content name) settings s.left (SumsMost s.left');
-  stops_at_count = λ s. Reads (s.content name) settings s.left (SumsOver s.left');
-  stops_writing = λ s. Reads (s.content name) settings s.left (SumsSome s.left' s.out s.out' settings.top);
+abbrev pub summarizing : List ℕ → Settings → Mask → Promise
+summarizing name settings mask = record {
+  finishes = λ well s. Reads (IsMaskedIn (s.content name) settings.coding mask) settings.cutting s.left (SumsAll s.left' s.out s.out' settings.top well);
+  stops_reading = λ s. (s.out' ≡ s.out) × Reads (IsMaskedIn (s.content name) settings.coding mask) settings.cutting s.left (SumsComplete s.left');
+  stops_at_limit = λ s. (s.out' ≡ s.out) × Reads (IsMaskedIn (s.content name) settings.coding mask) settings.cutting s.left (SumsMost s.left');
+  stops_at_count = λ s. Reads (IsMaskedIn (s.content name) settings.coding mask) settings.cutting s.left (SumsOver s.left');
+  stops_writing = λ s. Reads (IsMaskedIn (s.content name) settings.coding mask) settings.cutting s.left (SumsSome s.left' s.out s.out' settings.top);
   stays_near = λ s. Unit {0};
   stops_early = λ s. s.out' ≡ s.out;
-  refused_for = λ content why. IsUnsummedFor (content name) settings.coding why;
-  can_finish = λ content left. CanBeSummed (content name) left settings;
+  refused_for = λ content why. IsUnsummedFor (content name) settings.coding mask why;
+  can_finish = λ content left. CanBeSummed (content name) left settings mask;
+  reads_files = true;
+  reads_source = true;
+  writes_notes = false;
+  keeps_records = λ content left. Unit {0};
+}
+
+-- `query`: a line for each node that the question asks for. What it asks is found by the description.
+abbrev pub answering : Question → Settings → Mask → Asked → Promise
+answering asks settings mask asked = reading (asking settings.coding mask asks asked) (λ d. answers d.made asked) false asks.description settings.cutting
+
+abbrev pub querying : Question → Settings → Mask → Promise
+querying asks settings mask = record {
+  finishes = λ well s. (asked : Asked) × (answering asks settings mask asked).finishes well s;
+  stops_reading = λ s. (asked : Asked) × (answering asks settings mask asked).stops_reading s;
+  stops_at_limit = λ s. (asked : Asked) × (answering asks settings mask asked).stops_at_limit s;
+  stops_at_count = λ s. ⊥;
+  stops_writing = λ s. (asked : Asked) × (answering asks settings mask asked).stops_writing s;
+  stays_near = λ s. (asked : Asked) × (answering asks settings mask asked).stays_near s;
+  stops_early = λ s. ((s.out' ≡ s.out) × (s.notes' ≡ s.notes) × (s.left' ≡ s.left))
+      ⊎ ((asked : Asked) × (answering asks settings mask asked).stops_writing s);
+  refused_for = λ content why. IsUnaskedFor (content asks.description) settings.coding mask asks why;
+  can_finish = λ content left. CanBeAsked (content asks.description) settings.coding mask asks × (input : List ℕ) × (left ≡ Some input) × (length input ≤ 2 ^ 62);
   reads_files = true;
   reads_source = true;
   writes_notes = false;
@@ -170,9 +197,10 @@ testing records settings = record {
 
 abbrev pub promise_of : Order → Promise
 promise_of (order.Check name settings) = checking name
-promise_of (order.Parse name settings) = parsing name settings
+promise_of (order.Parse name settings mask) = parsing name settings mask
 promise_of (order.Print name settings) = printing name settings
-promise_of (order.Summary name settings) = summarizing name settings
+promise_of (order.Summary name settings mask) = summarizing name settings mask
+promise_of (order.Query asks settings mask) = querying asks settings mask
 promise_of (order.Selftest records settings) = testing records settings
 
 -- A promise is kept, by the ending. What can be done isn't refused, and meets no limit.

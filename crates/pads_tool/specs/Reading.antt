@@ -11,13 +11,12 @@ use Rattle.pads_drive.specs.declared.output.Output.{Output}
 use Rattle.pads_drive.specs.declared.stop.Stop.{Stop}
 use Rattle.pads_drive.specs.declared.stop.Stop.TheVariants as stop
 use Rattle.pads_io.specs.Faults.{Rose}
-use Rattle.pads_orders.specs.declared.order.Settings.{Settings}
+use Rattle.pads_orders.specs.declared.order.Cutting.{Cutting}
 use Rattle.pads_module.specs.Modules.{Contents}
 use Rattle.pads_value.specs.Cuts.{Cut}
 use Rattle.pads_value.specs.declared.row.Row.{Row}
 use Rattle.pads_tool.specs.Causes.{SinkFailed}
 use Rattle.pads_tool.specs.Describing.{Description, described, complete_frames_of, frames_of}
-use Rattle.pads_tool.specs.Texts.{IsDescribedIn}
 use Rattle.pads_tool.specs.declared.ending.Ending.{Ending}
 use Rattle.pads_tool.specs.declared.ending.Ending.TheVariants as ending
 
@@ -88,7 +87,6 @@ module _ (work : Description → Work Row Bool) (noting : Bool) (d : Description
   RecordsGive ending.Limit = ⊥
   RecordsGive ending.FileFault = ⊥
 
--- The text in a file describes something, and by it and an input that is known this was written.
-abbrev pub Reads : Option (List ℕ) → Settings → Option (List ℕ) → (Description → List ℕ → Type 0) → Type 0
-Reads content settings left Wrote =
-    (made : Contents) × IsDescribedIn content settings.coding made × IfSome left (Wrote (described made settings.cutting))
+-- There is a module, and by it and an input that is known this was written.
+abbrev pub Reads : (Contents → Type 0) → Cutting → Option (List ℕ) → (Description → List ℕ → Type 0) → Type 0
+Reads IsMade cutting left Wrote = (made : Contents) × IsMade made × IfSome left (Wrote (described made cutting))

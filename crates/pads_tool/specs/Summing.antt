@@ -7,10 +7,11 @@ use Rattle.pads_accum.specs.Limits.{passes}
 use Rattle.pads_accum.specs.Summaries.{summary_of}
 use Rattle.pads_module.specs.Modules.{Contents}
 use Rattle.pads_code.specs.declared.Coding.{Coding}
-use Rattle.pads_describe.specs.Describing.{Describes}
 use Rattle.pads_drive.specs.Outputs.{Work, rows_of}
 use Rattle.pads_io.specs.Faults.{Rose}
 use Rattle.pads_io.specs.Transfer.{AppendsPrefix}
+use Rattle.pads_mask.specs.Masks.{masked}
+use Rattle.pads_modes.specs.declared.mask.Mask.{Mask}
 use Rattle.pads_orders.specs.declared.order.Settings.{Settings}
 use Rattle.pads_plan.specs.Plans.{lists_of, most, size}
 use Rattle.pads_report.specs.Reports.{report_text}
@@ -18,7 +19,8 @@ use Rattle.pads_sums.specs.declared.part_sum.SumList.{SumList}
 use Rattle.pads_value.specs.Cuts.{Cut}
 use Rattle.pads_value.specs.declared.row.Row.{Row}
 use Rattle.pads_tool.specs.Describing.{Description, complete_frames_of, described, frames_of, is_clean, row_in}
-use Rattle.pads_tool.specs.Texts.{IsDescribedIn, IsRefusedIn}
+use Rattle.pads_tool.specs.Masking.{CanBeMasked, IsMaskedIn, IsUnmaskedIn}
+use Rattle.pads_tool.specs.Texts.{IsRefusedIn}
 use Rattle.pads_tool.specs.declared.ending.Ending.{Ending}
 use Rattle.pads_tool.specs.declared.ending.Ending.TheVariants as ending
 use Rattle.pads_tool.specs.declared.reason.Reason.{Reason}
@@ -102,31 +104,31 @@ module _ (left' : Option (List ℕ)) where
   SumsGive left source source' d (Err ending.FileFault) = ⊥
   SumsGive left source source' d (Err ending.WriteFault) = ⊥
 
--- The description in a file has more parts than a summary counts for.
-abbrev pub IsTooLargeIn : Option (List ℕ) → Coding → Type 0
-IsTooLargeIn content coding = (made : Contents) × IsDescribedIn content coding made × (most < size (lists_of made))
+-- The module has more parts than a summary counts for.
+abbrev pub IsTooLargeIn : Option (List ℕ) → Coding → Mask → Type 0
+IsTooLargeIn content coding mask = (made : Contents) × IsMaskedIn content coding mask made × (most < size (lists_of made))
 
--- A summary is refused for this reason: the description isn't accepted, or else it has too many parts.
-abbrev pub IsUnsummedFor : Option (List ℕ) → Coding → Reason → Type 0
-IsUnsummedFor content coding (reason.Description verdict) = IsRefusedIn content verdict
-IsUnsummedFor content coding reason.SummaryTooLarge = IsTooLargeIn content coding
+-- A summary is refused for this reason: there is no module, or else it has too many parts.
+abbrev pub IsUnsummedFor : Option (List ℕ) → Coding → Mask → Reason → Type 0
+IsUnsummedFor content coding mask (reason.Description verdict) = IsRefusedIn content verdict
+IsUnsummedFor content coding mask (reason.MaskItem item) = IsUnmaskedIn content coding mask item
+IsUnsummedFor content coding mask (reason.Question fault) = ⊥
+IsUnsummedFor content coding mask reason.SummaryTooLarge = IsTooLargeIn content coding mask
 
--- The description in a file is accepted and hasn't too many parts, and the records of an input of at most 2^62 bytes can be
--- counted.
-pub record CanBeSummed (content left : Option (List ℕ)) (settings : Settings) : Type 0 where
-  pub text : List ℕ
-  pub made : Contents
+-- There is a module, which hasn't too many parts, and the records of an input of at most 2^62 bytes can be counted.
+pub record CanBeSummed (content left : Option (List ℕ)) (settings : Settings) (mask : Mask) : Type 0 where
+  pub can_make : CanBeMasked content settings.coding mask
   pub input : List ℕ
-  pub content_is : content ≡ Some text
-  pub describes : Describes text settings.coding made
-  pub few : size (lists_of made) ≤ most
+  pub few : size (lists_of (masked can_make.whole mask)) ≤ most
   pub left_is : left ≡ Some input
   pub fits : length input ≤ 2 ^ 62
-  pub counted : are_too_many made (all_rows (described made settings.cutting) input) ≡ false
+  pub counted : are_too_many (masked can_make.whole mask) (all_rows (described (masked can_make.whole mask) settings.cutting) input) ≡ false
 
 -- The run ends so before a summary is there: it would have too many parts, or there is no memory.
 abbrev pub HasNoSummary : Contents → Ending → Type 0
 HasNoSummary m (ending.Refused (reason.Description verdict)) = ⊥
+HasNoSummary m (ending.Refused (reason.MaskItem item)) = ⊥
+HasNoSummary m (ending.Refused (reason.Question fault)) = ⊥
 HasNoSummary m (ending.Refused reason.SummaryTooLarge) = most < size (lists_of m)
 HasNoSummary m ending.Memory = Unit {0}
 HasNoSummary m ending.Done = ⊥

@@ -30,13 +30,27 @@ IsRefusedIn content verdict = IfSome content (λ text. IsRefused text verdict)
 -- An order is refused for this reason, of which only a verdict on the description in its file comes for it.
 abbrev pub IsRefusedFor : Option (List ℕ) → Reason → Type 0
 IsRefusedFor content (reason.Description verdict) = IsRefusedIn content verdict
+IsRefusedFor content (reason.MaskItem item) = ⊥
+IsRefusedFor content (reason.Question fault) = ⊥
 IsRefusedFor content reason.SummaryTooLarge = ⊥
 
--- The run ends so before a description is there: its text is refused, its file can't be read, or there is no memory.
+-- The run ends so where only memory is taken: the order is refused for a reason, or there is no memory.
+abbrev pub StopsFor : (Reason → Type 0) → Ending → Type 0
+StopsFor Refuses (ending.Refused why) = Refuses why
+StopsFor Refuses ending.Memory = Unit {0}
+StopsFor Refuses ending.FileFault = ⊥
+StopsFor Refuses ending.Done = ⊥
+StopsFor Refuses ending.Dirty = ⊥
+StopsFor Refuses ending.Usage = ⊥
+StopsFor Refuses ending.ReadFault = ⊥
+StopsFor Refuses ending.WriteFault = ⊥
+StopsFor Refuses ending.TooLong = ⊥
+StopsFor Refuses ending.Limit = ⊥
+
+-- The run ends so before there is a module: the order is refused for a reason, its file can't be read, or there is no memory.
 -- The numbers are the files' count of failures before and after.
-abbrev pub StopsBefore : (Verdict → Type 0) → ℕ → ℕ → Ending → Type 0
-StopsBefore Refuses before now (ending.Refused (reason.Description verdict)) = Refuses verdict
-StopsBefore Refuses before now (ending.Refused reason.SummaryTooLarge) = ⊥
+abbrev pub StopsBefore : (Reason → Type 0) → ℕ → ℕ → Ending → Type 0
+StopsBefore Refuses before now (ending.Refused why) = Refuses why
 StopsBefore Refuses before now ending.FileFault = Rose before now
 StopsBefore Refuses before now ending.Memory = Unit {0}
 StopsBefore Refuses before now ending.Done = ⊥

@@ -12,6 +12,7 @@ mod ending;
 mod files;
 mod parse;
 mod print;
+mod query;
 mod reason;
 mod rows;
 mod running;

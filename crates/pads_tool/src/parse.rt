@@ -10,12 +10,13 @@ ghost use Rattle.pads_module.specs.Modules.{contents};
 
 use crate::ending::Ending;
 use crate::rows::{are_clean, ending_of, rows_in};
-use crate::text::described_in;
+use crate::text::masked_in;
 use crate::unused::unused;
 use pads_code::Coding;
 use pads_drive::{Command, Limit, Output, drive};
 use pads_io::{Files, Sink, Source};
 use pads_json::record_line;
+use pads_modes::Mask;
 use pads_module::Module;
 use pads_orders::{Cutting, Settings};
 use pads_value::{Kept, Memory, Refusal, Row, Rows};
@@ -92,17 +93,18 @@ fn write_lines<S: Source, K: Sink>(
     ))
 }
 
-/// Writes one line for each record of the source, by the description in a file.
+/// Writes one line for each record of the source, by the description in a file under a mask.
 pub(crate) fn parse<F: Files, S: Source, K: Sink>(
     alloc: Global,
     name: &str,
     settings: &Settings,
+    mask: &Mask,
     files: &mut F,
     source: &mut S,
     out: &mut K,
 ) -> Ending
     requires limits { IsWithinLimits settings.now.cutting }
-    ensures gives { (noted : Option (List ℕ)) (notes : ℕ) → Keeps (parsing name.now settings.now)
+    ensures gives { (noted : Option (List ℕ)) (notes : ℕ) → Keeps (parsing name.now settings.now mask.now)
         (seen (F.content files.old) (S.left source.old) (S.left source.new) (K.written out.old) (K.written out.new) noted noted)
         (counts (F.faults files.old) (F.faults files.new) (S.faults source.old) (S.faults source.new) (K.faults out.old) (K.faults out.new)
         notes notes) result }
@@ -111,7 +113,7 @@ pub(crate) fn parse<F: Files, S: Source, K: Sink>(
     ensures out_kept { result ≢ ending.WriteFault → K.faults out.new ≡ K.faults out.old }
     ensures source_kept { result ≢ ending.ReadFault → result ≢ ending.WriteFault → result ≢ ending.Memory → S.faults source.new ≡ S.faults source.old }
 {
-    match described_in(alloc, files, name, settings.coding) {
+    match masked_in(alloc, files, name, settings.coding, mask) {
         Ok(module) => write_lines(alloc, &Lines { module }, settings.cutting, source, out),
         Err(ending) => ending,
     }

@@ -13,6 +13,7 @@ use crate::close::close;
 use crate::ending::Ending;
 use crate::parse::parse;
 use crate::print::print;
+use crate::query::query;
 use crate::selftest::selftest;
 use crate::status::Status;
 use crate::summary::summary;
@@ -52,7 +53,16 @@ fn perform<F: Files, S: Source, K: Sink, E: Sink>(
         Order::Parse {
             description,
             settings,
-        } => parse(alloc, description.as_str(), settings, files, source, out),
+            mask,
+        } => parse(
+            alloc,
+            description.as_str(),
+            settings,
+            mask,
+            files,
+            source,
+            out,
+        ),
         Order::Print {
             description,
             settings,
@@ -68,7 +78,21 @@ fn perform<F: Files, S: Source, K: Sink, E: Sink>(
         Order::Summary {
             description,
             settings,
-        } => summary(alloc, description.as_str(), settings, files, source, out),
+            mask,
+        } => summary(
+            alloc,
+            description.as_str(),
+            settings,
+            mask,
+            files,
+            source,
+            out,
+        ),
+        Order::Query {
+            question,
+            settings,
+            mask,
+        } => query(alloc, question, settings, mask, files, source, out),
         Order::Selftest { records, settings } => selftest(alloc, *records, settings, out),
     }
 }

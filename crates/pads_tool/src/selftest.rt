@@ -1,14 +1,13 @@
-ghost use Rattle.std.specs.Prelude.{◌≡◌, ◌≢◌, ◌^◌, ◌≤◌, ℕ, List, Option, IfErr, IfOk, length};
+ghost use Rattle.std.specs.Prelude.{◌≡◌, ◌≢◌, ◌^◌, ◌≤◌, ℕ, List, Option, Some, IfErr, IfOk, length};
 ghost use Rattle.pads_module.specs.Modules.{contents};
 ghost use Rattle.pads_describe.specs.Describing.{Describes};
-ghost use Rattle.pads_describe.specs.Verdicts.{IsRefused};
 ghost use Rattle.pads_orders.specs.Orders.{IsWithinLimits};
 ghost use Rattle.pads_selftest.specs.Description.{description as description_text};
 ghost use Rattle.pads_selftest.specs.Records.{made};
 ghost use Rattle.pads_tool.specs.Describing.{described};
 ghost use Rattle.pads_tool.specs.Promises.{Keeps, counts, seen, testing};
 ghost use Rattle.pads_tool.specs.Testing.{rows_tested, tallied};
-ghost use Rattle.pads_tool.specs.Texts.{StopsBefore};
+ghost use Rattle.pads_tool.specs.Texts.{IsRefusedFor, StopsBefore};
 ghost use Rattle.pads_tool.specs.declared.ending.Ending.TheVariants as ending;
 
 use crate::ending::Ending;
@@ -101,7 +100,7 @@ fn tested(alloc: Global, command: &Tests, records: u32) -> Result<TestTally, Mem
 /// The module of the records that are made, or how the run ends without it.
 fn test_module(alloc: Global, coding: Coding) -> Result<Module, Ending>
     ensures described { IfOk result (λ made. Describes description_text coding (contents made)) }
-    ensures stops { IfErr result (StopsBefore (IsRefused description_text) 0 0) }
+    ensures stops { IfErr result (StopsBefore (IsRefusedFor (Some description_text)) 0 0) }
 {
     match pads_describe::describe(alloc, description(), coding) {
         Ok(module) => Ok(module),

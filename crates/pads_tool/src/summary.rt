@@ -17,11 +17,12 @@ use crate::reason::Reason;
 use crate::rows::{are_clean, rows_in};
 use crate::summed::Summed;
 use crate::tell::tell;
-use crate::text::described_in;
+use crate::text::masked_in;
 use crate::unused::unused;
 use pads_accum::Summary;
 use pads_drive::{Command, Ended, Limit, Output, Stop, drive};
 use pads_io::{Files, Sink, Source};
+use pads_modes::Mask;
 use pads_module::Module;
 use pads_orders::{Cutting, Settings};
 use pads_report::report;
@@ -140,17 +141,18 @@ fn tell_report<K: Sink>(alloc: Global, summed: &Summed, top: u32, out: &mut K) -
     tell(out, text.as_slice(), summed.clean)
 }
 
-/// Reports what all records of the source come to, by the description in a file.
+/// Reports what all records of the source come to, by the description in a file under a mask.
 pub(crate) fn summary<F: Files, S: Source, K: Sink>(
     alloc: Global,
     name: &str,
     settings: &Settings,
+    mask: &Mask,
     files: &mut F,
     source: &mut S,
     out: &mut K,
 ) -> Ending
     requires limits { IsWithinLimits settings.now.cutting }
-    ensures gives { (noted noted' : Option (List ℕ)) (notes notes' : ℕ) → Keeps (summarizing name.now settings.now)
+    ensures gives { (noted noted' : Option (List ℕ)) (notes notes' : ℕ) → Keeps (summarizing name.now settings.now mask.now)
         (seen (F.content files.old) (S.left source.old) (S.left source.new) (K.written out.old) (K.written out.new) noted noted')
         (counts (F.faults files.old) (F.faults files.new) (S.faults source.old) (S.faults source.new) (K.faults out.old) (K.faults out.new)
         notes notes') result }
@@ -160,7 +162,7 @@ pub(crate) fn summary<F: Files, S: Source, K: Sink>(
     ensures source_kept { result ≢ ending.ReadFault → result ≢ ending.WriteFault → result ≢ ending.Memory → result ≢ ending.Limit
         → S.faults source.new ≡ S.faults source.old }
 {
-    let module = match described_in(alloc, files, name, settings.coding) {
+    let module = match masked_in(alloc, files, name, settings.coding, mask) {
         Ok(module) => module,
         Err(ending) => return ending,
     };

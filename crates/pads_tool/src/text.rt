@@ -1,5 +1,13 @@
-ghost use Rattle.std.specs.Prelude.{◌≡◌, IfOk, IfErr, ◌≢◌, OnOk};
-ghost use Rattle.pads_tool.specs.Texts.{IsAcceptedIn, IsDescribedIn, IsRefusedIn, IsTextIn, StopsBefore};
+ghost use Rattle.std.specs.Prelude.{◌≡◌, [], true, Some, None, IfOk, IfErr, ◌≢◌, OnOk};
+ghost use Rattle.pads_mask.specs.Masks.{fault_of, masked as masked_of};
+ghost use Rattle.pads_modes.specs.declared.mode.Mode.TheVariants as mode_form;
+ghost use Rattle.pads_ast.specs.declared.decl.Ast.{Ast};
+ghost use Rattle.pads_describe.specs.Describing.{Describes};
+ghost use Rattle.pads_describe.specs.Trees.{IsAccepted};
+ghost use Rattle.pads_question.specs.Questions.{IsAsked};
+ghost use Rattle.pads_tool.specs.Masking.{IsMaskFault, IsMaskedIn, IsRefusedUnder};
+ghost use Rattle.pads_tool.specs.Querying.{IsAskedIn, IsQuestionFault, IsUnaskedFor};
+ghost use Rattle.pads_tool.specs.Texts.{IsAcceptedIn, IsDescribedIn, IsRefusedFor, IsTextIn, StopsBefore, StopsFor};
 ghost use Rattle.pads_tool.specs.declared.ending.Ending.TheVariants as ending;
 ghost use Rattle.law_calculus.specs.Plain.{Plain};
 ghost use Rattle.pads_module.specs.Modules.{contents};
@@ -8,18 +16,23 @@ ghost use Rattle.pads_calc.specs.Skeletons.{KeepsAll};
 use crate::description::Described;
 use crate::ending::Ending;
 use crate::files::read_description;
+use crate::query::Answers;
 use crate::reason::Reason;
 use pads_code::Coding;
 use pads_describe::Verdict;
 use pads_io::Files;
+use pads_mask::mask_module;
+use pads_modes::{Mask, Mode};
 use pads_module::Module;
+use pads_orders::Question;
+use pads_question::question;
 use pads_value::{Bytes, Refusal};
 use std::alloc::Global;
 
 /// The text in a description's file, or how the run ends without it.
 fn text_in<F: Files>(alloc: Global, files: &mut F, name: &str) -> Result<Bytes, Ending>
     ensures text { IfOk result (IsTextIn (F.content files.old name.now)) }
-    ensures stops { IfErr result (StopsBefore (IsRefusedIn (F.content files.old name.now)) (F.faults files.old) (F.faults files.new)) }
+    ensures stops { IfErr result (StopsBefore (IsRefusedFor (F.content files.old name.now)) (F.faults files.old) (F.faults files.new)) }
     ensures kept { OnOk result (F.faults files.new ≡ F.faults files.old) }
     ensures untold { IfErr result (λ stop. stop ≢ ending.FileFault → F.faults files.new ≡ F.faults files.old) }
 {
@@ -34,7 +47,7 @@ fn text_in<F: Files>(alloc: Global, files: &mut F, name: &str) -> Result<Bytes, 
 /// How many declarations the description in a file has, or how the run ends without it.
 pub(crate) fn accepted_in<F: Files>(alloc: Global, files: &mut F, name: &str) -> Result<u64, Ending>
     ensures accepted { IfOk result (IsAcceptedIn (F.content files.old name.now)) }
-    ensures stops { IfErr result (StopsBefore (IsRefusedIn (F.content files.old name.now)) (F.faults files.old) (F.faults files.new)) }
+    ensures stops { IfErr result (StopsBefore (IsRefusedFor (F.content files.old name.now)) (F.faults files.old) (F.faults files.new)) }
     ensures kept { OnOk result (F.faults files.new ≡ F.faults files.old) }
     ensures untold { IfErr result (λ stop. stop ≢ ending.FileFault → F.faults files.new ≡ F.faults files.old) }
 {
@@ -44,6 +57,20 @@ pub(crate) fn accepted_in<F: Files>(alloc: Global, files: &mut F, name: &str) ->
     };
     match pads_describe::check_text(alloc, text.as_slice()) {
         Ok(count) => Ok(count),
+        Err(Refusal::Fault(verdict)) => Err(Ending::Refused(Reason::Description(verdict))),
+        Err(Refusal::Memory) => Err(Ending::Memory),
+    }
+}
+
+/// The module that a text describes, or how the run ends without it.
+fn described_by(alloc: Global, text: &[u8], coding: Coding) -> Result<Module, Ending>
+    ensures described { IfOk result (λ made. Describes text.now coding (contents made)) }
+    ensures plain { IfOk result (λ made. Plain (contents made).decls) }
+    ensures keeps_all { IfOk result (λ made. KeepsAll (contents made).decls) }
+    ensures stops { IfErr result (StopsFor (IsRefusedFor (Some text.now))) }
+{
+    match pads_describe::describe(alloc, text, coding) {
+        Ok(made) => Ok(made),
         Err(Refusal::Fault(verdict)) => Err(Ending::Refused(Reason::Description(verdict))),
         Err(Refusal::Memory) => Err(Ending::Memory),
     }
@@ -59,17 +86,102 @@ pub(crate) fn described_in<F: Files>(
     ensures described { IfOk result (λ made. IsDescribedIn (F.content files.old name.now) coding (contents made)) }
     ensures plain { IfOk result (λ made. Plain (contents made).decls) }
     ensures keeps_all { IfOk result (λ made. KeepsAll (contents made).decls) }
-    ensures stops { IfErr result (StopsBefore (IsRefusedIn (F.content files.old name.now)) (F.faults files.old) (F.faults files.new)) }
+    ensures stops { IfErr result (StopsBefore (IsRefusedFor (F.content files.old name.now)) (F.faults files.old) (F.faults files.new)) }
     ensures kept { OnOk result (F.faults files.new ≡ F.faults files.old) }
     ensures untold { IfErr result (λ stop. stop ≢ ending.FileFault → F.faults files.new ≡ F.faults files.old) }
 {
-    let text = match text_in(alloc, files, name) {
+    match text_in(alloc, files, name) {
+        Ok(text) => described_by(alloc, text.as_slice(), coding),
+        Err(ending) => Err(ending),
+    }
+}
+
+/// Whether everything is checked and kept under a mask.
+fn is_whole(mask: &Mask) -> bool
+    ensures whole { result ≡ true → mask.now ≡ record { all = mode_form.Both; named = [] } }
+{
+    mask.all == Mode::Both && mask.named.is_empty()
+}
+
+/// The module under a mask, or how the run ends without it. Where everything is checked and kept, nothing is
+/// copied.
+fn masked(alloc: Global, whole: Module, mask: &Mask) -> Result<Module, Ending>
+    ensures masked { IfOk result (λ made. (fault_of (contents whole) mask.now ≡ None) × (contents made ≡ masked_of (contents whole) mask.now)) }
+    ensures stops { IfErr result (StopsFor (IsMaskFault (contents whole) mask.now)) }
+{
+    if is_whole(mask) {
+        return Ok(whole);
+    }
+    match mask_module(alloc, &whole, mask) {
+        Ok(made) => Ok(made),
+        Err(Refusal::Fault(fault)) => Err(Ending::Refused(Reason::MaskItem(fault.item))),
+        Err(Refusal::Memory) => Err(Ending::Memory),
+    }
+}
+
+/// The module of the description in a file under a mask, or how the run ends without it.
+pub(crate) fn masked_in<F: Files>(
+    alloc: Global,
+    files: &mut F,
+    name: &str,
+    coding: Coding,
+    mask: &Mask,
+) -> Result<Module, Ending>
+    ensures masked { IfOk result (λ made. IsMaskedIn (F.content files.old name.now) coding mask.now (contents made)) }
+    ensures stops { IfErr result (StopsBefore (IsRefusedUnder (F.content files.old name.now) coding mask.now) (F.faults files.old) (F.faults files.new)) }
+    ensures kept { OnOk result (F.faults files.new ≡ F.faults files.old) }
+    ensures untold { IfErr result (λ stop. stop ≢ ending.FileFault → F.faults files.new ≡ F.faults files.old) }
+{
+    match described_in(alloc, files, name, coding) {
+        Ok(whole) => masked(alloc, whole, mask),
+        Err(ending) => Err(ending),
+    }
+}
+
+/// What a question asks by an accepted text and its module under a mask, or how the run ends without it.
+fn asked_by(alloc: Global, text: &[u8], made: Module, asks: &Question) -> Result<Answers, Ending>
+    requires accepted { (tree : Ast) × IsAccepted text.now tree }
+    ensures made { IfOk result (λ answers. contents answers.module ≡ contents made) }
+    ensures asked { (tree : Ast) → IsAccepted text.now tree → IfOk result (λ answers. IsAsked tree (contents made) asks.now.path asks.now.filter answers.asked) }
+    ensures stops { (tree : Ast) → IsAccepted text.now tree → IfErr result (StopsFor (IsQuestionFault tree (contents made) asks.now)) }
+{
+    let filter = match &asks.filter {
+        None => None,
+        Some(filter) => Some(filter.as_str().as_bytes()),
+    };
+    match question(alloc, text, &made, asks.path.as_str().as_bytes(), filter) {
+        Ok(asked) => Ok(Answers {
+            module: made,
+            asked,
+        }),
+        Err(Refusal::Fault(fault)) => Err(Ending::Refused(Reason::Question(fault))),
+        Err(Refusal::Memory) => Err(Ending::Memory),
+    }
+}
+
+/// What a question asks by the description in a file under a mask, or how the run ends without it.
+pub(crate) fn asked_in<F: Files>(
+    alloc: Global,
+    files: &mut F,
+    asks: &Question,
+    coding: Coding,
+    mask: &Mask,
+) -> Result<Answers, Ending>
+    ensures asked { IfOk result (λ answers. IsAskedIn (F.content files.old asks.now.description) coding mask.now asks.now answers.asked (contents answers.module)) }
+    ensures stops { IfErr result (StopsBefore (IsUnaskedFor (F.content files.old asks.now.description) coding mask.now asks.now) (F.faults files.old) (F.faults files.new)) }
+    ensures kept { OnOk result (F.faults files.new ≡ F.faults files.old) }
+    ensures untold { IfErr result (λ stop. stop ≢ ending.FileFault → F.faults files.new ≡ F.faults files.old) }
+{
+    let text = match text_in(alloc, files, asks.description.as_str()) {
         Ok(text) => text,
         Err(ending) => return Err(ending),
     };
-    match pads_describe::describe(alloc, text.as_slice(), coding) {
-        Ok(made) => Ok(made),
-        Err(Refusal::Fault(verdict)) => Err(Ending::Refused(Reason::Description(verdict))),
-        Err(Refusal::Memory) => Err(Ending::Memory),
+    let whole = match described_by(alloc, text.as_slice(), coding) {
+        Ok(whole) => whole,
+        Err(ending) => return Err(ending),
+    };
+    match masked(alloc, whole, mask) {
+        Ok(made) => asked_by(alloc, text.as_slice(), made, asks),
+        Err(ending) => Err(ending),
     }
 }

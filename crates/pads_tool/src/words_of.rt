@@ -1,10 +1,11 @@
 ghost use Rattle.std.specs.Prelude.{◌≡◌, ◌≤◌, length};
 ghost use Rattle.pads_tool.specs.Endings.{exit_status, last_line, reason_line, status_of};
+ghost use Rattle.pads_tool.specs.declared.reason.Reason.TheVariants as reason;
 
 use crate::ending::Ending;
 use crate::reason::Reason;
 use crate::status::Status;
-use pads_describe::{Line, put};
+use pads_describe::{Line, put, put_number};
 
 impl Status {
     /// The exit status of the process, from 0 for `Done` to 9 for `Limit`.
@@ -25,6 +26,17 @@ fn line_of(words: &[u8]) -> Line
     line
 }
 
+/// The line for an item of a mask that names no declaration.
+fn mask_line(item: u64) -> Line
+    ensures line { result.items ≡ reason_line (reason.MaskItem item) }
+{
+    let mut line = Line::new();
+    put(&mut line, b"pads: refused: mask item ");
+    put_number(&mut line, item);
+    line.push(b'\n');
+    line
+}
+
 impl Reason {
     /// The last line of a run that is refused for it. It takes no memory.
     fn line(self) -> Line
@@ -32,6 +44,8 @@ impl Reason {
     {
         match self {
             Reason::Description(verdict) => verdict.line(),
+            Reason::MaskItem(item) => mask_line(item),
+            Reason::Question(fault) => fault.line(),
             Reason::SummaryTooLarge => line_of(b"pads: refused: summary too large\n"),
         }
     }

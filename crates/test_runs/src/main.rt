@@ -1,5 +1,5 @@
-//! Tries each row of the tables `records.txt`, `refusals.txt`, `failures.txt`, `prints.txt`, `summaries.txt` and
-//! `selftests.txt`: a run of the program over objects in memory, and what it must leave. What a row says was worked out by hand. Prints each row whose run leaves something else,
+//! Tries each row of the tables `records.txt`, `refusals.txt`, `failures.txt`, `prints.txt`, `summaries.txt`,
+//! `masks.txt`, `queries.txt` and `selftests.txt`: a run of the program over objects in memory, and what it must leave. What a row says was worked out by hand. Prints each row whose run leaves something else,
 //! and how many rows each table has.
 #![tactic(auto)]
 
@@ -104,5 +104,7 @@ fn main(rt: HostRuntime) -> io::Result<()> {
     try_table(&rt, "failures.txt")?;
     try_table(&rt, "prints.txt")?;
     try_table(&rt, "summaries.txt")?;
+    try_table(&rt, "masks.txt")?;
+    try_table(&rt, "queries.txt")?;
     try_table(&rt, "selftests.txt")
 }

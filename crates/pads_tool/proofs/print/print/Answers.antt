@@ -1,6 +1,7 @@
 use Rattle.std.proofs.Common.{refl, true}
 use Rattle.pads_module.specs.Modules.{contents}
 use Rattle.pads_tool.specs.Describing.{described}
+use Rattle.pads_tool.specs.Masking.{describing}
 use Rattle.pads_tool.specs.Printing.{prints}
 use Rattle.pads_tool.specs.Promises.{counts, seen}
 use Rattle.pads_tool.proofs.Promises.{each-kept, printed, printing-stopped, reading-read}
@@ -18,7 +19,7 @@ returns-in-Ok g c = record {
       (contents c.in-Ok.module, c.in-Ok.ensures.described, each-kept c.args.settings.now (contents c.in-Ok.module) c.in-Ok.ensures.plain c.in-Ok.ensures.keeps_all c.requires.limits (g.S.Source.left c.args.source.now))
       (reading-read prints (g.S.Source.left c.args.source.now) (g.S.Source.left c.print_records.new.source)
       (g.K.Sink.written c.args.out.now) (g.K.Sink.written c.print_records.new.out) (g.E.Sink.written c.args.notes.now) (g.E.Sink.written c.print_records.new.notes)
-      true c.args.name.now c.args.settings.now (g.F.Files.content c.args.files.now)
+      (describing c.args.settings.now.coding) true c.args.name.now c.args.settings.now.cutting (g.F.Files.content c.args.files.now)
       (g.F.Files.faults c.args.files.now) (g.F.Files.faults c.described_in.new.files) (g.S.Source.faults c.args.source.now) (g.S.Source.faults c.print_records.new.source)
       (g.K.Sink.faults c.args.out.now) (g.K.Sink.faults c.print_records.new.out) (g.E.Sink.faults c.args.notes.now) (g.E.Sink.faults c.print_records.new.notes)
       (contents c.in-Ok.module) c.print_records.result c.in-Ok.ensures.described c.print_records.ensures.gives);

@@ -17,7 +17,7 @@ returns-in-Check-clause-gives g c =
 
 pub returns-in-Parse-clause-gives : goal.returns-in-Parse-clause-gives
 returns-in-Parse-clause-gives g c =
-    same-order-keeps c.args.order.now (order.Parse c.as_str-in-Parse.result.now c.in-Parse.settings)
+    same-order-keeps c.args.order.now (order.Parse c.as_str-in-Parse.result.now c.in-Parse.settings c.in-Parse.mask)
     (seen (g.F.Files.content c.args.files.now) (g.S.Source.left c.args.source.now) (g.S.Source.left c.parse.new.source)
     (g.K.Sink.written c.args.out.now) (g.K.Sink.written c.parse.new.out) (g.E.Sink.written c.args.notes.now) (g.E.Sink.written c.args.notes.now))
     (counts (g.F.Files.faults c.args.files.now) (g.F.Files.faults c.parse.new.files) (g.S.Source.faults c.args.source.now) (g.S.Source.faults c.parse.new.source)
@@ -35,7 +35,7 @@ returns-in-Print-clause-gives g c =
 
 pub returns-in-Summary-clause-gives : goal.returns-in-Summary-clause-gives
 returns-in-Summary-clause-gives g c =
-    same-order-keeps c.args.order.now (order.Summary c.as_str-in-Summary.result.now c.in-Summary.settings)
+    same-order-keeps c.args.order.now (order.Summary c.as_str-in-Summary.result.now c.in-Summary.settings c.in-Summary.mask)
     (seen (g.F.Files.content c.args.files.now) (g.S.Source.left c.args.source.now) (g.S.Source.left c.summary.new.source)
     (g.K.Sink.written c.args.out.now) (g.K.Sink.written c.summary.new.out) (g.E.Sink.written c.args.notes.now) (g.E.Sink.written c.args.notes.now))
     (counts (g.F.Files.faults c.args.files.now) (g.F.Files.faults c.summary.new.files) (g.S.Source.faults c.args.source.now) (g.S.Source.faults c.summary.new.source)
@@ -53,3 +53,12 @@ returns-in-Selftest-clause-gives g c =
     c.selftest.result (search rules) (c.selftest.ensures.gives (g.F.Files.content c.args.files.now) (g.S.Source.left c.args.source.now) (g.S.Source.left c.args.source.now)
     (g.E.Sink.written c.args.notes.now) (g.E.Sink.written c.args.notes.now) (g.F.Files.faults c.args.files.now) (g.F.Files.faults c.args.files.now)
     (g.S.Source.faults c.args.source.now) (g.S.Source.faults c.args.source.now) (g.E.Sink.faults c.args.notes.now) (g.E.Sink.faults c.args.notes.now))
+
+pub returns-in-Query-clause-gives : goal.returns-in-Query-clause-gives
+returns-in-Query-clause-gives g c =
+    same-order-keeps c.args.order.now (order.Query c.in-Query.question c.in-Query.settings c.in-Query.mask)
+    (seen (g.F.Files.content c.args.files.now) (g.S.Source.left c.args.source.now) (g.S.Source.left c.query.new.source)
+    (g.K.Sink.written c.args.out.now) (g.K.Sink.written c.query.new.out) (g.E.Sink.written c.args.notes.now) (g.E.Sink.written c.args.notes.now))
+    (counts (g.F.Files.faults c.args.files.now) (g.F.Files.faults c.query.new.files) (g.S.Source.faults c.args.source.now) (g.S.Source.faults c.query.new.source)
+    (g.K.Sink.faults c.args.out.now) (g.K.Sink.faults c.query.new.out) (g.E.Sink.faults c.args.notes.now) (g.E.Sink.faults c.args.notes.now))
+    c.query.result (search rules) (c.query.ensures.gives (g.E.Sink.written c.args.notes.now) (g.E.Sink.faults c.args.notes.now))

@@ -1,0 +1,13 @@
+use Rattle.std.proofs.Common.{map, refl}
+use Rattle.pads_module.specs.Modules.{contents}
+use Rattle.pads_tool.proofs.Alike.{rows-alike}
+use Rattle.pads_tool.specs.Describing.{lines}
+use Rattle.pads_tool.specs.Querying.{answers}
+use Rattle.pads_value.specs.Cuts.{cut_of_kept}
+use Rattle.pads_tool.proofs.query.AnswersCommand.read.Goals as goal
+
+pub returns : goal.returns
+returns c = record {
+  rows = rw (rows-alike (lines (contents c.args.self.now.module)) (answers (contents c.args.self.now.module) c.args.self.now.asked) (λ number cut. refl) c.args.number (map cut_of_kept c.args.frames.now))
+      at c.rows_in.ensures.rows;
+}

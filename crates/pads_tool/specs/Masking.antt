@@ -1,0 +1,65 @@
+-- The module that a command reads records by: that of the description in a file, or the same under the mask of the order.
+use Rattle.std.specs.Prelude.{◌≡◌, ℕ, List, Option, Some, None}
+use Rattle.pads_ast.specs.declared.decl.Ast.{Ast}
+use Rattle.pads_code.specs.declared.Coding.{Coding}
+use Rattle.pads_describe.specs.Describing.{Describes}
+use Rattle.pads_describe.specs.Trees.{IsAccepted}
+use Rattle.pads_mask.specs.Masks.{fault_of, masked}
+use Rattle.pads_modes.specs.declared.mask.Mask.{Mask}
+use Rattle.pads_module.specs.Modules.{Contents}
+use Rattle.pads_tool.specs.Texts.{IsDescribedIn, IsRefusedFor, IsRefusedIn}
+use Rattle.pads_tool.specs.declared.reason.Reason.{Reason}
+use Rattle.pads_tool.specs.declared.reason.Reason.TheVariants as reason
+
+-- It is that of the description under the mask, of which each item names a declaration.
+abbrev pub IsMaskedIn : Option (List ℕ) → Coding → Mask → Contents → Type 0
+IsMaskedIn content coding mask made = (whole : Contents) × IsDescribedIn content coding whole × (fault_of whole mask ≡ None) × (made ≡ masked whole mask)
+
+-- The least item of the mask that names no declaration, counted from 1.
+abbrev pub IsUnmaskedIn : Option (List ℕ) → Coding → Mask → ℕ → Type 0
+IsUnmaskedIn content coding mask item = (whole : Contents) × IsDescribedIn content coding whole × (fault_of whole mask ≡ Some item)
+
+-- A module isn't masked for this reason.
+abbrev pub IsMaskFault : Contents → Mask → Reason → Type 0
+IsMaskFault whole mask (reason.MaskItem item) = fault_of whole mask ≡ Some item
+IsMaskFault whole mask (reason.Description verdict) = ⊥
+IsMaskFault whole mask (reason.Question fault) = ⊥
+IsMaskFault whole mask reason.SummaryTooLarge = ⊥
+
+-- An order with a mask is refused for this reason: its description isn't accepted, or else the mask doesn't suit it.
+abbrev pub IsRefusedUnder : Option (List ℕ) → Coding → Mask → Reason → Type 0
+IsRefusedUnder content coding mask (reason.Description verdict) = IsRefusedIn content verdict
+IsRefusedUnder content coding mask (reason.MaskItem item) = IsUnmaskedIn content coding mask item
+IsRefusedUnder content coding mask (reason.Question fault) = ⊥
+IsRefusedUnder content coding mask reason.SummaryTooLarge = ⊥
+
+-- The description in a file is accepted, and each item of the mask names a declaration of it.
+pub record CanBeMasked (content : Option (List ℕ)) (coding : Coding) (mask : Mask) : Type 0 where
+  pub text : List ℕ
+  pub whole : Contents
+  pub content_is : content ≡ Some text
+  pub describes : Describes text coding whole
+  pub suits : fault_of whole mask ≡ None
+
+-- How a command comes by its module, by the content of the description's file: which it is, for which reason there is
+-- none, and that there is one.
+pub record Preparation : Type 1 where
+  pub is_made : Option (List ℕ) → Contents → Type 0
+  pub refused_for : Option (List ℕ) → Reason → Type 0
+  pub can_make : Option (List ℕ) → Type 0
+
+-- The description's own.
+abbrev pub describing : Coding → Preparation
+describing coding = record {
+  is_made = λ content made. IsDescribedIn content coding made;
+  refused_for = IsRefusedFor;
+  can_make = λ content. (text : List ℕ) × (tree : Ast) × (content ≡ Some text) × IsAccepted text tree;
+}
+
+-- The same under a mask.
+abbrev pub masking : Coding → Mask → Preparation
+masking coding mask = record {
+  is_made = λ content made. IsMaskedIn content coding mask made;
+  refused_for = λ content why. IsRefusedUnder content coding mask why;
+  can_make = λ content. CanBeMasked content coding mask;
+}
