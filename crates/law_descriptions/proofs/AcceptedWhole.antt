@@ -8,9 +8,9 @@ use Rattle.pads_ast.specs.declared.decl.DeclBody.{DeclBody as WrittenBody}
 use Rattle.pads_ast.specs.declared.decl.DeclBody.TheVariants as written_body
 use Rattle.pads_ast.specs.declared.name.Name.{Name}
 use Rattle.pads_ast.specs.declared.types.Param.{Param as WrittenParam}
-use Rattle.pads_typed_tree.specs.declared.decl.Decl.{Decl}
-use Rattle.pads_typed_tree.specs.declared.decl.Role.{Role}
-use Rattle.pads_typed_tree.specs.declared.decl.Role.TheVariants as role
+use Rattle.pads_resolution.specs.declared.decl.Decl.{Decl}
+use Rattle.pads_resolution.specs.declared.decl.Role.{Role}
+use Rattle.pads_resolution.specs.declared.decl.Role.TheVariants as role
 use Rattle.pads_resolution.specs.Bodies.{label_of as made_label, body_at as made_body}
 use Rattle.pads_resolution.specs.Expressions.{sort_known}
 use Rattle.pads_resolution.specs.Resolution.{role_of, params_scope as made_params, decl_at, resolved}

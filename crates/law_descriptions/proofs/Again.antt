@@ -9,7 +9,7 @@ use Rattle.pads_ast.specs.declared.name.Name.{Name}
 use Rattle.pads_ast.specs.declared.name.Word.{Word}
 use Rattle.pads_bases.specs.Enums.{SpellingsDiffer}
 use Rattle.pads_bases.specs.declared.enums.Label.{Label as Spelled}
-use Rattle.pads_typed_tree.specs.declared.decl.Label.{Label}
+use Rattle.pads_resolution.specs.declared.decl.Label.{Label}
 use Rattle.pads_resolution.specs.Bodies.{label_of as made_label}
 use Rattle.pads_rules.specs.DeclRules.{same_name, spelling_or, spelling_of, same_spelling}
 use Rattle.pads_rules.specs.Faults.{breaks, when, again}

@@ -18,8 +18,8 @@ use Rattle.pads_rules.specs.Pieces.{sites}
 use Rattle.pads_rules.specs.Texts as texts
 use Rattle.pads_rules.specs.Texts.{same_text}
 use Rattle.pads_rules.specs.Violations.{violations}
-use Rattle.pads_trans_expr.specs.Met.{in_decl, names_of}
-use Rattle.pads_trans_expr.specs.Names.{Name, at_sign, some_name, none_name, names_at, with_name, with_names}
+use Rattle.pads_trans.specs.Met.{in_decl, names_of}
+use Rattle.pads_trans.specs.Names.{Name, at_sign, some_name, none_name, names_at, with_name, with_names}
 use Rattle.law_descriptions.specs.WellSorted.{Each}
 use Rattle.law_descriptions.proofs.Lists.{each-left, each-right, each-weaker}
 use Rattle.law_descriptions.proofs.SortedNames.{is_among, first-there, same-name, own-name}

@@ -44,7 +44,7 @@ use Rattle.pads_rules.specs.declared.declared.Named.{Named as RuleNamed}
 use Rattle.pads_rules.specs.declared.expr_sort.ExprSort.{ExprSort}
 use Rattle.pads_rules.specs.declared.expr_sort.ExprSort.TheVariants as expr_sort
 use Rattle.pads_rules.specs.declared.rule.Rule.TheVariants as rule
-use Rattle.pads_trans_expr.specs.Names.{at_sign}
+use Rattle.pads_trans.specs.Names.{at_sign}
 use Rattle.law_descriptions.specs.Expressions.{SortScope, sort_in, union_branches}
 use Rattle.law_descriptions.specs.Sorts as sorts_of
 use Rattle.law_descriptions.specs.WellSorted.{Each, IfThere, IsTruth, IsNumber, IsNumberKey, IsTextKey, IsBranch, Chooses, IsChosen, IsUnion, IsOption, IsArray, IsTypedef}

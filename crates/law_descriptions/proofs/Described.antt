@@ -19,9 +19,9 @@ use Rattle.pads_ast.specs.declared.decl.UnionBody.TheVariants as written_union
 use Rattle.pads_ast.specs.declared.types.Branch.{Branch as WrittenBranch}
 use Rattle.pads_rules.specs.declared.sort.Form.TheVariants as form
 use Rattle.pads_rules.specs.declared.sort.Sort.{Sort}
-use Rattle.pads_typed_tree.specs.declared.decl.Case.{Case}
-use Rattle.pads_typed_tree.specs.declared.decl.Decl.{Decl}
-use Rattle.pads_typed_tree.specs.declared.types.Branch.{Branch}
+use Rattle.pads_resolution.specs.declared.decl.Case.{Case}
+use Rattle.pads_resolution.specs.declared.decl.Decl.{Decl}
+use Rattle.pads_resolution.specs.declared.types.Branch.{Branch}
 use Rattle.pads_resolution.specs.Bodies.{label_of, branch_at, part_at, parts_at, struct_at, case_at, switch_at, union_at, array_at, body_at as made_body}
 use Rattle.pads_resolution.specs.Numbers.{number_of, has_name, part_number, field_in, field_number, branch_number, label_number}
 use Rattle.pads_resolution.specs.Resolution.{params_scope as made_params, resolved}

@@ -11,12 +11,12 @@ use Rattle.pads_base_names.specs.declared.meaning.BaseName.{BaseName}
 use Rattle.pads_base_names.specs.declared.meaning.BaseName.TheVariants as base
 use Rattle.pads_base_names.specs.declared.meaning.NamedCoding.TheVariants as coding
 use Rattle.pads_rules.specs.declared.sort.Sort.{Sort}
-use Rattle.pads_typed_tree.specs.declared.decl.Computed.{Computed as MadeComputed}
-use Rattle.pads_typed_tree.specs.declared.decl.Computed.TheVariants as computed
-use Rattle.pads_typed_tree.specs.declared.decl.Decl.{Decl}
-use Rattle.pads_typed_tree.specs.declared.decl.DeclBody.{DeclBody}
-use Rattle.pads_typed_tree.specs.declared.decl.Role.{Role}
-use Rattle.pads_typed_tree.specs.declared.decl.Role.TheVariants as role
+use Rattle.pads_resolution.specs.declared.decl.Computed.{Computed as MadeComputed}
+use Rattle.pads_resolution.specs.declared.decl.Computed.TheVariants as computed
+use Rattle.pads_resolution.specs.declared.decl.Decl.{Decl}
+use Rattle.pads_resolution.specs.declared.decl.DeclBody.{DeclBody}
+use Rattle.pads_resolution.specs.declared.decl.Role.{Role}
+use Rattle.pads_resolution.specs.declared.decl.Role.TheVariants as role
 use Rattle.pads_resolution.specs.Bodies.{body_at as made_body}
 use Rattle.pads_resolution.specs.Numbers.{short, number_of}
 use Rattle.pads_resolution.specs.Resolution.{role_of, params_scope as made_params, decl_at}

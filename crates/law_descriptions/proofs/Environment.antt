@@ -1,7 +1,7 @@
 -- The declared types of a description, declaration by declaration.
 use Rattle.std.proofs.Common.{◌≡◌, ◌∙◌, sym, ap, subst, arith, ℕ, zero, suc, ◌+◌, List, [], ◌∷◌, ◌++◌, append_assoc, append-nil, map, length, length-append, take, Some, slice_get}
 use Rattle.pads_ast.specs.declared.decl.Decl.{Decl as WrittenDecl}
-use Rattle.pads_typed_tree.specs.declared.decl.Decl.{Decl}
+use Rattle.pads_resolution.specs.declared.decl.Decl.{Decl}
 use Rattle.pads_resolution.specs.Resolution.{decl_at}
 use Rattle.pads_rules.specs.Pieces.{Site, sites}
 use Rattle.pads_rules.specs.Resolving.{declare, declared_from, declared}

@@ -6,11 +6,11 @@ use Rattle.std.proofs.lemmas.Bool.{and_from}
 use Rattle.pads_module.specs.Counts.{module_counts}
 use Rattle.pads_module.specs.Scopes.{arities_of, decl_in_scope, name_there, shape_there, module_in_scope}
 use Rattle.pads_code.specs.declared.Coding.{Coding}
-use Rattle.pads_typed_tree.specs.declared.decl.Description.{Description}
+use Rattle.pads_resolution.specs.declared.decl.Description.{Description}
 use Rattle.pads_module.specs.Modules.{is_formed}
 use Rattle.pads_trans.specs.Modules.{shape_of, module_of, is_module}
 use Rattle.pads_trans.specs.Terms.{decl_of}
-use Rattle.pads_trans_expr.specs.Met.{in_decl, names_of}
+use Rattle.pads_trans.specs.Met.{in_decl, names_of}
 use Rattle.law_descriptions.specs.WellSorted.{IfThere, WellSorted}
 use Rattle.law_descriptions.proofs.Counted.{module-counts}
 use Rattle.law_descriptions.proofs.Lists.{mapped-there, all-at, each-flat}

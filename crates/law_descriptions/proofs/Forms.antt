@@ -4,11 +4,11 @@ use Rattle.pads_expr.specs.declared.expr.BinOp.TheVariants as written
 use Rattle.pads_rules.specs.declared.sort.Form.{Form}
 use Rattle.pads_rules.specs.declared.sort.Form.TheVariants as form
 use Rattle.pads_rules.specs.declared.sort.Sort.{Sort}
-use Rattle.pads_typed_tree.specs.declared.decl.Decl.{Decl}
+use Rattle.pads_resolution.specs.declared.decl.Decl.{Decl}
 use Rattle.pads_expr.specs.declared.expr.BinOp.{BinOp}
-use Rattle.pads_typed_tree.specs.declared.expr.Expr.{Expr, Expr-F}
-use Rattle.pads_typed_tree.specs.declared.expr.Expr.TheVariants as expr
-use Rattle.pads_typed_tree.specs.declared.expr.NameUse.{NameUse}
+use Rattle.pads_resolution.specs.declared.expr.Expr.{Expr, Expr-F}
+use Rattle.pads_resolution.specs.declared.expr.Expr.TheVariants as expr
+use Rattle.pads_resolution.specs.declared.expr.NameUse.{NameUse}
 use Rattle.pads_rules.specs.Judging.{takes, result_of}
 use Rattle.pads_rules.specs.Sorts.{is_num_form, is_text_form, is_truth_form, same_form}
 use Rattle.pads_rules.specs.declared.expr_sort.ExprSort.TheVariants as expr_sort

@@ -31,9 +31,9 @@ use Rattle.pads_ast.specs.declared.types.Branch.{Branch as WrittenBranch}
 use Rattle.pads_ast.specs.declared.types.Param.{Param as WrittenParam}
 use Rattle.pads_ast.specs.declared.types.Type.{«Type»}
 use Rattle.pads_rules.specs.declared.sort.Sort.{Sort}
-use Rattle.pads_typed_tree.specs.declared.decl.Role.{Role}
-use Rattle.pads_typed_tree.specs.declared.decl.Role.TheVariants as role
-use Rattle.pads_typed_tree.specs.declared.expr.Expr.{Expr}
+use Rattle.pads_resolution.specs.declared.decl.Role.{Role}
+use Rattle.pads_resolution.specs.declared.decl.Role.TheVariants as role
+use Rattle.pads_resolution.specs.declared.expr.Expr.{Expr}
 use Rattle.pads_resolution.specs.declared.visible.Known.{Known}
 use Rattle.pads_resolution.specs.declared.visible.ResolvedExpr.{ResolvedExpr}
 use Rattle.pads_resolution.specs.declared.visible.Stands.TheVariants as stands
@@ -51,9 +51,9 @@ use Rattle.pads_rules.specs.Sorts as rules
 use Rattle.pads_ast.specs.Trees.{args_of, params_of, listed, points_of}
 use Rattle.pads_rules.specs.declared.declared.Declared.{Declared}
 use Rattle.pads_ast.proofs.ExprNames.{names_in_expr-roll}
-use Rattle.pads_trans_expr.specs.Met.{in_expr, in_option, in_type, in_branch, in_part, in_where, in_struct, in_case, in_default, in_switch, in_union, in_array_option, in_array, in_constraint, in_typedef, in_body, in_read_body, in_decl}
-use Rattle.pads_trans_expr.specs.Names.{Name, at_sign, some_name, none_name}
-use Rattle.pads_trans_expr.proofs.MetRolls.{met-Number, met-Word, met-Truth, met-Name, met-Part, met-Branch, met-Index, met-Pis, met-Plen, met-Minus, met-Not, met-Binary, met-Pforall}
+use Rattle.pads_trans.specs.Met.{in_expr, in_option, in_type, in_branch, in_part, in_where, in_struct, in_case, in_default, in_switch, in_union, in_array_option, in_array, in_constraint, in_typedef, in_body, in_read_body, in_decl}
+use Rattle.pads_trans.specs.Names.{Name, at_sign, some_name, none_name}
+use Rattle.pads_trans.proofs.MetRolls.{met-Number, met-Word, met-Truth, met-Name, met-Part, met-Branch, met-Index, met-Pis, met-Plen, met-Minus, met-Not, met-Binary, met-Pforall}
 use Rattle.law_descriptions.specs.WellSorted.{Each}
 use Rattle.law_descriptions.proofs.Lists.{each-left, each-right}
 use Rattle.law_descriptions.proofs.WrittenTrees.{InLink, InStep, Inside, all-layers}

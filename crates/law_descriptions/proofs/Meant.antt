@@ -5,20 +5,20 @@ use Rattle.pads_code.specs.declared.Coding.{Coding}
 use Rattle.pads_expr.specs.declared.expr.Expr.{Expr as Made, Expr-F as Made-F}
 use Rattle.pads_expr.specs.declared.expr.Expr.TheVariants as form_of
 use Rattle.pads_rules.specs.declared.sort.Sort.{Sort}
-use Rattle.pads_typed_tree.specs.declared.decl.Decl.{Decl}
+use Rattle.pads_resolution.specs.declared.decl.Decl.{Decl}
 use Rattle.pads_expr.specs.declared.expr.BinOp.{BinOp}
-use Rattle.pads_typed_tree.specs.declared.expr.Expr.{Expr, Expr-F, roll-Expr, map-Expr}
-use Rattle.pads_typed_tree.specs.declared.expr.NameUse.{NameUse}
-use Rattle.pads_typed_tree.specs.declared.expr.NameUse.TheVariants as meaning
+use Rattle.pads_resolution.specs.declared.expr.Expr.{Expr, Expr-F, roll-Expr, map-Expr}
+use Rattle.pads_resolution.specs.declared.expr.NameUse.{NameUse}
+use Rattle.pads_resolution.specs.declared.expr.NameUse.TheVariants as meaning
 use Rattle.law_calculus.specs.Expressions as made
 use Rattle.law_calculus.specs.Sorts.{Sort as TermSort, Number, Text, Truth, AreSorts}
 use Rattle.law_calculus.proofs.Accepted.{sort_in-roll}
 use Rattle.law_calculus.proofs.Expressions.{and_then-is}
 use Rattle.pads_trans.specs.Terms.{decl_of}
-use Rattle.pads_trans_expr.specs.Expressions.{expr_of, expr_step as made_step, meaning_of}
-use Rattle.pads_trans_expr.specs.Met.{Met, in_expr, expr_met}
-use Rattle.pads_trans_expr.specs.Names.{Name, at_sign, number_of}
-use Rattle.pads_trans_expr.proofs.MetRolls.{met-roll}
+use Rattle.pads_trans.specs.Expressions.{expr_of, expr_step as made_step, meaning_of}
+use Rattle.pads_trans.specs.Met.{Met, in_expr, expr_met}
+use Rattle.pads_trans.specs.Names.{Name, at_sign, number_of}
+use Rattle.pads_trans.proofs.MetRolls.{met-roll}
 use Rattle.law_descriptions.specs.Expressions.{SortScope, sort_in_scope, plainly, part_sort, length_sort, sort_in, expr_step, meaning_sort}
 use Rattle.law_descriptions.specs.Sorts.{num, text, truth}
 use Rattle.law_descriptions.specs.WellSorted.{AreSorts as AreSortsOf, Each, IsDecl}

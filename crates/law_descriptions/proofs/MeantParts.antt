@@ -9,23 +9,23 @@ use Rattle.pads_expr.specs.declared.expr.Expr.{Expr}
 use Rattle.pads_rules.specs.declared.sort.Form.{Form}
 use Rattle.pads_rules.specs.declared.sort.Form.TheVariants as form
 use Rattle.pads_rules.specs.declared.sort.Sort.{Sort}
-use Rattle.pads_typed_tree.specs.declared.decl.Computed.{Computed}
-use Rattle.pads_typed_tree.specs.declared.decl.Computed.TheVariants as computed
-use Rattle.pads_typed_tree.specs.declared.decl.Decl.{Decl}
-use Rattle.pads_typed_tree.specs.declared.decl.DeclBody.{DeclBody}
-use Rattle.pads_typed_tree.specs.declared.decl.DeclBody.TheVariants as body
-use Rattle.pads_typed_tree.specs.declared.decl.Part.{Part as PartTree}
-use Rattle.pads_typed_tree.specs.declared.decl.Part.TheVariants as part
-use Rattle.pads_typed_tree.specs.declared.decl.Role.{Role}
-use Rattle.pads_typed_tree.specs.declared.decl.Role.TheVariants as role
-use Rattle.pads_typed_tree.specs.declared.types.Branch.{Branch}
+use Rattle.pads_resolution.specs.declared.decl.Computed.{Computed}
+use Rattle.pads_resolution.specs.declared.decl.Computed.TheVariants as computed
+use Rattle.pads_resolution.specs.declared.decl.Decl.{Decl}
+use Rattle.pads_resolution.specs.declared.decl.DeclBody.{DeclBody}
+use Rattle.pads_resolution.specs.declared.decl.DeclBody.TheVariants as body
+use Rattle.pads_resolution.specs.declared.decl.Part.{Part as PartTree}
+use Rattle.pads_resolution.specs.declared.decl.Part.TheVariants as part
+use Rattle.pads_resolution.specs.declared.decl.Role.{Role}
+use Rattle.pads_resolution.specs.declared.decl.Role.TheVariants as role
+use Rattle.pads_resolution.specs.declared.types.Branch.{Branch}
 use Rattle.law_calculus.specs.Expressions as made
 use Rattle.law_calculus.specs.Sorts.{Sort as TermSort, Number, Truth, Choice, sort_at, sort_of, AreSorts}
 use Rattle.law_calculus.proofs.SortedForms.{layer_sort}
 use Rattle.law_calculus.proofs.Expressions.{and_then-is}
 use Rattle.pads_trans.specs.Terms.{form_of, label_of, type_of, field_of, part_of, body_of, decl_of}
-use Rattle.pads_trans_expr.specs.Expressions.{expr_of}
-use Rattle.pads_trans_expr.specs.Names.{Name}
+use Rattle.pads_trans.specs.Expressions.{expr_of}
+use Rattle.pads_trans.specs.Names.{Name}
 use Rattle.law_descriptions.specs.Expressions as sorting
 use Rattle.law_descriptions.specs.Expressions.{SortScope, plainly, number_alone, if_read, body_at, union_branches, value_of, part_sort, branch_of, union_branch, branch_by, branch_sort, optional_branch, plain_choice, choice_by, choice_sort, element_of, of_elements, element_sort}
 use Rattle.law_descriptions.specs.Sorts.{truth, computed_sort, type_sort}

@@ -1,6 +1,6 @@
 -- The options of an array, one by one.
 use Rattle.std.proofs.Common.{List, [], ◌∷◌, Option, Some, None}
-use Rattle.pads_typed_tree.specs.declared.decl.ArrayOption.{ArrayOption}
+use Rattle.pads_resolution.specs.declared.decl.ArrayOption.{ArrayOption}
 use Rattle.pads_trans.specs.Terms.{first}
 use Rattle.law_descriptions.specs.WellSorted.{Each, IfThere}
 

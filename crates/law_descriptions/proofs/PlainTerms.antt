@@ -9,36 +9,36 @@ use Rattle.pads_expr.specs.declared.expr.Expr.{Expr}
 use Rattle.pads_rules.specs.declared.sort.Sort.{Sort}
 use Rattle.pads_base_names.specs.declared.meaning.BaseName.{BaseName}
 use Rattle.pads_base_names.specs.declared.meaning.BaseName.TheVariants as base_name
-use Rattle.pads_typed_tree.specs.declared.decl.Array.{Array}
-use Rattle.pads_typed_tree.specs.declared.decl.Case.{Case as CaseTree}
-use Rattle.pads_typed_tree.specs.declared.decl.Constraint.{Constraint}
-use Rattle.pads_typed_tree.specs.declared.decl.Decl.{Decl as DeclTree}
-use Rattle.pads_typed_tree.specs.declared.decl.DeclBody.{DeclBody}
-use Rattle.pads_typed_tree.specs.declared.decl.DeclBody.TheVariants as body
-use Rattle.pads_typed_tree.specs.declared.decl.Description.{Description}
-use Rattle.pads_typed_tree.specs.declared.decl.Part.{Part as PartTree}
-use Rattle.pads_typed_tree.specs.declared.decl.Part.TheVariants as part
-use Rattle.pads_typed_tree.specs.declared.decl.Role.{Role}
-use Rattle.pads_typed_tree.specs.declared.decl.Role.TheVariants as role
-use Rattle.pads_typed_tree.specs.declared.decl.Struct.{Struct}
-use Rattle.pads_typed_tree.specs.declared.decl.Union.{Union}
-use Rattle.pads_typed_tree.specs.declared.decl.Union.TheVariants as union
-use Rattle.pads_typed_tree.specs.declared.expr.Expr.{Expr as ExprTree}
-use Rattle.pads_typed_tree.specs.declared.types.Branch.{Branch}
-use Rattle.pads_typed_tree.specs.declared.types.Literal.{Literal}
-use Rattle.pads_typed_tree.specs.declared.types.Literal.TheVariants as literal
-use Rattle.pads_typed_tree.specs.declared.types.«Type».{«Type» as Typed}
-use Rattle.pads_typed_tree.specs.declared.types.TypeName.{TypeName}
-use Rattle.pads_typed_tree.specs.declared.types.TypeName.TheVariants as type_name
+use Rattle.pads_resolution.specs.declared.decl.Array.{Array}
+use Rattle.pads_resolution.specs.declared.decl.Case.{Case as CaseTree}
+use Rattle.pads_resolution.specs.declared.decl.Constraint.{Constraint}
+use Rattle.pads_resolution.specs.declared.decl.Decl.{Decl as DeclTree}
+use Rattle.pads_resolution.specs.declared.decl.DeclBody.{DeclBody}
+use Rattle.pads_resolution.specs.declared.decl.DeclBody.TheVariants as body
+use Rattle.pads_resolution.specs.declared.decl.Description.{Description}
+use Rattle.pads_resolution.specs.declared.decl.Part.{Part as PartTree}
+use Rattle.pads_resolution.specs.declared.decl.Part.TheVariants as part
+use Rattle.pads_resolution.specs.declared.decl.Role.{Role}
+use Rattle.pads_resolution.specs.declared.decl.Role.TheVariants as role
+use Rattle.pads_resolution.specs.declared.decl.Struct.{Struct}
+use Rattle.pads_resolution.specs.declared.decl.Union.{Union}
+use Rattle.pads_resolution.specs.declared.decl.Union.TheVariants as union
+use Rattle.pads_resolution.specs.declared.expr.Expr.{Expr as ExprTree}
+use Rattle.pads_resolution.specs.declared.types.Branch.{Branch}
+use Rattle.pads_resolution.specs.declared.types.Literal.{Literal}
+use Rattle.pads_resolution.specs.declared.types.Literal.TheVariants as literal
+use Rattle.pads_resolution.specs.declared.types.«Type».{«Type» as Typed}
+use Rattle.pads_resolution.specs.declared.types.TypeName.{TypeName}
+use Rattle.pads_resolution.specs.declared.types.TypeName.TheVariants as type_name
 use Rattle.law_calculus.specs.Plain.{IsPlain, Plain, HasPlainLabels, IsMark, IsAbsorb, IsSeparator}
 use Rattle.law_calculus.specs.Terms.{if_there}
 use Rattle.law_calculus.proofs.Layers.{out-Unit, out-Base, out-Lit, out-Eor, out-Struct, out-Alt, out-Switch, out-Guard, out-Seq, out-Call, out-Compute, out-Absorb, out-Scan}
 use Rattle.law_calculus.proofs.Made.{Each as AllOf, plain-as}
 use Rattle.pads_trans.specs.Modules.{module_of}
 use Rattle.pads_trans.specs.Terms.{base_of, text_of, literal_of, form_of, label_of, enum_of, first, separator, terminator, named_type, constrained, constrained_type, some_arm, none_arm, optional, bare_type, type_of, field_of, part_of, struct_of, arm_of, case_of, default_of, switch_of, union_of, seq_of, array_of, body_of, read_body, decl_of}
-use Rattle.pads_trans_expr.specs.Expressions.{expr_of}
-use Rattle.pads_trans_expr.specs.Met.{names_of}
-use Rattle.pads_trans_expr.specs.Names.{Name, at_sign, number_of}
+use Rattle.pads_trans.specs.Expressions.{expr_of}
+use Rattle.pads_trans.specs.Met.{names_of}
+use Rattle.pads_trans.specs.Names.{Name, at_sign, number_of}
 use Rattle.law_descriptions.specs.Expressions.{SortScope, if_read, if_default}
 use Rattle.law_descriptions.specs.WellSorted.{Each, IfThere, IsNamed, IsType, IsBranch, IsPart, behind, AreParts, IsStruct, IsUnion, IsArray, IsEnum, IsBody, IsDecl, WellSorted, params_scope}
 use Rattle.law_descriptions.proofs.Lists.{all-append, either-one, mapped-there}

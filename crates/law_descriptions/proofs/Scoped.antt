@@ -7,15 +7,15 @@ use Rattle.pads_module.proofs.ExprRolls.{scope-Num, scope-Text, scope-Truth, sco
 use Rattle.pads_expr.specs.declared.expr.Expr.{Expr as Made}
 use Rattle.pads_expr.specs.declared.expr.Expr.TheVariants as made
 use Rattle.pads_rules.specs.declared.sort.Sort.{Sort}
-use Rattle.pads_typed_tree.specs.declared.decl.Decl.{Decl}
+use Rattle.pads_resolution.specs.declared.decl.Decl.{Decl}
 use Rattle.pads_expr.specs.declared.expr.BinOp.{BinOp}
-use Rattle.pads_typed_tree.specs.declared.expr.Expr.{Expr, Expr-F, roll-Expr, map-Expr}
-use Rattle.pads_typed_tree.specs.declared.expr.NameUse.{NameUse}
-use Rattle.pads_typed_tree.specs.declared.expr.NameUse.TheVariants as meaning
-use Rattle.pads_trans_expr.specs.Expressions.{expr_of, expr_step as made_step, meaning_of}
-use Rattle.pads_trans_expr.specs.Met.{Met, in_expr, expr_met}
-use Rattle.pads_trans_expr.specs.Names.{Name, at_sign, number_of}
-use Rattle.pads_trans_expr.proofs.MetRolls.{met-roll}
+use Rattle.pads_resolution.specs.declared.expr.Expr.{Expr, Expr-F, roll-Expr, map-Expr}
+use Rattle.pads_resolution.specs.declared.expr.NameUse.{NameUse}
+use Rattle.pads_resolution.specs.declared.expr.NameUse.TheVariants as meaning
+use Rattle.pads_trans.specs.Expressions.{expr_of, expr_step as made_step, meaning_of}
+use Rattle.pads_trans.specs.Met.{Met, in_expr, expr_met}
+use Rattle.pads_trans.specs.Names.{Name, at_sign, number_of}
+use Rattle.pads_trans.proofs.MetRolls.{met-roll}
 use Rattle.pads_rules.specs.Sorts.{same_form}
 use Rattle.law_descriptions.specs.Expressions.{SortScope, sort_in_scope, as_told, sort_in, expr_step, meaning_sort}
 use Rattle.law_descriptions.specs.Sorts.{num}

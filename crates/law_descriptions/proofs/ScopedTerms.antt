@@ -18,34 +18,34 @@ use Rattle.pads_rules.specs.declared.sort.Sort.{Sort}
 use Rattle.pads_base_names.specs.Names.{takes}
 use Rattle.pads_base_names.specs.declared.meaning.Takes.{Takes}
 use Rattle.pads_base_names.specs.declared.meaning.Takes.TheVariants as takes_form
-use Rattle.pads_typed_tree.specs.declared.decl.Array.{Array}
-use Rattle.pads_typed_tree.specs.declared.decl.ArrayOption.{ArrayOption}
-use Rattle.pads_typed_tree.specs.declared.decl.ArrayOption.TheVariants as option
-use Rattle.pads_typed_tree.specs.declared.decl.Case.{Case as CaseTree}
-use Rattle.pads_typed_tree.specs.declared.decl.Constraint.{Constraint}
-use Rattle.pads_typed_tree.specs.declared.decl.Decl.{Decl as DeclTree}
-use Rattle.pads_typed_tree.specs.declared.decl.DeclBody.{DeclBody}
-use Rattle.pads_typed_tree.specs.declared.decl.DeclBody.TheVariants as body
-use Rattle.pads_typed_tree.specs.declared.decl.Part.{Part as PartTree}
-use Rattle.pads_typed_tree.specs.declared.decl.Part.TheVariants as part
-use Rattle.pads_typed_tree.specs.declared.decl.Role.{Role}
-use Rattle.pads_typed_tree.specs.declared.decl.Role.TheVariants as role
-use Rattle.pads_typed_tree.specs.declared.decl.Struct.{Struct}
-use Rattle.pads_typed_tree.specs.declared.decl.Switch.{Switch}
-use Rattle.pads_typed_tree.specs.declared.decl.Union.{Union}
-use Rattle.pads_typed_tree.specs.declared.decl.Union.TheVariants as union
-use Rattle.pads_typed_tree.specs.declared.expr.Expr.{Expr as ExprTree}
-use Rattle.pads_typed_tree.specs.declared.types.Branch.{Branch}
-use Rattle.pads_typed_tree.specs.declared.types.Literal.{Literal}
-use Rattle.pads_typed_tree.specs.declared.types.Literal.TheVariants as literal
-use Rattle.pads_typed_tree.specs.declared.types.Param.{Param}
-use Rattle.pads_typed_tree.specs.declared.types.«Type».{«Type» as Typed}
-use Rattle.pads_typed_tree.specs.declared.types.TypeName.{TypeName}
-use Rattle.pads_typed_tree.specs.declared.types.TypeName.TheVariants as type_name
+use Rattle.pads_resolution.specs.declared.decl.Array.{Array}
+use Rattle.pads_resolution.specs.declared.decl.ArrayOption.{ArrayOption}
+use Rattle.pads_resolution.specs.declared.decl.ArrayOption.TheVariants as option
+use Rattle.pads_resolution.specs.declared.decl.Case.{Case as CaseTree}
+use Rattle.pads_resolution.specs.declared.decl.Constraint.{Constraint}
+use Rattle.pads_resolution.specs.declared.decl.Decl.{Decl as DeclTree}
+use Rattle.pads_resolution.specs.declared.decl.DeclBody.{DeclBody}
+use Rattle.pads_resolution.specs.declared.decl.DeclBody.TheVariants as body
+use Rattle.pads_resolution.specs.declared.decl.Part.{Part as PartTree}
+use Rattle.pads_resolution.specs.declared.decl.Part.TheVariants as part
+use Rattle.pads_resolution.specs.declared.decl.Role.{Role}
+use Rattle.pads_resolution.specs.declared.decl.Role.TheVariants as role
+use Rattle.pads_resolution.specs.declared.decl.Struct.{Struct}
+use Rattle.pads_resolution.specs.declared.decl.Switch.{Switch}
+use Rattle.pads_resolution.specs.declared.decl.Union.{Union}
+use Rattle.pads_resolution.specs.declared.decl.Union.TheVariants as union
+use Rattle.pads_resolution.specs.declared.expr.Expr.{Expr as ExprTree}
+use Rattle.pads_resolution.specs.declared.types.Branch.{Branch}
+use Rattle.pads_resolution.specs.declared.types.Literal.{Literal}
+use Rattle.pads_resolution.specs.declared.types.Literal.TheVariants as literal
+use Rattle.pads_resolution.specs.declared.types.Param.{Param}
+use Rattle.pads_resolution.specs.declared.types.«Type».{«Type» as Typed}
+use Rattle.pads_resolution.specs.declared.types.TypeName.{TypeName}
+use Rattle.pads_resolution.specs.declared.types.TypeName.TheVariants as type_name
 use Rattle.pads_trans.specs.Terms.{base_of, text_of, literal_of, form_of, label_of, first, separator, terminator, last, named_type, constrained, constrained_type, some_arm, none_arm, optional, bare_type, type_of, field_of, part_of, struct_of, arm_of, case_of, default_of, switch_of, union_of, seq_of, array_of, body_of, read_body, decl_of}
-use Rattle.pads_trans_expr.specs.Expressions.{expr_of, option_of}
-use Rattle.pads_trans_expr.specs.Met.{Met, in_expr, in_option, in_type, in_branch, in_part, in_where, in_struct, in_case, in_default, in_switch, in_union, in_array_option, in_array, in_constraint, in_typedef, in_body, in_read_body, in_decl}
-use Rattle.pads_trans_expr.specs.Names.{Name, at_sign, some_name, none_name, number_of}
+use Rattle.pads_trans.specs.Expressions.{expr_of, option_of}
+use Rattle.pads_trans.specs.Met.{Met, in_expr, in_option, in_type, in_branch, in_part, in_where, in_struct, in_case, in_default, in_switch, in_union, in_array_option, in_array, in_constraint, in_typedef, in_body, in_read_body, in_decl}
+use Rattle.pads_trans.specs.Names.{Name, at_sign, some_name, none_name, number_of}
 use Rattle.law_descriptions.specs.Expressions.{SortScope, if_read, if_default}
 use Rattle.law_descriptions.specs.Sorts.{plain, num, computed_sort, type_sort}
 use Rattle.law_descriptions.specs.WellSorted.{Each, IfThere, AreTaken, HaveSorts, IsTruth, IsNumber, IsConstraint, IsNamed, IsType, IsBranch, IsPart, behind, AreParts, IsStruct, Chooses, IsUnion, IsOption, IsArray, IsBody, IsDecl, params_scope, param_sorts}

@@ -31,7 +31,7 @@ use Rattle.pads_rules.specs.declared.expr_sort.ExprSort.{ExprSort}
 use Rattle.pads_rules.specs.declared.expr_sort.ExprSort.TheVariants as expr_sort
 use Rattle.pads_rules.specs.declared.rule.Rule.TheVariants as rule
 use Rattle.pads_rules.proofs.SameTexts.{same-is}
-use Rattle.pads_trans_expr.specs.Names.{at_sign}
+use Rattle.pads_trans.specs.Names.{at_sign}
 use Rattle.law_descriptions.specs.Expressions.{SortScope, meaning_sort}
 use Rattle.law_descriptions.specs.Sorts as sorts_of
 use Rattle.law_descriptions.specs.WellSorted.{Each, params_scope}

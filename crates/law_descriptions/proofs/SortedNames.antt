@@ -5,9 +5,9 @@ use Rattle.std.proofs.lemmas.List.Folds.{list_any-append}
 use Rattle.std.proofs.lemmas.List.Sums.{passes_at_first}
 use Rattle.std.proofs.lemmas.Bool.{or_left, or_right}
 use lib.Pointwise.{pointwise, bytes_decides}
-use Rattle.pads_typed_tree.specs.declared.decl.Description.{Description}
-use Rattle.pads_trans_expr.specs.Met.{in_decl, names_of}
-use Rattle.pads_trans_expr.specs.Names.{Name, place_of, number_at, number_of, names_at, with_name, with_names}
+use Rattle.pads_resolution.specs.declared.decl.Description.{Description}
+use Rattle.pads_trans.specs.Met.{in_decl, names_of}
+use Rattle.pads_trans.specs.Names.{Name, place_of, number_at, number_of, names_at, with_name, with_names}
 use Rattle.law_descriptions.specs.WellSorted.{Each}
 
 abbrev pub is_among : List Name → Name → Bool

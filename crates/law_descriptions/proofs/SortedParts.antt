@@ -14,35 +14,35 @@ use Rattle.pads_rules.specs.declared.sort.Sort.{Sort}
 use Rattle.pads_base_names.specs.Names as base_names
 use Rattle.pads_base_names.specs.declared.meaning.BaseName.{BaseName}
 use Rattle.pads_base_names.specs.declared.meaning.BaseName.TheVariants as base_name
-use Rattle.pads_typed_tree.specs.declared.decl.Case.{Case as CaseTree}
-use Rattle.pads_typed_tree.specs.declared.decl.Computed.{Computed}
-use Rattle.pads_typed_tree.specs.declared.decl.Computed.TheVariants as computed
-use Rattle.pads_typed_tree.specs.declared.decl.Decl.{Decl as DeclTree}
-use Rattle.pads_typed_tree.specs.declared.decl.Part.{Part as PartTree}
-use Rattle.pads_typed_tree.specs.declared.decl.Part.TheVariants as part
-use Rattle.pads_typed_tree.specs.declared.decl.Struct.{Struct as StructTree}
-use Rattle.pads_typed_tree.specs.declared.decl.Switch.{Switch}
-use Rattle.pads_typed_tree.specs.declared.decl.Union.{Union}
-use Rattle.pads_typed_tree.specs.declared.decl.Union.TheVariants as union
-use Rattle.pads_typed_tree.specs.declared.expr.Expr.{Expr as ExprTree}
-use Rattle.pads_typed_tree.specs.declared.types.Branch.{Branch}
-use Rattle.pads_typed_tree.specs.declared.types.Const.{Const}
-use Rattle.pads_typed_tree.specs.declared.types.Const.TheVariants as const
-use Rattle.pads_typed_tree.specs.declared.types.Literal.{Literal}
-use Rattle.pads_typed_tree.specs.declared.types.Literal.TheVariants as literal
-use Rattle.pads_typed_tree.specs.declared.types.Param.{Param}
-use Rattle.pads_typed_tree.specs.declared.types.«Type».{«Type» as Typed}
-use Rattle.pads_typed_tree.specs.declared.types.TypeName.{TypeName}
-use Rattle.pads_typed_tree.specs.declared.types.TypeName.TheVariants as type_name
+use Rattle.pads_resolution.specs.declared.decl.Case.{Case as CaseTree}
+use Rattle.pads_resolution.specs.declared.decl.Computed.{Computed}
+use Rattle.pads_resolution.specs.declared.decl.Computed.TheVariants as computed
+use Rattle.pads_resolution.specs.declared.decl.Decl.{Decl as DeclTree}
+use Rattle.pads_resolution.specs.declared.decl.Part.{Part as PartTree}
+use Rattle.pads_resolution.specs.declared.decl.Part.TheVariants as part
+use Rattle.pads_resolution.specs.declared.decl.Struct.{Struct as StructTree}
+use Rattle.pads_resolution.specs.declared.decl.Switch.{Switch}
+use Rattle.pads_resolution.specs.declared.decl.Union.{Union}
+use Rattle.pads_resolution.specs.declared.decl.Union.TheVariants as union
+use Rattle.pads_resolution.specs.declared.expr.Expr.{Expr as ExprTree}
+use Rattle.pads_resolution.specs.declared.types.Branch.{Branch}
+use Rattle.pads_resolution.specs.declared.types.Const.{Const}
+use Rattle.pads_resolution.specs.declared.types.Const.TheVariants as const
+use Rattle.pads_resolution.specs.declared.types.Literal.{Literal}
+use Rattle.pads_resolution.specs.declared.types.Literal.TheVariants as literal
+use Rattle.pads_resolution.specs.declared.types.Param.{Param}
+use Rattle.pads_resolution.specs.declared.types.«Type».{«Type» as Typed}
+use Rattle.pads_resolution.specs.declared.types.TypeName.{TypeName}
+use Rattle.pads_resolution.specs.declared.types.TypeName.TheVariants as type_name
 use Rattle.law_calculus.specs.Expressions as made
 use Rattle.law_calculus.specs.Sorted.{Sorts, IsSorted, Standing, stands, bind_sort, parts_standing, has, takes, no_argument, one_number, one_text, is_argument, are_arguments, calls, computes, chooses, is_number_key, is_text_key, sorts_in}
 use Rattle.law_calculus.specs.Sorts.{Sort as TermSort, Number, Text, Nothing, is_number, is_text, is_truth, sort_at, sort_of, AreSorts}
 use Rattle.law_calculus.proofs.Layers.{out-Unit, out-Base, out-Lit, out-Eor, out-Struct, out-Alt, out-Switch, out-Guard, out-Call, out-Compute, out-Absorb, out-Scan}
 use Rattle.law_calculus.proofs.Made.{Each as AllOf, sorted-as}
 use Rattle.pads_trans.specs.Terms.{base_of, text_of, literal_of, form_of, key_of, named_type, constrained, some_arm, none_arm, optional, bare_type, type_of, field_of, part_of, struct_of, arm_of, case_of, default_of, switch_of, union_of, decl_of}
-use Rattle.pads_trans_expr.specs.Expressions.{expr_of}
-use Rattle.pads_trans_expr.specs.Met.{Met, in_expr, in_option, in_type, in_branch, in_part, in_where, in_struct, in_case, in_default, in_switch, in_union}
-use Rattle.pads_trans_expr.specs.Names.{Name, at_sign, some_name, none_name, number_of}
+use Rattle.pads_trans.specs.Expressions.{expr_of}
+use Rattle.pads_trans.specs.Met.{Met, in_expr, in_option, in_type, in_branch, in_part, in_where, in_struct, in_case, in_default, in_switch, in_union}
+use Rattle.pads_trans.specs.Names.{Name, at_sign, some_name, none_name, number_of}
 use Rattle.law_descriptions.specs.Expressions.{SortScope, if_default}
 use Rattle.law_descriptions.specs.Sorts.{plain, num, text, truth, computed_sort, type_sort}
 use Rattle.law_descriptions.specs.WellSorted.{AreSorts as AreSortsOf, Each, IsNumberKey, IsTextKey, AreTaken, HasSort, HaveSorts, IsTruth, IsConstraint, IsNamed, IsType, IsBranch, IsPart, IsParam, behind, AreParts, IsStruct, Chooses, IsUnion, IsDecl, param_sorts}

@@ -9,20 +9,20 @@ use Rattle.pads_code.specs.declared.Coding.{Coding}
 use Rattle.pads_dispatch.specs.declared.base.Base.TheVariants as base
 use Rattle.pads_rules.specs.declared.sort.Form.TheVariants as form
 use Rattle.pads_rules.specs.declared.sort.Sort.{Sort}
-use Rattle.pads_typed_tree.specs.declared.decl.Array.{Array as ArrayTree}
-use Rattle.pads_typed_tree.specs.declared.decl.ArrayOption.{ArrayOption}
-use Rattle.pads_typed_tree.specs.declared.decl.ArrayOption.TheVariants as option
-use Rattle.pads_typed_tree.specs.declared.decl.Constraint.{Constraint}
-use Rattle.pads_typed_tree.specs.declared.decl.Decl.{Decl as DeclTree}
-use Rattle.pads_typed_tree.specs.declared.decl.DeclBody.{DeclBody}
-use Rattle.pads_typed_tree.specs.declared.decl.DeclBody.TheVariants as body
-use Rattle.pads_typed_tree.specs.declared.decl.Description.{Description}
-use Rattle.pads_typed_tree.specs.declared.decl.Role.{Role}
-use Rattle.pads_typed_tree.specs.declared.decl.Role.TheVariants as role
-use Rattle.pads_typed_tree.specs.declared.expr.Expr.{Expr as ExprTree}
-use Rattle.pads_typed_tree.specs.declared.types.Literal.{Literal}
-use Rattle.pads_typed_tree.specs.declared.types.Literal.TheVariants as literal
-use Rattle.pads_typed_tree.specs.declared.types.Param.{Param}
+use Rattle.pads_resolution.specs.declared.decl.Array.{Array as ArrayTree}
+use Rattle.pads_resolution.specs.declared.decl.ArrayOption.{ArrayOption}
+use Rattle.pads_resolution.specs.declared.decl.ArrayOption.TheVariants as option
+use Rattle.pads_resolution.specs.declared.decl.Constraint.{Constraint}
+use Rattle.pads_resolution.specs.declared.decl.Decl.{Decl as DeclTree}
+use Rattle.pads_resolution.specs.declared.decl.DeclBody.{DeclBody}
+use Rattle.pads_resolution.specs.declared.decl.DeclBody.TheVariants as body
+use Rattle.pads_resolution.specs.declared.decl.Description.{Description}
+use Rattle.pads_resolution.specs.declared.decl.Role.{Role}
+use Rattle.pads_resolution.specs.declared.decl.Role.TheVariants as role
+use Rattle.pads_resolution.specs.declared.expr.Expr.{Expr as ExprTree}
+use Rattle.pads_resolution.specs.declared.types.Literal.{Literal}
+use Rattle.pads_resolution.specs.declared.types.Literal.TheVariants as literal
+use Rattle.pads_resolution.specs.declared.types.Param.{Param}
 use Rattle.law_calculus.specs.Expressions as made
 use Rattle.law_calculus.specs.Sorted as sorting
 use Rattle.law_calculus.specs.Sorted.{Sorts, Sorted, IsSortedDecl, has, size_fits, last_fits, are_parameters}
@@ -33,9 +33,9 @@ use Rattle.law_calculus.proofs.Made.{Each as AllOf, sorted-as}
 use Rattle.law_calculus.proofs.PlainSorts.{plain-sorts}
 use Rattle.pads_trans.specs.Modules.{module_of}
 use Rattle.pads_trans.specs.Terms.{text_of, literal_of, label_of, first, separator, terminator, last, constrained_type, type_of, seq_of, array_of, body_of, read_body, decl_of}
-use Rattle.pads_trans_expr.specs.Expressions.{option_of}
-use Rattle.pads_trans_expr.specs.Met.{Met, names_of, in_expr, in_option, in_type, in_array_option, in_array, in_constraint, in_typedef, in_body, in_read_body, in_decl}
-use Rattle.pads_trans_expr.specs.Names.{Name, at_sign, number_of}
+use Rattle.pads_trans.specs.Expressions.{option_of}
+use Rattle.pads_trans.specs.Met.{Met, names_of, in_expr, in_option, in_type, in_array_option, in_array, in_constraint, in_typedef, in_body, in_read_body, in_decl}
+use Rattle.pads_trans.specs.Names.{Name, at_sign, number_of}
 use Rattle.law_descriptions.specs.Expressions.{SortScope, if_read}
 use Rattle.law_descriptions.specs.Sorts.{plain, num, truth, type_sort}
 use Rattle.law_descriptions.specs.WellSorted.{AreSorts as AreSortsOf, Each, IfThere, IsTruth, IsNumber, IsParam, IsOption, IsArray, IsBody, IsDecl, WellSorted, params_scope}

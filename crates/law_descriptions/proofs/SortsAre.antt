@@ -7,7 +7,7 @@ use Rattle.pads_ast.specs.declared.decl.DeclBody.{DeclBody as WrittenBody}
 use Rattle.pads_ast.specs.declared.decl.DeclBody.TheVariants as written_body
 use Rattle.pads_rules.specs.declared.sort.Form.TheVariants as form
 use Rattle.pads_rules.specs.declared.sort.Sort.{Sort}
-use Rattle.pads_typed_tree.specs.declared.decl.Decl.{Decl}
+use Rattle.pads_resolution.specs.declared.decl.Decl.{Decl}
 use Rattle.pads_resolution.specs.Bodies.{body_at as made_body, typedef_at}
 use Rattle.pads_resolution.specs.Expressions.{sort_known}
 use Rattle.pads_resolution.specs.Resolution.{params_scope as made_params, decl_at, resolved}

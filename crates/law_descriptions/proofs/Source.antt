@@ -13,7 +13,7 @@ use Rattle.pads_ast.specs.declared.decl.DeclMark.TheVariants as mark
 use Rattle.pads_ast.specs.declared.decl.Part.{Part as WrittenPart}
 use Rattle.pads_ast.specs.declared.decl.Part.TheVariants as written_part
 use Rattle.pads_ast.specs.declared.types.Type.{«Type»}
-use Rattle.pads_typed_tree.specs.declared.decl.Source.{Source}
+use Rattle.pads_resolution.specs.declared.decl.Source.{Source}
 use Rattle.pads_resolution.specs.Numbers.{short, number_of}
 use Rattle.pads_resolution.specs.Resolution.{named_number, listed_record, list_record, plain_source, parts_source, shaped_source, source_by, source_after, source_of, decl_at, resolved}
 use Rattle.pads_rules.specs.Faults.{breaks}

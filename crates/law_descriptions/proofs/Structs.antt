@@ -29,7 +29,7 @@ use Rattle.pads_rules.specs.Violations.{violations}
 use Rattle.pads_rules.specs.declared.declared.Declared.{Declared}
 use Rattle.pads_rules.specs.declared.declared.Named.{Named as RuleNamed}
 use Rattle.pads_rules.specs.declared.expr_sort.ExprSort.{ExprSort}
-use Rattle.pads_trans_expr.specs.Names.{at_sign}
+use Rattle.pads_trans.specs.Names.{at_sign}
 use Rattle.law_descriptions.specs.Expressions as sorting
 use Rattle.law_descriptions.specs.Expressions.{SortScope, body_at, value_of, part_sort, meaning_sort}
 use Rattle.law_descriptions.specs.Sorts as sorts_of

@@ -10,7 +10,7 @@ use Rattle.pads_ast.specs.declared.expr.Step.{Step}
 use Rattle.pads_ast.specs.declared.expr.Step.TheVariants as step_form
 use Rattle.pads_ast.specs.declared.name.Name.{Name}
 use Rattle.pads_rules.specs.declared.sort.Sort.{Sort}
-use Rattle.pads_typed_tree.specs.declared.decl.Decl.{Decl}
+use Rattle.pads_resolution.specs.declared.decl.Decl.{Decl}
 use Rattle.pads_resolution.specs.declared.visible.Known.{Known}
 use Rattle.pads_resolution.specs.declared.visible.ResolvedExpr.{ResolvedExpr}
 use Rattle.pads_resolution.specs.declared.visible.Stands.{Stands}
@@ -34,7 +34,7 @@ use Rattle.pads_rules.specs.declared.expr_sort.ExprSort.{ExprSort}
 use Rattle.pads_rules.specs.declared.expr_sort.ExprSort.TheVariants as expr_sort
 use Rattle.pads_rules.specs.declared.rule.Rule.TheVariants as rule
 use Rattle.pads_rules.proofs.Judgements.{judged-roll}
-use Rattle.pads_trans_expr.specs.Names.{at_sign}
+use Rattle.pads_trans.specs.Names.{at_sign}
 use Rattle.law_descriptions.specs.Expressions.{SortScope, sort_in_scope, plainly, number_alone, truth_alone, length_sort, forall_sort, part_sort, meaning_sort, sort_in}
 use Rattle.law_descriptions.specs.Sorts.{num, text, truth}
 use Rattle.law_descriptions.specs.WellSorted.{Each}

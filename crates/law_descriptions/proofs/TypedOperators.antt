@@ -9,9 +9,9 @@ use Rattle.pads_ast.specs.declared.expr.UnaryOperator.TheVariants as unary_form
 use Rattle.pads_ast.specs.declared.name.Name.{Name}
 use Rattle.pads_rules.specs.declared.sort.Form.{Form}
 use Rattle.pads_rules.specs.declared.sort.Sort.{Sort}
-use Rattle.pads_typed_tree.specs.declared.decl.Decl.{Decl}
-use Rattle.pads_typed_tree.specs.declared.expr.Expr.{Expr}
-use Rattle.pads_typed_tree.specs.declared.expr.Expr.TheVariants as expr
+use Rattle.pads_resolution.specs.declared.decl.Decl.{Decl}
+use Rattle.pads_resolution.specs.declared.expr.Expr.{Expr}
+use Rattle.pads_resolution.specs.declared.expr.Expr.TheVariants as expr
 use Rattle.pads_resolution.specs.declared.visible.Known.{Known}
 use Rattle.pads_resolution.specs.declared.visible.ResolvedExpr.{ResolvedExpr}
 use Rattle.pads_resolution.specs.Expressions as made

@@ -3,10 +3,10 @@ use Rattle.std.proofs.Common.{◌≡◌, ap, subst, arith, ℕ, zero, suc, ◌+�
 use Rattle.std.specs.Prelude.{⊤}
 use Rattle.pads_expr.specs.declared.expr.Expr.{Expr as Made}
 use Rattle.pads_rules.specs.declared.sort.Sort.{Sort}
-use Rattle.pads_typed_tree.specs.declared.decl.Decl.{Decl}
-use Rattle.pads_typed_tree.specs.declared.expr.Expr.{Expr, Expr-F, out-Expr, roll-Expr, roll-out-Expr, map-Expr, fold-roll-Expr, size-Expr, the_lemmas}
-use Rattle.pads_trans_expr.specs.Expressions.{expr_of, expr_step as made_step}
-use Rattle.pads_trans_expr.specs.Names.{Name}
+use Rattle.pads_resolution.specs.declared.decl.Decl.{Decl}
+use Rattle.pads_resolution.specs.declared.expr.Expr.{Expr, Expr-F, out-Expr, roll-Expr, roll-out-Expr, map-Expr, fold-roll-Expr, size-Expr, the_lemmas}
+use Rattle.pads_trans.specs.Expressions.{expr_of, expr_step as made_step}
+use Rattle.pads_trans.specs.Names.{Name}
 use Rattle.law_descriptions.specs.Expressions.{SortScope, sort_in, expr_step}
 
 -- what holds of each expression directly in one

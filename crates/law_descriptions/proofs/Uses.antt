@@ -17,8 +17,8 @@ use Rattle.pads_base_names.specs.declared.meaning.Takes.TheVariants as takes_for
 use Rattle.pads_rules.specs.declared.sort.Form.{Form}
 use Rattle.pads_rules.specs.declared.sort.Form.TheVariants as form
 use Rattle.pads_rules.specs.declared.sort.Sort.{Sort}
-use Rattle.pads_typed_tree.specs.declared.expr.Expr.{Expr}
-use Rattle.pads_typed_tree.specs.declared.types.Param.{Param}
+use Rattle.pads_resolution.specs.declared.expr.Expr.{Expr}
+use Rattle.pads_resolution.specs.declared.types.Param.{Param}
 use Rattle.pads_resolution.specs.Bodies.{expr_at, body_at as made_body}
 use Rattle.pads_resolution.specs.Expressions.{expression, expr_of, sort_known}
 use Rattle.pads_resolution.specs.Numbers.{declared_number}

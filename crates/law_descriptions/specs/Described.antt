@@ -3,9 +3,9 @@
 use Rattle.std.specs.Prelude.{◌≡◌, ⊤, ℕ, true, false, nat_eq, List, Some}
 use lib.Pointwise.{pointwise}
 use Rattle.pads_ast.specs.declared.decl.Decl.{Decl as WrittenDecl}
-use Rattle.pads_typed_tree.specs.declared.decl.Decl.{Decl}
-use Rattle.pads_typed_tree.specs.declared.decl.DeclBody.{DeclBody}
-use Rattle.pads_typed_tree.specs.declared.expr.Expr.{Expr}
+use Rattle.pads_resolution.specs.declared.decl.Decl.{Decl}
+use Rattle.pads_resolution.specs.declared.decl.DeclBody.{DeclBody}
+use Rattle.pads_resolution.specs.declared.expr.Expr.{Expr}
 use Rattle.pads_resolution.specs.declared.visible.Known.{Known}
 use Rattle.pads_resolution.specs.Expressions.{meaning_of}
 use Rattle.pads_resolution.specs.Numbers.{field_number, branch_number, label_number}
@@ -20,7 +20,7 @@ use Rattle.pads_rules.specs.declared.expr_sort.ExprSort.TheVariants as expr_sort
 use Rattle.pads_rules.specs.declared.sort.Form.{Form}
 use Rattle.pads_rules.specs.declared.sort.Form.TheVariants as form
 use Rattle.pads_rules.specs.declared.sort.Sort.{Sort}
-use Rattle.pads_trans_expr.specs.Names.{at_sign}
+use Rattle.pads_trans.specs.Names.{at_sign}
 use Rattle.law_descriptions.specs.Expressions.{SortScope, body_at, part_sort, union_branch, plain_choice, of_elements, meaning_sort, sort_in}
 use Rattle.law_descriptions.specs.Sorts.{truth}
 use Rattle.law_descriptions.specs.WellSorted.{Each}

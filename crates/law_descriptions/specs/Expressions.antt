@@ -6,24 +6,24 @@ use Rattle.pads_rules.specs.declared.sort.Form.{Form}
 use Rattle.pads_rules.specs.declared.sort.Form.TheVariants as form
 use Rattle.pads_rules.specs.declared.sort.Sort.{Sort}
 use Rattle.pads_rules.specs.Sorts.{same_form}
-use Rattle.pads_typed_tree.specs.declared.decl.Decl.{Decl}
-use Rattle.pads_typed_tree.specs.declared.decl.DeclBody.{DeclBody}
-use Rattle.pads_typed_tree.specs.declared.decl.DeclBody.TheVariants as body
-use Rattle.pads_typed_tree.specs.declared.decl.Label.{Label}
-use Rattle.pads_typed_tree.specs.declared.decl.Part.{Part}
-use Rattle.pads_typed_tree.specs.declared.decl.Part.TheVariants as part
-use Rattle.pads_typed_tree.specs.declared.decl.Role.{Role}
-use Rattle.pads_typed_tree.specs.declared.decl.Role.TheVariants as role
-use Rattle.pads_typed_tree.specs.declared.decl.Union.{Union}
-use Rattle.pads_typed_tree.specs.declared.decl.Union.TheVariants as union
+use Rattle.pads_resolution.specs.declared.decl.Decl.{Decl}
+use Rattle.pads_resolution.specs.declared.decl.DeclBody.{DeclBody}
+use Rattle.pads_resolution.specs.declared.decl.DeclBody.TheVariants as body
+use Rattle.pads_resolution.specs.declared.decl.Label.{Label}
+use Rattle.pads_resolution.specs.declared.decl.Part.{Part}
+use Rattle.pads_resolution.specs.declared.decl.Part.TheVariants as part
+use Rattle.pads_resolution.specs.declared.decl.Role.{Role}
+use Rattle.pads_resolution.specs.declared.decl.Role.TheVariants as role
+use Rattle.pads_resolution.specs.declared.decl.Union.{Union}
+use Rattle.pads_resolution.specs.declared.decl.Union.TheVariants as union
 use Rattle.pads_expr.specs.declared.expr.BinOp.{BinOp}
 use Rattle.pads_expr.specs.declared.expr.BinOp.TheVariants as operator
-use Rattle.pads_typed_tree.specs.declared.expr.Expr.{Expr, Expr-F, fold-Expr}
-use Rattle.pads_typed_tree.specs.declared.expr.NameUse.{NameUse}
-use Rattle.pads_typed_tree.specs.declared.expr.NameUse.TheVariants as meaning
-use Rattle.pads_typed_tree.specs.declared.types.Branch.{Branch}
-use Rattle.pads_typed_tree.specs.declared.types.«Type».{«Type» as Typed}
-use Rattle.pads_trans_expr.specs.Names.{Name, at_sign}
+use Rattle.pads_resolution.specs.declared.expr.Expr.{Expr, Expr-F, fold-Expr}
+use Rattle.pads_resolution.specs.declared.expr.NameUse.{NameUse}
+use Rattle.pads_resolution.specs.declared.expr.NameUse.TheVariants as meaning
+use Rattle.pads_resolution.specs.declared.types.Branch.{Branch}
+use Rattle.pads_resolution.specs.declared.types.«Type».{«Type» as Typed}
+use Rattle.pads_trans.specs.Names.{Name, at_sign}
 use Rattle.law_descriptions.specs.Sorts.{num, text, truth, computed_sort, type_sort}
 
 -- Names with the sorts of what they stand for, the latest binding first. `@` stands for the elements so far

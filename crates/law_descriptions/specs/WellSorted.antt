@@ -8,32 +8,32 @@ use Rattle.pads_bases.specs.Enums.{SpellingsDiffer}
 use Rattle.pads_module.specs.Counts.{few}
 use Rattle.pads_rules.specs.declared.sort.Form.TheVariants as form
 use Rattle.pads_rules.specs.declared.sort.Sort.{Sort}
-use Rattle.pads_typed_tree.specs.declared.decl.Array.{Array}
-use Rattle.pads_typed_tree.specs.declared.decl.ArrayOption.{ArrayOption}
-use Rattle.pads_typed_tree.specs.declared.decl.ArrayOption.TheVariants as option
-use Rattle.pads_typed_tree.specs.declared.decl.Case.{Case}
-use Rattle.pads_typed_tree.specs.declared.decl.Decl.{Decl}
-use Rattle.pads_typed_tree.specs.declared.decl.DeclBody.{DeclBody}
-use Rattle.pads_typed_tree.specs.declared.decl.DeclBody.TheVariants as body
-use Rattle.pads_typed_tree.specs.declared.decl.Description.{Description}
-use Rattle.pads_typed_tree.specs.declared.decl.Label.{Label}
-use Rattle.pads_typed_tree.specs.declared.decl.Part.{Part}
-use Rattle.pads_typed_tree.specs.declared.decl.Part.TheVariants as part
-use Rattle.pads_typed_tree.specs.declared.decl.Struct.{Struct}
-use Rattle.pads_typed_tree.specs.declared.decl.Typedef.{Typedef}
-use Rattle.pads_typed_tree.specs.declared.decl.Union.{Union}
-use Rattle.pads_typed_tree.specs.declared.decl.Union.TheVariants as union
-use Rattle.pads_typed_tree.specs.declared.expr.Expr.{Expr}
-use Rattle.pads_typed_tree.specs.declared.types.Branch.{Branch}
-use Rattle.pads_typed_tree.specs.declared.types.Const.{Const}
-use Rattle.pads_typed_tree.specs.declared.types.Const.TheVariants as const
-use Rattle.pads_typed_tree.specs.declared.types.Param.{Param}
-use Rattle.pads_typed_tree.specs.declared.types.«Type».{«Type» as Typed}
-use Rattle.pads_typed_tree.specs.declared.types.TypeName.{TypeName}
-use Rattle.pads_typed_tree.specs.declared.types.TypeName.TheVariants as type_name
+use Rattle.pads_resolution.specs.declared.decl.Array.{Array}
+use Rattle.pads_resolution.specs.declared.decl.ArrayOption.{ArrayOption}
+use Rattle.pads_resolution.specs.declared.decl.ArrayOption.TheVariants as option
+use Rattle.pads_resolution.specs.declared.decl.Case.{Case}
+use Rattle.pads_resolution.specs.declared.decl.Decl.{Decl}
+use Rattle.pads_resolution.specs.declared.decl.DeclBody.{DeclBody}
+use Rattle.pads_resolution.specs.declared.decl.DeclBody.TheVariants as body
+use Rattle.pads_resolution.specs.declared.decl.Description.{Description}
+use Rattle.pads_resolution.specs.declared.decl.Label.{Label}
+use Rattle.pads_resolution.specs.declared.decl.Part.{Part}
+use Rattle.pads_resolution.specs.declared.decl.Part.TheVariants as part
+use Rattle.pads_resolution.specs.declared.decl.Struct.{Struct}
+use Rattle.pads_resolution.specs.declared.decl.Typedef.{Typedef}
+use Rattle.pads_resolution.specs.declared.decl.Union.{Union}
+use Rattle.pads_resolution.specs.declared.decl.Union.TheVariants as union
+use Rattle.pads_resolution.specs.declared.expr.Expr.{Expr}
+use Rattle.pads_resolution.specs.declared.types.Branch.{Branch}
+use Rattle.pads_resolution.specs.declared.types.Const.{Const}
+use Rattle.pads_resolution.specs.declared.types.Const.TheVariants as const
+use Rattle.pads_resolution.specs.declared.types.Param.{Param}
+use Rattle.pads_resolution.specs.declared.types.«Type».{«Type» as Typed}
+use Rattle.pads_resolution.specs.declared.types.TypeName.{TypeName}
+use Rattle.pads_resolution.specs.declared.types.TypeName.TheVariants as type_name
 use Rattle.pads_trans.specs.Terms.{label_of}
-use Rattle.pads_trans_expr.specs.Met.{names_of}
-use Rattle.pads_trans_expr.specs.Names.{Name, at_sign}
+use Rattle.pads_trans.specs.Met.{names_of}
+use Rattle.pads_trans.specs.Names.{Name, at_sign}
 use Rattle.law_descriptions.specs.Expressions.{SortScope, sort_in, if_read, union_branches}
 use Rattle.law_descriptions.specs.Sorts.{plain, num, text, truth, computed_sort, type_sort, body_sort}
 

@@ -4,7 +4,7 @@ ghost use Rattle.pads_ast.specs.declared.decl.Ast.{Ast};
 ghost use Rattle.pads_ast.specs.declared.decl.Decl.{Decl as WrittenDecl};
 ghost use Rattle.pads_ast.specs.declared.expr.Expr.{Expr as Tree};
 ghost use Rattle.pads_code.specs.declared.Coding.{Coding};
-ghost use Rattle.pads_typed_tree.specs.declared.decl.Decl.{Decl};
+ghost use Rattle.pads_resolution.specs.declared.decl.Decl.{Decl};
 ghost use Rattle.pads_resolution.specs.Expressions.{expression};
 ghost use Rattle.pads_resolution.specs.Resolution.{resolved};
 ghost use Rattle.pads_resolution.specs.Scopes.{NameScope as Names};

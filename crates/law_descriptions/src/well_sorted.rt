@@ -1,7 +1,7 @@
 //! The laws of modules that are made of well-sorted descriptions.
 ghost use Rattle.std.specs.Prelude.{◌≡◌, true};
 ghost use Rattle.pads_code.specs.declared.Coding.{Coding};
-ghost use Rattle.pads_typed_tree.specs.declared.decl.Description.{Description};
+ghost use Rattle.pads_resolution.specs.declared.decl.Description.{Description};
 ghost use Rattle.law_calculus.specs.Plain.{Plain};
 ghost use Rattle.law_calculus.specs.Sorted.{Sorted};
 ghost use Rattle.pads_trans.specs.Modules.{is_module, module_of};

@@ -5,7 +5,7 @@ use Rattle.std.proofs.Common.{◌≡◌, ap, refl, ℕ, ◌+◌, ◌≤◌, nat_
 use Rattle.std.specs.List.{count_by, filter}
 use Rattle.std.proofs.lemmas.List.Sums.{count_by-le-length, length-filter}
 use Rattle.std.proofs.lemmas.List.{length-map}
-use Rattle.pads_samples.specs.Nodes.{Node}
+use Rattle.pads_sums.specs.Nodes.{Node}
 use Rattle.pads_sums.specs.declared.part_sum.PartSum.{PartSum}
 use Rattle.pads_accum.specs.Feeding.{fits_from, part_within, parts_within, placed_over}
 use Rattle.pads_accum.specs.Limits.{most, or_else, over, part_over}

@@ -7,9 +7,9 @@ use Rattle.std.proofs.lemmas.List.{append-nil, map-append}
 use Rattle.std.proofs.lemmas.List.Elements.{filter-append}
 use Rattle.std.proofs.lemmas.Grind.{flat_map-append}
 use Rattle.pads_value.specs.declared.row.Row.{Row}
-use Rattle.pads_samples.specs.Nodes.{Node, sample_of}
-use Rattle.pads_samples.specs.Samples.{Sample, num, text}
-use Rattle.pads_samples.specs.declared.form.PartForm.{PartForm}
+use Rattle.pads_sums.specs.Nodes.{Node, sample_of}
+use Rattle.pads_sums.specs.Samples.{Sample, num, text}
+use Rattle.pads_sums.specs.declared.form.PartForm.{PartForm}
 use Rattle.pads_plan.specs.declared.part.PlanPart.{PlanPart}
 use Rattle.pads_sums.specs.Adding.{with_class, with_node, with_sample}
 use Rattle.pads_sums.specs.Sums.{part_sum}

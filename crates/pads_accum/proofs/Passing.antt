@@ -8,7 +8,7 @@ use Rattle.std.specs.List.{count_by, flat_map, list_any}
 use Rattle.std.proofs.lemmas.Grind.{flat_map-append}
 use Rattle.std.proofs.lemmas.List.Elements.{filter-append}
 use Rattle.pads_value.specs.declared.row.Row.{Row}
-use Rattle.pads_samples.specs.Nodes.{Node}
+use Rattle.pads_sums.specs.Nodes.{Node}
 use Rattle.pads_plan.specs.declared.part.PlanList.{PlanList}
 use Rattle.pads_plan.specs.declared.part.PlanPart.{PlanPart}
 use Rattle.pads_sums.specs.Sums.{most as tracked_most}

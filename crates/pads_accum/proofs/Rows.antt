@@ -7,9 +7,9 @@ use Rattle.pads_value.specs.declared.descriptor.Class.TheVariants as class
 use Rattle.pads_value.specs.declared.descriptor.Pd.{Pd, roll-Pd}
 use Rattle.pads_value.specs.declared.row.Row.{Row}
 use Rattle.pads_value.specs.declared.value.Val.{Val, Val-F, roll-Val, out-roll-Val}
-use Rattle.pads_samples.specs.Samples.{num}
-use Rattle.pads_samples.specs.declared.form.PartForm.{PartForm}
-use Rattle.pads_samples.specs.declared.form.PartForm.TheVariants as form
+use Rattle.pads_sums.specs.Samples.{num}
+use Rattle.pads_sums.specs.declared.form.PartForm.{PartForm}
+use Rattle.pads_sums.specs.declared.form.PartForm.TheVariants as form
 use Rattle.pads_plan.specs.declared.part.PlanList.{PlanList}
 use Rattle.pads_plan.specs.declared.part.PlanPart.{PlanPart}
 use Rattle.pads_plan.specs.declared.part.Step.{Step}

@@ -4,7 +4,7 @@ use Rattle.std.specs.List.{list_all}
 use Rattle.pads_value.specs.declared.row.Row.{Row}
 use Rattle.pads_plan.specs.declared.part.PlanList.{PlanList}
 use Rattle.pads_plan.specs.declared.part.PlanPart.{PlanPart}
-use Rattle.pads_samples.specs.Nodes.{Node}
+use Rattle.pads_sums.specs.Nodes.{Node}
 use Rattle.pads_sums.specs.Adding.{with_node}
 use Rattle.pads_sums.specs.declared.part_sum.PartSum.{PartSum}
 use Rattle.pads_sums.specs.declared.part_sum.SumList.{SumList}

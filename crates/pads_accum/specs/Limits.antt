@@ -7,7 +7,7 @@ use Rattle.pads_plan.specs.declared.part.PlanList.{PlanList}
 use Rattle.pads_plan.specs.declared.part.PlanPart.{PlanPart}
 use Rattle.pads_sums.specs.declared.part_sum.PartSum.{PartSum}
 use Rattle.pads_sums.specs.declared.part_sum.SumList.{SumList}
-use Rattle.pads_samples.specs.Nodes.{Node}
+use Rattle.pads_sums.specs.Nodes.{Node}
 use Rattle.pads_accum.specs.declared.limit.Limit.{Limit}
 use Rattle.pads_accum.specs.Summaries.{nodes_of, rows_of}
 

@@ -9,12 +9,12 @@ use Rattle.pads_value.specs.declared.descriptor.Pd.{Pd, Pd-F, fold-Pd}
 use Rattle.pads_value.specs.declared.row.Row.{Row}
 use Rattle.pads_value.specs.declared.value.Val.{Val}
 use Rattle.pads_forms.specs.Slots.{tuple_of, array_of, branch_of}
-use Rattle.pads_samples.specs.declared.form.PartForm.{PartForm}
-use Rattle.pads_samples.specs.declared.form.PartForm.TheVariants as form
+use Rattle.pads_sums.specs.declared.form.PartForm.{PartForm}
+use Rattle.pads_sums.specs.declared.form.PartForm.TheVariants as form
 use Rattle.pads_plan.specs.declared.part.PlanPart.{PlanPart}
 use Rattle.pads_plan.specs.declared.part.Step.{Step}
 use Rattle.pads_plan.specs.declared.part.Step.TheVariants as step
-use Rattle.pads_samples.specs.Nodes.{Node}
+use Rattle.pads_sums.specs.Nodes.{Node}
 
 -- a node and the number of its part
 pub record Placed : Type 0 where

@@ -3,8 +3,8 @@
 use Rattle.std.specs.Prelude.{◌≡◌, ℕ, zero, suc, nat_eq, ◌&&◌, Bool, false, List, position, take, Option, Some, None, option_and_then, slice_get}
 use Rattle.std.specs.declared.alloc.Global.{Global}
 use Rattle.std.specs.declared.vec.Vec.{Vec}
-use Rattle.pads_samples.specs.declared.form.PartForm.{PartForm}
-use Rattle.pads_samples.specs.declared.form.PartForm.TheVariants as form
+use Rattle.pads_sums.specs.declared.form.PartForm.{PartForm}
+use Rattle.pads_sums.specs.declared.form.PartForm.TheVariants as form
 use Rattle.pads_plan.specs.declared.part.PlanPart.{PlanPart}
 use Rattle.pads_plan.specs.declared.part.Step.{Step}
 use Rattle.pads_plan.specs.declared.part.Step.TheVariants as step

@@ -8,7 +8,7 @@ use Rattle.pads_plan.specs.declared.part.PlanList.{PlanList}
 use Rattle.pads_plan.specs.declared.part.PlanPart.{PlanPart}
 use Rattle.pads_sums.specs.declared.part_sum.PartSum.{PartSum}
 use Rattle.pads_sums.specs.declared.part_sum.SumList.{SumList}
-use Rattle.pads_samples.specs.Nodes.{Node}
+use Rattle.pads_sums.specs.Nodes.{Node}
 use Rattle.pads_sums.specs.Sums.{part_sum, most}
 use Rattle.pads_accum.specs.Placed.{Placed, row_nodes}
 

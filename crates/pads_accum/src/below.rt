@@ -4,7 +4,7 @@ ghost use Rattle.pads_accum.specs.Placed.{form_at as form_of};
 ghost use Rattle.pads_accum.specs.Routes.{IsTableOf, in_row, in_table, is_number, number_of};
 
 use pads_plan::{PlanPart, Step};
-use pads_samples::PartForm;
+use pads_sums::PartForm;
 use pads_value::Memory;
 use std::alloc::Global;
 

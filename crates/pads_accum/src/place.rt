@@ -8,7 +8,7 @@ ghost use Rattle.pads_accum.specs.Routes.{below_at};
 ghost use Rattle.pads_accum.specs.Walks.{chosen_of, chosen_seen, found_seen, kids_below, spot_of, spot_placed, spot_seen};
 
 use crate::guide::Guide;
-use pads_samples::PartForm;
+use pads_sums::PartForm;
 use pads_value::{Class, Memory, Pd, Val};
 
 /// A node of a row that belongs to a part.

@@ -5,14 +5,14 @@ use Rattle.pads_ast.specs.declared.decl.Ast.{Ast}
 use Rattle.pads_code.specs.declared.Coding.{Coding}
 use Rattle.pads_resolution.specs.Resolution.{resolved}
 use Rattle.pads_rules.specs.Violations.{violations}
-use Rattle.pads_typed_tree.specs.declared.decl.Description.{Description}
+use Rattle.pads_resolution.specs.declared.decl.Description.{Description}
 use Rattle.law_calculus.specs.Plain.{Plain}
 use Rattle.law_calculus.specs.Sorted.{Sorted}
 use Rattle.pads_module.specs.Modules.{Contents}
 use Rattle.pads_calc.specs.Skeletons.{KeepsAll}
 use Rattle.pads_trans.specs.Modules.{is_module, module_of}
 use Rattle.pads_trans.proofs.Kept.{translated-kept}
-use Rattle.pads_trans_expr.specs.Met.{names_of}
+use Rattle.pads_trans.specs.Met.{names_of}
 use Rattle.law_descriptions.proofs.Formed.{module-formed}
 use Rattle.law_descriptions.proofs.PlainTerms.{module-plain}
 use Rattle.law_descriptions.proofs.SortedTerms.{module-sorted}

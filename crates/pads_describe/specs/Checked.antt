@@ -1,7 +1,7 @@
 -- What the check of a tree gives.
 use Rattle.std.specs.Prelude.{◌≡◌, []}
 use Rattle.pads_ast.specs.declared.decl.Ast.{Ast}
-use Rattle.pads_typed_tree.specs.declared.decl.Description.{Description}
+use Rattle.pads_resolution.specs.declared.decl.Description.{Description}
 use Rattle.pads_rules.specs.Violations.{violations}
 use Rattle.pads_resolution.specs.Resolution.{resolved}
 

@@ -7,7 +7,7 @@ ghost use Rattle.pads_resolution.specs.Resolution.{resolved};
 ghost use Rattle.pads_rules.specs.Violations.{violations};
 
 use pads_ast::Ast;
-use pads_typed_tree::Description;
+use pads_resolution::Description;
 
 /// An accepted tree, and what it resolves to.
 #[derive(Debug, Drop)]

@@ -9,6 +9,7 @@ mod fault;
 mod gap;
 mod laws;
 mod literal;
+mod name;
 mod number;
 mod reading;
 mod run;
@@ -21,5 +22,6 @@ mod words;
 
 pub use fault::{LexFault, LexKind};
 pub use laws::each_text_has_one_reading;
+pub use name::is_name;
 pub use token::{Keyword, Mark, Token, TokenKind, Tokens};
 pub use tokens::lex;

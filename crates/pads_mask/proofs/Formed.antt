@@ -17,9 +17,9 @@ use Rattle.pads_module.specs.Scopes.{arities_of, arm_in, bind_name, binding_of, 
 use Rattle.pads_module.proofs.CountRolls.{counts-Struct, counts-Alt, counts-Switch, counts-Guard, counts-Seq, counts-Absorb, counts-Scan}
 use Rattle.pads_calc.proofs.Induction.{EachArm, EachCase, EachForm, EachPart, InSeq, WhereThere, each-term}
 use Rattle.pads_module.proofs.TermRolls.{in-Struct, in-Alt, in-Switch, in-Guard, in-Seq, in-Absorb, in-Scan}
-use Rattle.pads_modes.specs.declared.mask.Mask.{Mask}
-use Rattle.pads_modes.specs.declared.mode.Mode.{Mode}
-use Rattle.pads_modes.specs.Modes.{checks, mode_for}
+use Rattle.pads_erase.specs.declared.mask.Mask.{Mask}
+use Rattle.pads_erase.specs.declared.mode.Mode.{Mode}
+use Rattle.pads_erase.specs.Modes.{checks, mode_for}
 use Rattle.pads_mask.specs.Masks.{masked, masked_decl, masked_decls, name_of}
 use Rattle.pads_mask.specs.Unguarded.{unguarded, unguarded_arm, unguarded_case, unguarded_option, unguarded_part, unguarded_seq}
 use Rattle.pads_mask.proofs.Rolls.{unguarded-Unit, unguarded-Base, unguarded-Lit, unguarded-Eor, unguarded-Struct, unguarded-Alt, unguarded-Switch, unguarded-Guard, unguarded-Seq, unguarded-Call, unguarded-Compute, unguarded-Absorb, unguarded-Scan}

@@ -15,11 +15,11 @@ use Rattle.pads_module.specs.Modules.{Contents}
 use Rattle.pads_calc.specs.Skeletons.{skeleton_of}
 use Rattle.pads_module.proofs.SkeletonRolls.{skeleton_rules}
 use Rattle.pads_erase.specs.declared.skeleton.Skeleton.TheVariants as skeleton
-use Rattle.pads_modes.specs.declared.mask.Mask.{Mask}
-use Rattle.pads_modes.specs.declared.mask.NamedMode.{NamedMode}
-use Rattle.pads_modes.specs.declared.mode.Mode.{Mode}
-use Rattle.pads_modes.specs.declared.mode.Mode.TheVariants as mode
-use Rattle.pads_modes.specs.Modes.{mode_for}
+use Rattle.pads_erase.specs.declared.mask.Mask.{Mask}
+use Rattle.pads_erase.specs.declared.mask.NamedMode.{NamedMode}
+use Rattle.pads_erase.specs.declared.mode.Mode.{Mode}
+use Rattle.pads_erase.specs.declared.mode.Mode.TheVariants as mode
+use Rattle.pads_erase.specs.Modes.{mode_for}
 use Rattle.pads_mask.specs.Masks.{fault_of, masked_decl}
 use Rattle.pads_mask.specs.Unguarded.{unguarded}
 use Rattle.pads_mask.proofs.Rolls.{unguarded_rules}

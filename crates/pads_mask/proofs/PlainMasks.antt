@@ -7,9 +7,9 @@ use Rattle.pads_module.specs.Modules.{Contents}
 use Rattle.pads_calc.proofs.Choices.{slice_get-map}
 use Rattle.law_calculus.specs.Plain.{IsAbsorb, IsMark, IsPlain, IsPlainHere, IsSeparator, Plain, plain}
 use Rattle.law_calculus.specs.Terms.{terms_in}
-use Rattle.pads_modes.specs.declared.mask.Mask.{Mask}
-use Rattle.pads_modes.specs.declared.mode.Mode.{Mode}
-use Rattle.pads_modes.specs.Modes.{checks, mode_for}
+use Rattle.pads_erase.specs.declared.mask.Mask.{Mask}
+use Rattle.pads_erase.specs.declared.mode.Mode.{Mode}
+use Rattle.pads_erase.specs.Modes.{checks, mode_for}
 use Rattle.pads_mask.specs.Masks.{masked, masked_decl, name_of}
 use Rattle.pads_mask.specs.Unguarded.{unguarded, unguarded_option, unguarded_seq}
 use Rattle.pads_mask.proofs.Layers.{Layer, left_of, left-is, part-terms, arm-terms, case-terms, seq-terms}

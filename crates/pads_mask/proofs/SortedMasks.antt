@@ -22,9 +22,9 @@ use Rattle.law_calculus.specs.Sorted.{AreSorted, IsSorted, IsSortedDecl, Sorted,
 use Rattle.law_calculus.specs.Sorts.{Sort, Number, Text, Truth, Nothing, Labels, Struct, Choice, Array, AreSorts, is_number, is_text, is_truth, sort_of}
 use Rattle.law_calculus.specs.Terms.{if_there, terms_in}
 use Rattle.law_calculus.proofs.PlainSorts.{plain-sorts, plain-unique}
-use Rattle.pads_modes.specs.declared.mask.Mask.{Mask}
-use Rattle.pads_modes.specs.declared.mode.Mode.{Mode}
-use Rattle.pads_modes.specs.Modes.{checks, mode_for}
+use Rattle.pads_erase.specs.declared.mask.Mask.{Mask}
+use Rattle.pads_erase.specs.declared.mode.Mode.{Mode}
+use Rattle.pads_erase.specs.Modes.{checks, mode_for}
 use Rattle.pads_mask.specs.Masks.{masked, masked_decl, masked_decls, name_of}
 use Rattle.pads_mask.specs.Unguarded.{unguarded}
 use Rattle.pads_mask.proofs.ExpressionNorms.{expression-norm, norm_scope, normed}

@@ -2,8 +2,8 @@
 use Rattle.std.proofs.Common.{◌≡◌, ◌∙◌, sym, ap, refl, Bool, true, false, ◌&&◌, List, [], ◌∷◌, map}
 use Rattle.pads_calc.specs.declared.decl.Decl.{Decl}
 use Rattle.pads_module.specs.Modules.{Contents}
-use Rattle.pads_modes.specs.declared.mask.Mask.{Mask}
-use Rattle.pads_modes.specs.declared.mode.Mode.TheVariants as mode
+use Rattle.pads_erase.specs.declared.mask.Mask.{Mask}
+use Rattle.pads_erase.specs.declared.mode.Mode.TheVariants as mode
 use Rattle.pads_mask.specs.Masks.{masked, masked_decl, masked_decls}
 
 abbrev with_set : Decl → Bool → Decl

@@ -6,9 +6,9 @@ use Rattle.std.specs.Str.{bytes_eq}
 use Rattle.pads_calc.specs.declared.decl.Decl.{Decl}
 use Rattle.pads_module.specs.Modules.{Contents, made_of}
 use Rattle.pads_forms.specs.Terms.{name_at}
-use Rattle.pads_modes.specs.declared.mask.Mask.{Mask}
-use Rattle.pads_modes.specs.declared.mode.Mode.{Mode}
-use Rattle.pads_modes.specs.Modes.{checks, keeps, mode_for}
+use Rattle.pads_erase.specs.declared.mask.Mask.{Mask}
+use Rattle.pads_erase.specs.declared.mode.Mode.{Mode}
+use Rattle.pads_erase.specs.Modes.{checks, keeps, mode_for}
 use Rattle.pads_mask.specs.Unguarded.{unguarded}
 
 abbrev pub masked_decl : Mode → Decl → Decl

@@ -4,8 +4,8 @@ ghost use Rattle.law_calculus.specs.Plain.{Plain};
 ghost use Rattle.law_calculus.specs.Sorted.{Sorted};
 ghost use Rattle.pads_module.specs.Modules.{Contents, is_formed};
 ghost use Rattle.pads_mask.specs.Masks.{masked};
-ghost use Rattle.pads_modes.specs.declared.mask.Mask.{Mask};
-ghost use Rattle.pads_modes.specs.declared.mode.Mode.TheVariants as mode;
+ghost use Rattle.pads_erase.specs.declared.mask.Mask.{Mask};
+ghost use Rattle.pads_erase.specs.declared.mode.Mode.TheVariants as mode;
 
 /// The law of masked modules: what is masked stays well formed, plain and, where it is plain, well-sorted. So
 /// no expression of a masked module is ever evaluated on values of a wrong kind.

@@ -2,14 +2,14 @@ ghost use Rattle.std.specs.Prelude.{◌≡◌, ◌+◌, ◌<◌, ◌^◌, None, 
 ghost use Rattle.pads_module.specs.Modules.{contents};
 ghost use Rattle.pads_mask.specs.Masks.{fault_of, first_unknown as first_unknown_of, is_declared as is_declared_of, masked as masked_of, masked_decl as masked_decl_of, masked_decls as masked_decls_of, name_of};
 ghost use Rattle.pads_mask.specs.Unguarded.{unguarded as unguarded_of};
-ghost use Rattle.pads_modes.specs.Modes.{checks, mode_for};
+ghost use Rattle.pads_erase.specs.Modes.{checks, mode_for};
 ghost use Rattle.pads_value.specs.Refusals.{OnFault};
 
 use crate::copies::copy_decl;
 use crate::unguarded::unguarded;
 use pads_calc::{Decl, Decls, Term};
 use pads_forms::{Terms, name_at};
-use pads_modes::{Mask, Mode};
+use pads_erase::{Mask, Mode};
 use pads_module::Module;
 use pads_value::{Items, Memory, Refusal};
 use std::alloc::Global;

@@ -4,10 +4,10 @@ use Rattle.std.specs.Prelude.{ℕ, Bool, true, false, not, ◌&&◌, ◌==◌, i
 use Rattle.std.specs.List.{filter_map, list_any}
 use Rattle.std.specs.Str.{bytes_eq}
 use Rattle.pads_lex.specs.Spelling.{is_name}
-use Rattle.pads_modes.specs.declared.mask.Mask.{Mask}
-use Rattle.pads_modes.specs.declared.mask.NamedMode.{NamedMode}
-use Rattle.pads_modes.specs.declared.mode.Mode.{Mode}
-use Rattle.pads_modes.specs.declared.mode.Mode.TheVariants as mode
+use Rattle.pads_erase.specs.declared.mask.Mask.{Mask}
+use Rattle.pads_erase.specs.declared.mask.NamedMode.{NamedMode}
+use Rattle.pads_erase.specs.declared.mode.Mode.{Mode}
+use Rattle.pads_erase.specs.declared.mode.Mode.TheVariants as mode
 
 -- A byte in front of pieces: the mark begins one more, and any other byte stands in the first.
 abbrev pub in_front : (mark byte : ℕ) → List (List ℕ) → List (List ℕ)

@@ -5,7 +5,7 @@ use Rattle.std.specs.List.{list_all, list_any}
 use Rattle.std.specs.Option.{is_some}
 use Rattle.std.specs.Str.{bytes_eq}
 use Rattle.pads_frame.specs.Fits.{FitsLimit}
-use Rattle.pads_modes.specs.declared.mask.Mask.{Mask}
+use Rattle.pads_erase.specs.declared.mask.Mask.{Mask}
 use Rattle.pads_orders.specs.declared.order.Command.{Command}
 use Rattle.pads_orders.specs.declared.order.Command.TheVariants as command
 use Rattle.pads_orders.specs.declared.order.Cutting.{Cutting}

@@ -2,7 +2,6 @@
 #![tactic(auto)]
 
 mod mask;
-mod name;
 mod number;
 mod option;
 mod order;

@@ -5,11 +5,11 @@ ghost use Rattle.pads_orders.specs.Masks.{are_items as are_items_of, comes_again
 ghost use Rattle.pads_orders.specs.MaskTexts.{mask_told};
 ghost use Rattle.pads_orders.specs.Orders.{mask_in};
 
-use crate::name::is_name;
 use crate::option::value_in;
 use crate::order::OptionName;
 use crate::word::Word;
-use pads_modes::{Mask, Mode, NamedMode, NamedModes};
+use pads_erase::{Mask, Mode, NamedMode, NamedModes};
+use pads_lex::is_name;
 use pads_value::{Bytes, Items, Memory};
 use std::alloc::Global;
 

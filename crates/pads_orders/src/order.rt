@@ -11,7 +11,7 @@ use crate::reading::{description, question, records_asked};
 use crate::word::Word;
 use pads_code::Coding;
 use pads_frame::Discipline;
-use pads_modes::Mask;
+use pads_erase::Mask;
 use pads_value::Refusal;
 use std::alloc::Global;
 

@@ -4,7 +4,7 @@ use Rattle.std.proofs.lemmas.Option.{none-some, cond_some}
 use Rattle.std.specs.List.{list_any}
 use Rattle.pads_calc.specs.declared.decl.Decl.{Decl}
 use Rattle.pads_plan.specs.Expansion.{bare, caller, called, expand}
-use Rattle.pads_samples.specs.declared.form.PartForm.TheVariants as form
+use Rattle.pads_sums.specs.declared.form.PartForm.TheVariants as form
 use Rattle.pads_plan.specs.Pending.{callee_of, parts_at}
 
 pub callee_none : (decls : List Decl) (left number : ℕ) (way : List ℕ) → left ≡ 0 → callee_of decls left number way ≡ None

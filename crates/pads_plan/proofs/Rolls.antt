@@ -9,7 +9,7 @@ use Rattle.pads_calc.specs.declared.term.Term.{Term, Term-F, fold-roll-Term, rol
 use Rattle.pads_calc.specs.declared.term.Term.TheVariants as code
 use Rattle.pads_calc.proofs.Rolls.{mapped}
 use Rattle.pads_forms.specs.Terms.{name_at}
-use Rattle.pads_samples.specs.declared.form.PartForm.TheVariants as form
+use Rattle.pads_sums.specs.declared.form.PartForm.TheVariants as form
 use Rattle.pads_plan.specs.Expansion.{Listed, Node, Branch, Named, expand, term_step, arm_step, case_step, part_step, seq_step, listing}
 use Rattle.pads_plan.specs.Pending.{named_of, branch_of, branch_of_case, is_passed, is_called, is_unit, form_of, kids_of}
 use Rattle.pads_plan.specs.Ways.{Origin, own}

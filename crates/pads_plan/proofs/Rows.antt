@@ -5,8 +5,8 @@ use Rattle.pads_int.specs.declared.Kind.TheVariants.{U8}
 use Rattle.pads_dispatch.specs.declared.base.Base.TheVariants as base
 use Rattle.pads_calc.specs.declared.decl.Decl.{Decl}
 use Rattle.pads_calc.specs.declared.term.Term.{Term, Term-F, roll-Term}
-use Rattle.pads_samples.specs.declared.form.PartForm.{PartForm}
-use Rattle.pads_samples.specs.declared.form.PartForm.TheVariants as form
+use Rattle.pads_sums.specs.declared.form.PartForm.{PartForm}
+use Rattle.pads_sums.specs.declared.form.PartForm.TheVariants as form
 use Rattle.pads_plan.specs.declared.part.PlanPart.{PlanPart}
 use Rattle.pads_plan.specs.declared.part.Step.{Step}
 use Rattle.pads_plan.specs.declared.part.Step.TheVariants as step

@@ -7,8 +7,8 @@ use Rattle.pads_calc.specs.declared.term.Term.TheVariants as code
 use Rattle.pads_value.specs.declared.memory.Refusal.{Refusal}
 use Rattle.pads_plan.specs.declared.plan.TooManyParts.{TooManyParts}
 use Rattle.pads_plan.specs.Plans.{parts_of}
-use Rattle.pads_samples.specs.declared.form.PartForm.{PartForm}
-use Rattle.pads_samples.specs.declared.form.PartForm.TheVariants as form
+use Rattle.pads_sums.specs.declared.form.PartForm.{PartForm}
+use Rattle.pads_sums.specs.declared.form.PartForm.TheVariants as form
 use Rattle.pads_plan.specs.declared.part.PlanPart.{PlanPart}
 use Rattle.pads_plan.specs.Expansion.{Listed, Numbered, listing, caller}
 use Rattle.pads_plan.specs.Pending.{Listing, Plain, found_at, form_of, kids_of, parts_at, pending, whole}

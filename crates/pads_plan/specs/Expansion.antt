@@ -15,8 +15,8 @@ use Rattle.pads_calc.specs.declared.term.Part.{Part-F}
 use Rattle.pads_calc.specs.declared.term.Seq.{Seq-F}
 use Rattle.pads_calc.specs.declared.term.Term.{Term, Term-F, fold-Term}
 use Rattle.pads_forms.specs.Terms.{name_at}
-use Rattle.pads_samples.specs.declared.form.PartForm.{PartForm}
-use Rattle.pads_samples.specs.declared.form.PartForm.TheVariants as form
+use Rattle.pads_sums.specs.declared.form.PartForm.{PartForm}
+use Rattle.pads_sums.specs.declared.form.PartForm.TheVariants as form
 use Rattle.pads_plan.specs.declared.part.PlanPart.{PlanPart}
 use Rattle.pads_plan.specs.declared.part.Step.{Step}
 use Rattle.pads_plan.specs.declared.part.Step.TheVariants as step

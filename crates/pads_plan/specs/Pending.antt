@@ -11,12 +11,12 @@ use Rattle.pads_forms.specs.Terms.{name_at}
 use Rattle.pads_plan.specs.declared.listing.Pending.{Pending}
 use Rattle.pads_value.specs.declared.memory.Refusal.{Refusal}
 use Rattle.pads_value.specs.declared.memory.Refusal.TheVariants as refusal
-use Rattle.pads_samples.specs.declared.form.PartForm.{PartForm}
+use Rattle.pads_sums.specs.declared.form.PartForm.{PartForm}
 use Rattle.pads_plan.specs.declared.part.PlanPart.{PlanPart}
 use Rattle.pads_plan.specs.declared.part.PlanList.{PlanList}
 use Rattle.pads_plan.specs.declared.plan.TooManyParts.{TooManyParts}
 use Rattle.pads_plan.specs.Plans.{size, most}
-use Rattle.pads_samples.specs.declared.form.PartForm.TheVariants as form
+use Rattle.pads_sums.specs.declared.form.PartForm.TheVariants as form
 use Rattle.pads_plan.specs.declared.part.Step.{Step}
 use Rattle.pads_plan.specs.Expansion.{Numbered, Listed, listing, Branch, Named, bare, base_form, computed_form, expand, caller, parts_below, branches_below, elements_below}
 use Rattle.pads_plan.specs.Ways.{from}

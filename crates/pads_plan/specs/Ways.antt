@@ -1,6 +1,6 @@
 -- How a part is reached: from which part, by which step, and what place it has.
 use Rattle.std.specs.Prelude.{ℕ, List, ◌++◌, codes, Bool, true, false, if◌then◌else◌}
-use Rattle.pads_samples.specs.declared.form.PartForm.{PartForm}
+use Rattle.pads_sums.specs.declared.form.PartForm.{PartForm}
 use Rattle.pads_plan.specs.declared.part.PlanPart.{PlanPart}
 use Rattle.pads_plan.specs.declared.part.Step.{Step}
 use Rattle.pads_plan.specs.declared.part.Step.TheVariants as step

@@ -6,7 +6,7 @@ ghost use Rattle.pads_plan.specs.Pending.{arm_names as arm_names_of, case_names 
 use pads_bases::Label;
 use pads_calc::{Arm, Base, Case, ComputedForm, Term};
 use pads_forms::{Terms, name_at};
-use pads_samples::{PartForm, Texts};
+use pads_sums::{PartForm, Texts};
 use pads_value::{Items, Memory};
 use std::alloc::Global;
 

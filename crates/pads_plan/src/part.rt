@@ -1,4 +1,4 @@
-use pads_samples::PartForm;
+use pads_sums::PartForm;
 use pads_value::{Bytes, Items};
 
 /// The step from a part to one directly below it.

@@ -6,7 +6,7 @@ ghost use Rattle.pads_plan.specs.Pending.{ListsOne, ListsAll, Listing, ListMade,
 ghost use Rattle.pads_plan.specs.Plans.{parts_of, name_of, list_of, lists_of, size, most};
 ghost use Rattle.pads_plan.specs.declared.part.Step.TheVariants as step;
 ghost use Rattle.pads_plan.specs.Ways.{own as own_part, record_origin, body_origin};
-ghost use Rattle.pads_samples.specs.declared.form.PartForm.TheVariants as form;
+ghost use Rattle.pads_sums.specs.declared.form.PartForm.TheVariants as form;
 
 use crate::form::form_of;
 use crate::listing::{Above, Pending, behind, push_kids};
@@ -14,7 +14,7 @@ use crate::part::{PlanList, PlanLists, PlanPart, PlanParts, Step};
 use pads_calc::Term;
 use pads_forms::{Terms, name_at};
 use pads_module::Module;
-use pads_samples::PartForm;
+use pads_sums::PartForm;
 use pads_value::{Items, Memory, Refusal};
 use std::alloc::Global;
 

@@ -5,7 +5,7 @@ use Rattle.std.specs.Prelude.{◌≡◌, ℕ, List, [], Option, Some, None, Resu
 use Rattle.pads_ast.specs.declared.decl.Ast.{Ast}
 use Rattle.pads_ast.specs.declared.decl.ExprAst.{ExprAst}
 use Rattle.pads_expr.specs.declared.expr.Expr.{Expr}
-use Rattle.pads_filter.specs.Filters.{filter_faults, filter_of, node_sort}
+use Rattle.pads_question.specs.Filters.{filter_faults, filter_of, node_sort}
 use Rattle.pads_grammar.specs.Kinds.{Tokens}
 use Rattle.pads_lex.specs.Cut.{BreaksAt, IsCut}
 use Rattle.pads_module.specs.Modules.{Contents}

@@ -4,7 +4,7 @@ use Rattle.std.proofs.lemmas.Fmt.{decimal_digit, decimal-digits_of}
 use lib.Utf8.{encode}
 use Rattle.pads_sums.specs.declared.part_sum.PartSum.{PartSum}
 use Rattle.pads_sums.specs.declared.part_sum.SumList.{SumList}
-use Rattle.pads_samples.specs.Samples.{num}
+use Rattle.pads_sums.specs.Samples.{num}
 use Rattle.pads_report.specs.Ranks.{ranked}
 use Rattle.pads_report.specs.Reports.{report_text, line, percent, average, value_text}
 

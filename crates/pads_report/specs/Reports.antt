@@ -6,7 +6,7 @@ use Rattle.std.specs.Fmt.{signed_decimal}
 use Rattle.json.specs.Print.{quoted}
 use Rattle.pads_sums.specs.declared.part_sum.PartSum.{PartSum}
 use Rattle.pads_sums.specs.declared.part_sum.SumList.{SumList}
-use Rattle.pads_samples.specs.Samples.{Sample, num, text}
+use Rattle.pads_sums.specs.Samples.{Sample, num, text}
 use Rattle.pads_report.specs.Ranks.{ranked}
 
 abbrev pub line : List ℕ → List ℕ

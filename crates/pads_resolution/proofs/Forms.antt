@@ -10,7 +10,7 @@ use Rattle.pads_ast.specs.declared.expr.Step.TheVariants as step_form
 use Rattle.pads_ast.specs.declared.expr.UnaryOperator.{UnaryOperator}
 use Rattle.pads_ast.specs.declared.name.Name.{Name}
 use Rattle.pads_ast.specs.declared.name.Word.{Word}
-use Rattle.pads_typed_tree.specs.declared.expr.Expr.TheVariants as resolved
+use Rattle.pads_resolution.specs.declared.expr.Expr.TheVariants as resolved
 use Rattle.pads_rules.specs.declared.declared.Declared.{Declared}
 use Rattle.pads_rules.specs.Sorts.{num, text, truth}
 use Rattle.pads_ast.specs.Trees.{points_of}

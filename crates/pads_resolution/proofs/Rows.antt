@@ -28,12 +28,12 @@ use Rattle.pads_base_names.specs.Names.{base_name, kind_of, field_of, behind}
 use Rattle.pads_value.specs.Words.{is_word}
 use Rattle.pads_base_names.specs.declared.meaning.BaseName.TheVariants as base
 use Rattle.pads_base_names.specs.declared.meaning.NamedCoding.TheVariants as coding
-use Rattle.pads_typed_tree.specs.declared.decl.DeclBody.TheVariants as body
-use Rattle.pads_typed_tree.specs.declared.decl.Part.TheVariants as resolved_part
-use Rattle.pads_typed_tree.specs.declared.decl.Role.TheVariants as role
-use Rattle.pads_typed_tree.specs.declared.expr.Expr.TheVariants as resolved_expr
-use Rattle.pads_typed_tree.specs.declared.expr.NameUse.TheVariants as meaning
-use Rattle.pads_typed_tree.specs.declared.types.TypeName.TheVariants as type_name
+use Rattle.pads_resolution.specs.declared.decl.DeclBody.TheVariants as body
+use Rattle.pads_resolution.specs.declared.decl.Part.TheVariants as resolved_part
+use Rattle.pads_resolution.specs.declared.decl.Role.TheVariants as role
+use Rattle.pads_resolution.specs.declared.expr.Expr.TheVariants as resolved_expr
+use Rattle.pads_resolution.specs.declared.expr.NameUse.TheVariants as meaning
+use Rattle.pads_resolution.specs.declared.types.TypeName.TheVariants as type_name
 use Rattle.pads_rules.specs.declared.declared.Content.TheVariants as content
 use Rattle.pads_rules.specs.declared.expr_sort.ExprSort.TheVariants as expr_sort
 use Rattle.pads_rules.specs.Pieces.{sites}

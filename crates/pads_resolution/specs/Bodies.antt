@@ -17,23 +17,23 @@ use Rattle.pads_ast.specs.declared.decl.UnionBody.{UnionBody}
 use Rattle.pads_ast.specs.declared.decl.UnionBody.TheVariants as written_union
 use Rattle.pads_ast.specs.declared.expr.Expr.{Expr as Tree}
 use Rattle.pads_ast.specs.declared.types.Branch.{Branch as WrittenBranch}
-use Rattle.pads_typed_tree.specs.declared.decl.Array.{Array}
-use Rattle.pads_typed_tree.specs.declared.decl.ArrayOption.{ArrayOption}
-use Rattle.pads_typed_tree.specs.declared.decl.ArrayOption.TheVariants as option
-use Rattle.pads_typed_tree.specs.declared.decl.Case.{Case}
-use Rattle.pads_typed_tree.specs.declared.decl.Constraint.{Constraint}
-use Rattle.pads_typed_tree.specs.declared.decl.DeclBody.{DeclBody}
-use Rattle.pads_typed_tree.specs.declared.decl.DeclBody.TheVariants as body
-use Rattle.pads_typed_tree.specs.declared.decl.Label.{Label}
-use Rattle.pads_typed_tree.specs.declared.decl.Part.{Part}
-use Rattle.pads_typed_tree.specs.declared.decl.Part.TheVariants as part
-use Rattle.pads_typed_tree.specs.declared.decl.Struct.{Struct}
-use Rattle.pads_typed_tree.specs.declared.decl.Switch.{Switch}
-use Rattle.pads_typed_tree.specs.declared.decl.Typedef.{Typedef}
-use Rattle.pads_typed_tree.specs.declared.decl.Union.{Union}
-use Rattle.pads_typed_tree.specs.declared.decl.Union.TheVariants as union
-use Rattle.pads_typed_tree.specs.declared.expr.Expr.{Expr}
-use Rattle.pads_typed_tree.specs.declared.types.Branch.{Branch}
+use Rattle.pads_resolution.specs.declared.decl.Array.{Array}
+use Rattle.pads_resolution.specs.declared.decl.ArrayOption.{ArrayOption}
+use Rattle.pads_resolution.specs.declared.decl.ArrayOption.TheVariants as option
+use Rattle.pads_resolution.specs.declared.decl.Case.{Case}
+use Rattle.pads_resolution.specs.declared.decl.Constraint.{Constraint}
+use Rattle.pads_resolution.specs.declared.decl.DeclBody.{DeclBody}
+use Rattle.pads_resolution.specs.declared.decl.DeclBody.TheVariants as body
+use Rattle.pads_resolution.specs.declared.decl.Label.{Label}
+use Rattle.pads_resolution.specs.declared.decl.Part.{Part}
+use Rattle.pads_resolution.specs.declared.decl.Part.TheVariants as part
+use Rattle.pads_resolution.specs.declared.decl.Struct.{Struct}
+use Rattle.pads_resolution.specs.declared.decl.Switch.{Switch}
+use Rattle.pads_resolution.specs.declared.decl.Typedef.{Typedef}
+use Rattle.pads_resolution.specs.declared.decl.Union.{Union}
+use Rattle.pads_resolution.specs.declared.decl.Union.TheVariants as union
+use Rattle.pads_resolution.specs.declared.expr.Expr.{Expr}
+use Rattle.pads_resolution.specs.declared.types.Branch.{Branch}
 use Rattle.pads_rules.specs.Pieces.{Site, earlier}
 use Rattle.pads_rules.specs.Resolving.{branch_named, type_sort}
 use Rattle.pads_ast.specs.Trees.{points_of}

@@ -12,10 +12,10 @@ use Rattle.pads_ast.specs.declared.expr.UnaryOperator.TheVariants as unary_form
 use Rattle.pads_rules.specs.declared.sort.Form.{Form}
 use Rattle.pads_rules.specs.declared.sort.Form.TheVariants as form
 use Rattle.pads_rules.specs.declared.sort.Sort.{Sort}
-use Rattle.pads_typed_tree.specs.declared.expr.Expr.{Expr}
-use Rattle.pads_typed_tree.specs.declared.expr.Expr.TheVariants as expr
-use Rattle.pads_typed_tree.specs.declared.expr.NameUse.{NameUse}
-use Rattle.pads_typed_tree.specs.declared.expr.NameUse.TheVariants as meaning
+use Rattle.pads_resolution.specs.declared.expr.Expr.{Expr}
+use Rattle.pads_resolution.specs.declared.expr.Expr.TheVariants as expr
+use Rattle.pads_resolution.specs.declared.expr.NameUse.{NameUse}
+use Rattle.pads_resolution.specs.declared.expr.NameUse.TheVariants as meaning
 use Rattle.pads_rules.specs.declared.declared.Declared.{Declared}
 use Rattle.pads_rules.specs.declared.expr_sort.ExprSort.{ExprSort}
 use Rattle.pads_rules.specs.declared.expr_sort.ExprSort.TheVariants as expr_sort

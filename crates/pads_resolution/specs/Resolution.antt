@@ -9,11 +9,11 @@ use Rattle.pads_ast.specs.declared.decl.DeclMark.TheVariants as mark
 use Rattle.pads_ast.specs.declared.decl.Part.{Part as WrittenPart}
 use Rattle.pads_ast.specs.declared.decl.Part.TheVariants as written_part
 use Rattle.pads_ast.specs.declared.types.Type.{«Type»}
-use Rattle.pads_typed_tree.specs.declared.decl.Decl.{Decl}
-use Rattle.pads_typed_tree.specs.declared.decl.Description.{Description}
-use Rattle.pads_typed_tree.specs.declared.decl.Role.{Role}
-use Rattle.pads_typed_tree.specs.declared.decl.Role.TheVariants as role
-use Rattle.pads_typed_tree.specs.declared.decl.Source.{Source}
+use Rattle.pads_resolution.specs.declared.decl.Decl.{Decl}
+use Rattle.pads_resolution.specs.declared.decl.Description.{Description}
+use Rattle.pads_resolution.specs.declared.decl.Role.{Role}
+use Rattle.pads_resolution.specs.declared.decl.Role.TheVariants as role
+use Rattle.pads_resolution.specs.declared.decl.Source.{Source}
 use Rattle.pads_rules.specs.declared.declared.Declared.{Declared}
 use Rattle.pads_rules.specs.Pieces.{Site, sites, earlier}
 use Rattle.pads_rules.specs.Resolving.{is_record_list, param_named}

@@ -13,17 +13,17 @@ use Rattle.pads_base_names.specs.declared.meaning.BaseName.{BaseName}
 use Rattle.pads_base_names.specs.declared.meaning.BaseName.TheVariants as base
 use Rattle.pads_base_names.specs.declared.meaning.NamedCoding.TheVariants as coding
 use Rattle.pads_base_names.specs.Names.{base_name}
-use Rattle.pads_typed_tree.specs.declared.decl.Computed.{Computed}
-use Rattle.pads_typed_tree.specs.declared.decl.Computed.TheVariants as computed
-use Rattle.pads_typed_tree.specs.declared.expr.Expr.{Expr}
-use Rattle.pads_typed_tree.specs.declared.types.Const.{Const}
-use Rattle.pads_typed_tree.specs.declared.types.Const.TheVariants as const
-use Rattle.pads_typed_tree.specs.declared.types.Literal.{Literal}
-use Rattle.pads_typed_tree.specs.declared.types.Literal.TheVariants as literal
-use Rattle.pads_typed_tree.specs.declared.types.Param.{Param}
-use Rattle.pads_typed_tree.specs.declared.types.«Type».{«Type» as ResolvedType}
-use Rattle.pads_typed_tree.specs.declared.types.TypeName.{TypeName}
-use Rattle.pads_typed_tree.specs.declared.types.TypeName.TheVariants as type_name
+use Rattle.pads_resolution.specs.declared.decl.Computed.{Computed}
+use Rattle.pads_resolution.specs.declared.decl.Computed.TheVariants as computed
+use Rattle.pads_resolution.specs.declared.expr.Expr.{Expr}
+use Rattle.pads_resolution.specs.declared.types.Const.{Const}
+use Rattle.pads_resolution.specs.declared.types.Const.TheVariants as const
+use Rattle.pads_resolution.specs.declared.types.Literal.{Literal}
+use Rattle.pads_resolution.specs.declared.types.Literal.TheVariants as literal
+use Rattle.pads_resolution.specs.declared.types.Param.{Param}
+use Rattle.pads_resolution.specs.declared.types.«Type».{«Type» as ResolvedType}
+use Rattle.pads_resolution.specs.declared.types.TypeName.{TypeName}
+use Rattle.pads_resolution.specs.declared.types.TypeName.TheVariants as type_name
 use Rattle.pads_rules.specs.declared.declared.Declared.{Declared}
 use Rattle.pads_rules.specs.PieceRules.{signed}
 use Rattle.pads_rules.specs.Pieces.{Site, earlier}

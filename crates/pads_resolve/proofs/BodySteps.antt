@@ -2,7 +2,7 @@
 use Rattle.std.proofs.Common.{◌≡◌, ◌∙◌, sym, ap, ℕ, ◌+◌, ◌<◌, ◌≤◌, List, [], ◌∷◌, ◌++◌, length, drop, get_or, append_assoc, add-one}
 use Rattle.std.proofs.lemmas.List.{append-nil, drop_all}
 use Rattle.pads_ast.specs.declared.decl.Part.{Part as WrittenPart}
-use Rattle.pads_typed_tree.specs.declared.decl.Part.{Part}
+use Rattle.pads_resolution.specs.declared.decl.Part.{Part}
 use Rattle.pads_rules.specs.Pieces.{Site, earlier}
 use Rattle.pads_resolution.specs.Bodies.{part_at, parts_at}
 use Rattle.pads_resolution.specs.Scopes.{NameScope, names_after}

@@ -2,8 +2,8 @@
 use Rattle.std.proofs.Common.{◌≡◌, ◌∙◌, sym, ap, refl, ℕ, ◌+◌, ◌<◌, ◌≤◌, List, [], ◌∷◌, ◌++◌, length, map, fold, drop, get_or, append_assoc, add-one}
 use Rattle.std.proofs.lemmas.List.{append-nil, drop_all}
 use Rattle.pads_ast.specs.declared.decl.Decl.{Decl as WrittenDecl}
-use Rattle.pads_typed_tree.specs.declared.decl.Decl.{Decl}
-use Rattle.pads_typed_tree.specs.declared.decl.Source.{Source}
+use Rattle.pads_resolution.specs.declared.decl.Decl.{Decl}
+use Rattle.pads_resolution.specs.declared.decl.Source.{Source}
 use Rattle.pads_rules.specs.declared.declared.Declared.{Declared}
 use Rattle.pads_resolution.specs.Resolution.{decl_at, source_after}
 use Rattle.pads_resolve.specs.Places.{place_of, sites_from}

@@ -1,16 +1,15 @@
 //! Arrays.
 
 ghost use Rattle.std.specs.Prelude.{◌≡◌, map, IfOk};
-ghost use Rattle.pads_resolve_types.specs.Places.{stands};
+ghost use Rattle.pads_resolve.specs.Borrowed.{stands};
 ghost use Rattle.pads_resolution.specs.Bodies as bodies;
 ghost use Rattle.pads_resolve_expr.specs.Scopes.{names_in_scope};
 
 use pads_ast::{Array as WrittenArray, ArrayOption as WrittenOption};
-use pads_resolution::{Stands, Visible};
+use pads_resolution::{Array, ArrayOption, Stands, Visible};
 use pads_resolve_expr::{NameScope, points};
-use pads_resolve_types::{ResolvingSite, expr_at, literal_of, option_at, type_at};
+use crate::{ResolvingSite, expr_at, literal_of, option_at, type_at};
 use pads_rules::{ExprSort, Form};
-use pads_typed_tree::{Array, ArrayOption};
 use pads_value::{Items, Memory};
 use std::alloc::Global;
 

@@ -1,7 +1,7 @@
 //! The bodies of declarations.
 
 ghost use Rattle.std.specs.Prelude.{◌≡◌, IfOk};
-ghost use Rattle.pads_resolve_types.specs.Places.{stands};
+ghost use Rattle.pads_resolve.specs.Borrowed.{stands};
 ghost use Rattle.pads_resolution.specs.Bodies as bodies;
 ghost use Rattle.pads_resolution.specs.Types as types;
 
@@ -10,10 +10,9 @@ use crate::structs::struct_at;
 use crate::typedefs::typedef_at;
 use crate::unions::union_at;
 use pads_ast::{DeclBody as WrittenBody, Type as WrittenType};
-use pads_resolution::Visible;
+use pads_resolution::{DeclBody, Type, Visible};
 use pads_resolve_expr::NameScope;
-use pads_resolve_types::{ResolvingSite, labels_of, type_at};
-use pads_typed_tree::{DeclBody, Type};
+use crate::{ResolvingSite, labels_of, type_at};
 use pads_value::{Items, Memory};
 use std::alloc::Global;
 

@@ -1,17 +1,16 @@
 //! Fields of structs and branches of unions.
 
 ghost use Rattle.std.specs.Prelude.{◌≡◌, ◌++◌, ◌∷◌, [], IfOk, OnOk};
-ghost use Rattle.pads_resolve_types.specs.Places.{stands};
+ghost use Rattle.pads_resolve.specs.Borrowed.{stands};
 ghost use Rattle.pads_resolution.specs.Bodies as bodies;
 ghost use Rattle.pads_resolution.specs.Scopes.{variable};
 ghost use Rattle.pads_rules.specs.Pieces as pieces;
 ghost use Rattle.pads_rules.specs.Resolving.{branch_named};
 
 use pads_ast::Branch as WrittenBranch;
-use pads_resolution::Visible;
+use pads_resolution::{Branch, Visible};
 use pads_resolve_expr::{NameScope, text};
-use pads_resolve_types::{ResolvingSite, add_variable, earlier, option_at, type_at};
-use pads_typed_tree::Branch;
+use crate::{ResolvingSite, add_variable, earlier, option_at, type_at};
 use pads_value::{Items, Memory};
 use std::alloc::Global;
 

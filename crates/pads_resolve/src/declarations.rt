@@ -1,17 +1,16 @@
 //! Declarations.
 
 ghost use Rattle.std.specs.Prelude.{◌≡◌, map, IfOk};
-ghost use Rattle.pads_resolve_types.specs.Places.{stands};
+ghost use Rattle.pads_resolve.specs.Borrowed.{stands};
 ghost use Rattle.pads_resolution.specs.Resolution as resolution;
 ghost use Rattle.pads_resolve.specs.Places.{sites_among};
 
 use crate::bodies::body_at;
 use crate::sources::role_of;
 use pads_declared::{TypeTable, name_of, params_of as params_in};
-use pads_resolution::Visible;
+use pads_resolution::{Decl, Visible};
 use pads_resolve_expr::{PartTable, text};
-use pads_resolve_types::{ResolvingSite, earlier, params_of, variables};
-use pads_typed_tree::Decl;
+use crate::{ResolvingSite, earlier, params_of, variables};
 use pads_value::{Items, Memory};
 use std::alloc::Global;
 

@@ -8,7 +8,7 @@ use crate::sources::source_of;
 use pads_ast::Ast;
 use pads_declared::declared;
 use pads_resolve_expr::PartTable;
-use pads_typed_tree::Description;
+use pads_resolution::Description;
 use pads_value::Memory;
 use std::alloc::Global;
 

@@ -2,15 +2,15 @@
 
 ghost use Rattle.std.specs.Prelude.{◌≡◌, slice_get};
 ghost use Rattle.std.specs.Option.{option_copied};
-ghost use Rattle.pads_resolve_types.specs.Places.{stands};
+ghost use Rattle.pads_resolve.specs.Borrowed.{stands};
 ghost use Rattle.pads_resolution.specs.Resolution as resolution;
 ghost use Rattle.pads_resolve.specs.Places.{sites_among};
 
 use pads_ast::{Decl as WrittenDecl, DeclBody, DeclMark, Part, Type};
 use pads_declared::{EarlierTypes, TypeTable, is_precord, is_psource, is_record_list};
 use pads_resolve_expr::{PartTable, number_of, short};
-use pads_resolve_types::{ResolvingSite, earlier};
-use pads_typed_tree::{Role, Source};
+use crate::{ResolvingSite, earlier};
+use pads_resolution::{Role, Source};
 
 /// What a declaration is for.
 #[tactic(auto, unfolding(pads_resolution::specs::Resolution::role_of))]

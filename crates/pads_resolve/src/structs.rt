@@ -1,10 +1,10 @@
 //! Structs.
 
 ghost use Rattle.std.specs.Prelude.{◌≡◌, IfOk, OnOk};
-ghost use Rattle.pads_resolve_types.specs.Places.{stands};
+ghost use Rattle.pads_resolve.specs.Borrowed.{stands};
 ghost use Rattle.pads_resolution.specs.Bodies as bodies;
 ghost use Rattle.pads_resolution.specs.Scopes as scopes;
-ghost use Rattle.pads_typed_tree.specs.declared.decl.Part.TheVariants as part_form;
+ghost use Rattle.pads_resolution.specs.declared.decl.Part.TheVariants as part_form;
 ghost use Rattle.pads_resolution.specs.Types as types;
 ghost use Rattle.pads_rules.specs.Pieces as pieces;
 
@@ -12,12 +12,11 @@ use crate::branches::branch_in;
 use pads_ast::{
     Expr as Tree, Name, Part as WrittenPart, Struct as WrittenStruct, Type as WrittenType,
 };
-use pads_resolution::Visible;
+use pads_resolution::{Expr, Part, Struct, Visible};
 use pads_resolve_expr::{NameScope, text};
-use pads_resolve_types::{
+use crate::{
     ResolvingSite, add_variable, computed_of, earlier, expr_at, literal_of, with_fields,
 };
-use pads_typed_tree::{Expr, Part, Struct};
 use pads_value::{Items, Memory};
 use std::alloc::Global;
 
@@ -42,7 +41,7 @@ fn computed_at(
 }
 
 /// A part of a struct, which puts its name behind those in scope, where it has one.
-#[tactic(auto, unfolding(pads_resolution::specs::Bodies::part_at), using(pads_resolve_types::proofs::Steps::nothing_more))]
+#[tactic(auto, unfolding(pads_resolution::specs::Bodies::part_at), using(crate::proofs::Steps::nothing_more))]
 fn part_in(
     alloc: Global,
     site: &ResolvingSite<'_>,

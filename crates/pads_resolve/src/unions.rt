@@ -1,15 +1,14 @@
 //! Unions.
 
 ghost use Rattle.std.specs.Prelude.{◌≡◌, map, option_map, IfOk, OnOk};
-ghost use Rattle.pads_resolve_types.specs.Places.{stands};
+ghost use Rattle.pads_resolve.specs.Borrowed.{stands};
 ghost use Rattle.pads_resolution.specs.Bodies as bodies;
 
 use crate::branches::branch_in;
 use pads_ast::{Branch as WrittenBranch, Case as WrittenCase, Switch as WrittenSwitch, UnionBody};
-use pads_resolution::Visible;
+use pads_resolution::{Branch, Case, Switch, Union, Visible};
 use pads_resolve_expr::NameScope;
-use pads_resolve_types::{ResolvingSite, const_of, expr_at};
-use pads_typed_tree::{Branch, Case, Switch, Union};
+use crate::{ResolvingSite, const_of, expr_at};
 use pads_value::{Items, Memory};
 use std::alloc::Global;
 

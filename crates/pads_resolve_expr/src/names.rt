@@ -6,9 +6,8 @@ ghost use Rattle.pads_resolve_expr.specs.Scopes.{names_in_scope};
 
 use crate::scope::{NameScope, known};
 use crate::texts::text;
-use pads_resolution::{Known, ResolvedExpr, Stands};
+use pads_resolution::{Expr, Known, NameUse, ResolvedExpr, Stands};
 use pads_rules::{ExprSort, Form, Sort};
-use pads_typed_tree::{Expr, NameUse};
 use pads_value::Memory;
 use std::alloc::Global;
 

@@ -1,7 +1,7 @@
 //! The forms of resolved expressions, from their parts.
 
 ghost use Rattle.std.specs.Prelude.{◌≡◌, IfOk, pos};
-ghost use Rattle.pads_typed_tree.specs.declared.expr.Expr.TheVariants as expr_form;
+ghost use Rattle.pads_resolution.specs.declared.expr.Expr.TheVariants as expr_form;
 ghost use Rattle.pads_rules.specs.Sorts.{num, text as text_sort, truth as truth_sort};
 ghost use Rattle.pads_ast.specs.Trees.{points_of};
 ghost use Rattle.pads_resolution.specs.Expressions as expressions;
@@ -15,9 +15,8 @@ use crate::texts::{points, text};
 use pads_ast::{Number, UnaryOperator, Word};
 use pads_declared::{TypeTable, element};
 use pads_expr::BinOp;
-use pads_resolution::ResolvedExpr;
+use pads_resolution::{Expr, ResolvedExpr};
 use pads_rules::{ExprSort, Form, result_of, unary_gives};
-use pads_typed_tree::Expr;
 use pads_value::{Boxed, Memory};
 use std::alloc::Global;
 

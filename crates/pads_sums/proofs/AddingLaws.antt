@@ -8,7 +8,7 @@ use borrow.Author.Tests.{ltb-true, ltb-false}
 use Rattle.std.proofs.lemmas.List.Folds.{list_any-append}
 use Rattle.std.proofs.lemmas.List.Sums.{count_by-le-length}
 use Rattle.std.proofs.lemmas.Map.Views.{any-filter_same}
-use Rattle.pads_samples.specs.Samples.{Sample, same}
+use Rattle.pads_sums.specs.Samples.{Sample, same}
 use Rattle.pads_sums.specs.Distinct.{distinct, within, occurrences, tracked, is_tracked, others}
 use Rattle.pads_sums.specs.Adding.{next, Pairs, is_among, again, with_new, has_room, is_counted, counted}
 use Rattle.pads_sums.proofs.Lists.{count_cons, map_same}

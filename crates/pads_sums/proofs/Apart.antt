@@ -7,7 +7,7 @@ use Rattle.std.proofs.Math.Bool.{or-false}
 use Rattle.std.proofs.lemmas.List.{append-nil}
 use Rattle.std.proofs.lemmas.List.Elements.{filter-append}
 use Rattle.std.proofs.lemmas.List.Folds.{list_any-append}
-use Rattle.pads_samples.specs.Samples.{Sample, num, text, same}
+use Rattle.pads_sums.specs.Samples.{Sample, num, text, same}
 use Rattle.pads_sums.specs.Adding.{Pairs, is_num, is_text, is_among, again, with_new, has_room, is_counted, counted, counted_where}
 use Rattle.pads_sums.specs.Seen.{number_pair, text_pair, pairs}
 

@@ -5,7 +5,7 @@ use Rattle.std.specs.List.{filter, list_any}
 use Rattle.std.proofs.lemmas.Cmp.{int_eq_equiv, nat_list_eq_equiv}
 use Rattle.std.proofs.lemmas.List.Elements.{filter-append, filter_agree}
 use Rattle.std.proofs.lemmas.Map.Views.{any-filter_same}
-use Rattle.pads_samples.specs.Samples.{Sample, num, text, same}
+use Rattle.pads_sums.specs.Samples.{Sample, num, text, same}
 use Rattle.pads_sums.specs.Distinct.{distinct}
 use Rattle.pads_sums.proofs.Lists.{filter_both, filter_all}
 

@@ -3,7 +3,7 @@ use Rattle.std.proofs.Common.{◌≡◌, ◌∙◌, sym, ap, refl, ℕ, zero, su
 use Rattle.std.specs.Option.{option_map}
 use Rattle.std.specs.Map.{keys_of, values_of, lookup}
 use Rattle.indexmap.specs.IndexMap.{insert_entry, set_value_at}
-use Rattle.pads_samples.specs.Samples.{Sample, same}
+use Rattle.pads_sums.specs.Samples.{Sample, same}
 use Rattle.pads_sums.specs.Adding.{is_among, again, next}
 use Rattle.pads_sums.proofs.Positions.{position_cons}
 

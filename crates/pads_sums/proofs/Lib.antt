@@ -1,3 +1,4 @@
+pub mod SuitLaws
 pub mod AddingLaws
 pub mod Apart
 pub mod DistinctLaws

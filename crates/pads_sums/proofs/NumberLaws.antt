@@ -5,7 +5,7 @@ use Rattle.std.specs.List.{list_all}
 use Rattle.std.proofs.lemmas.Int.{ints}
 use Rattle.std.proofs.lemmas.List.Sums.{fold_push}
 use lib.IntN.{neg_ℤ}
-use Rattle.pads_samples.specs.Nodes.{in_range}
+use Rattle.pads_sums.specs.Nodes.{in_range}
 use Rattle.pads_sums.specs.Sums.{over_all, total}
 
 -- the least and the greatest of one number more

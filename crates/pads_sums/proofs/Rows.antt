@@ -1,8 +1,8 @@
 -- Rows of sums, computed on their definitions.
 use Rattle.std.proofs.Common.{◌≡◌, refl, pos, negsuc, ◌^◌, ◌-◌, true, false, List, [], ◌∷◌, codes, Some, None}
 use Rattle.pads_sums.specs.Distinct.{distinct, tracked, others}
-use Rattle.pads_samples.specs.Nodes.{in_range, number_sample, name_sample}
-use Rattle.pads_samples.specs.Samples.{Sample, num, text}
+use Rattle.pads_sums.specs.Nodes.{in_range, number_sample, name_sample}
+use Rattle.pads_sums.specs.Samples.{Sample, num, text}
 use Rattle.pads_sums.specs.Sums.{kept}
 
 abbrev samples : List Sample

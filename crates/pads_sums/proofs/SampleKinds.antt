@@ -2,10 +2,10 @@
 use Rattle.pads_sums.proofs.Lists.{both}
 use Rattle.std.proofs.Common.{◌≡◌, ◌∙◌, sym, ap, refl, ℕ, Bool, true, false, not, ◌&&◌, true≢false, List, [], ◌∷◌, ◌++◌, Option, Some, None}
 use Rattle.std.specs.List.{filter, list_all, list_any, cons_option}
-use Rattle.pads_samples.specs.Nodes.{Node, in_range, sample_of}
-use Rattle.pads_samples.specs.Samples.{Sample, num, text, same}
-use Rattle.pads_samples.specs.declared.form.PartForm.{PartForm}
-use Rattle.pads_samples.proofs.SuitLaws.{is_numeric, suits, suits_if, node_suits}
+use Rattle.pads_sums.specs.Nodes.{Node, in_range, sample_of}
+use Rattle.pads_sums.specs.Samples.{Sample, num, text, same}
+use Rattle.pads_sums.specs.declared.form.PartForm.{PartForm}
+use Rattle.pads_sums.proofs.SuitLaws.{is_numeric, suits, suits_if, node_suits}
 use Rattle.pads_sums.specs.Adding.{is_num, is_text, with_new}
 use Rattle.pads_sums.specs.Distinct.{distinct, within, tracked, occurrences}
 use Rattle.pads_sums.specs.Sums.{numbers, samples_of}

@@ -6,10 +6,10 @@ use Rattle.std.specs.List.{count_by, cons_option, list_all}
 use Rattle.std.proofs.lemmas.List.{append-nil, length-append}
 use Rattle.std.proofs.lemmas.List.Elements.{filter_map-append}
 use Rattle.pads_value.specs.declared.value.Val.{out-Val}
-use Rattle.pads_samples.specs.Nodes.{Node, in_range, sample_in, sample_of}
-use Rattle.pads_samples.specs.Samples.{Sample, num, text}
-use Rattle.pads_samples.specs.declared.form.PartForm.{PartForm}
-use Rattle.pads_samples.proofs.SuitLaws.{is_numeric, suits, suits_if, node_suits}
+use Rattle.pads_sums.specs.Nodes.{Node, in_range, sample_in, sample_of}
+use Rattle.pads_sums.specs.Samples.{Sample, num, text}
+use Rattle.pads_sums.specs.declared.form.PartForm.{PartForm}
+use Rattle.pads_sums.proofs.SuitLaws.{is_numeric, suits, suits_if, node_suits}
 use Rattle.pads_sums.specs.Adding.{next, with_class, with_node, with_sample}
 use Rattle.pads_sums.specs.Distinct.{tracked}
 use Rattle.pads_sums.specs.Sums.{kept, number_in, numbers, over_all, part_sum, samples_of, total}

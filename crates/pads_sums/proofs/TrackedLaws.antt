@@ -5,7 +5,7 @@ use Rattle.std.proofs.Math.Bool.{or-true}
 use Rattle.std.specs.List.{list_any, count_by}
 use Rattle.std.proofs.lemmas.Map.Steps.{list_any_congr}
 use Rattle.std.proofs.lemmas.Map.Views.{any-filter_same}
-use Rattle.pads_samples.specs.Samples.{Sample, same}
+use Rattle.pads_sums.specs.Samples.{Sample, same}
 use Rattle.pads_sums.specs.Distinct.{distinct, within, occurrences, tracked, is_tracked, others}
 use Rattle.pads_sums.proofs.Lists.{count_append, count_cons, map_same}
 use Rattle.pads_sums.proofs.Members.{in_front_of_first}

@@ -3,9 +3,9 @@
 use Rattle.std.specs.Prelude.{ℕ, ℤ, ◌+◌, ◌+ℤ◌, ◌-◌, ◌^◌, min, nat_eq, nat_lt, Bool, true, false, ◌||◌, List, [], ◌∷◌, ◌++◌, length, filter, Option, Some, None, if◌then◌else◌}
 use Rattle.std.specs.Int.{int_min, int_max, saturate_signed, w128}
 use Rattle.std.specs.List.{list_any}
-use Rattle.pads_samples.specs.declared.form.PartForm.{PartForm}
-use Rattle.pads_samples.specs.Nodes.{Node, sample_of}
-use Rattle.pads_samples.specs.Samples.{Sample, num, text, same}
+use Rattle.pads_sums.specs.declared.form.PartForm.{PartForm}
+use Rattle.pads_sums.specs.Nodes.{Node, sample_of}
+use Rattle.pads_sums.specs.Samples.{Sample, num, text, same}
 use Rattle.pads_sums.specs.declared.part_sum.PartSum.{PartSum}
 
 abbrev pub next : ℕ → ℕ

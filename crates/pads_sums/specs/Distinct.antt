@@ -2,7 +2,7 @@
 -- and how many samples have a value that isn't.
 use Rattle.std.specs.Prelude.{ℕ, Bool, not, List, [], ◌∷◌, map, take, count_by, Option, Some, None}
 use Rattle.std.specs.List.{filter, list_any}
-use Rattle.pads_samples.specs.Samples.{Sample, same}
+use Rattle.pads_sums.specs.Samples.{Sample, same}
 
 -- each value once, where it comes first
 abbrev pub distinct : List Sample → List Sample

@@ -1,3 +1,5 @@
+pub mod Nodes
+pub mod Samples
 pub mod Adding
 pub mod Distinct
 pub mod Seen

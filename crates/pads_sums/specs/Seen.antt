@@ -2,7 +2,7 @@
 use Rattle.std.specs.Prelude.{ℕ, ℤ, List, ◌++◌, map}
 use Rattle.std.specs.declared.alloc.Global.{Global}
 use Rattle.std.specs.declared.vec.Vec.{Vec}
-use Rattle.pads_samples.specs.Samples.{Sample, num, text}
+use Rattle.pads_sums.specs.Samples.{Sample, num, text}
 use Rattle.pads_sums.specs.declared.tracked.Sample.{Sample as CodeSample}
 use Rattle.pads_sums.specs.declared.tracked.Sample.TheVariants as code
 

@@ -2,11 +2,11 @@
 use Rattle.std.specs.Prelude.{ℕ, ℤ, pos, ◌+ℤ◌, not, List, [], ◌∷◌, length, fold, count_by, Option, Some, None}
 use Rattle.std.specs.Int.{int_min, int_max}
 use Rattle.std.specs.List.{filter_map}
-use Rattle.pads_samples.specs.declared.form.PartForm.{PartForm}
+use Rattle.pads_sums.specs.declared.form.PartForm.{PartForm}
 use Rattle.pads_sums.specs.declared.part_sum.PartSum.{PartSum}
 use Rattle.pads_sums.specs.Distinct.{tracked, others}
-use Rattle.pads_samples.specs.Nodes.{Node, sample_of}
-use Rattle.pads_samples.specs.Samples.{Sample, num, text}
+use Rattle.pads_sums.specs.Nodes.{Node, sample_of}
+use Rattle.pads_sums.specs.Samples.{Sample, num, text}
 
 -- how many values of a part a summary tracks
 abbrev pub most : ℕ

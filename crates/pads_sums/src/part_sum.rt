@@ -1,13 +1,12 @@
 ghost use Rattle.std.specs.Prelude.{◌≡◌, [], ℕ, nat_eq, Option, OnOk, if◌then◌else◌};
 ghost use Rattle.std.specs.Int.{int_min, int_max};
 ghost use Rattle.std.specs.Option.{option_copied};
-ghost use Rattle.pads_samples.specs.Samples.{num, text};
-ghost use Rattle.pads_samples.specs.declared.form.PartForm.{PartForm as FormOf};
+ghost use Rattle.pads_sums.specs.Samples.{num, text};
+ghost use Rattle.pads_sums.specs.declared.form.PartForm.{PartForm as FormOf};
 ghost use Rattle.pads_sums.specs.Adding.{with_class, with_node, with_number, with_value};
 ghost use Rattle.pads_sums.specs.Sums.{part_sum};
 
-use crate::Tracked;
-use pads_samples::{Given, PartForm, sample_given};
+use crate::{Given, PartForm, Tracked, sample_given};
 use pads_value::{Bytes, Items, Memory, Val};
 use std::alloc::Global;
 

@@ -1,7 +1,7 @@
 ghost use Rattle.std.specs.Prelude.{◌≡◌, ◌↔◌, ◌||◌, [], length, map, slice_get, IsTrue, IfOk, OnOk, OnErr};
 ghost use Rattle.std.specs.Bool.{OnFalse};
 ghost use Rattle.std.specs.Option.{option_map};
-ghost use Rattle.pads_samples.specs.Samples.{num, text};
+ghost use Rattle.pads_sums.specs.Samples.{num, text};
 ghost use Rattle.pads_sums.specs.Adding.{again, counted, counted_where, has_room as has_room_of, is_among, is_counted};
 ghost use Rattle.pads_sums.specs.Seen.{number_pair, pair_seen, sample_seen, text_pair};
 
@@ -107,7 +107,7 @@ pub struct Tracked {
 
 impl Model for Tracked {
     ghost use Rattle.std.specs.Prelude.{List, ℕ};
-    ghost use Rattle.pads_samples.specs.Samples.{Sample as Of};
+    ghost use Rattle.pads_sums.specs.Samples.{Sample as Of};
     ghost use Rattle.pads_sums.specs.Seen.{pairs};
 
     ghost Value = { List (Of × ℕ) };

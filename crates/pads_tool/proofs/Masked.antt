@@ -5,7 +5,7 @@ use Rattle.pads_describe.proofs.AnswerLaws.{not_refused, one_description}
 use Rattle.pads_describe.specs.Describing.{Describes}
 use Rattle.pads_describe.specs.Verdicts.{IsRefused}
 use Rattle.pads_mask.specs.Masks.{fault_of, masked}
-use Rattle.pads_modes.specs.declared.mask.Mask.{Mask}
+use Rattle.pads_erase.specs.declared.mask.Mask.{Mask}
 use Rattle.pads_module.specs.Modules.{Contents, contents}
 use Rattle.pads_module.specs.declared.module.Module.{Module}
 use Rattle.pads_tool.proofs.Promises.{Excludes, known-at}

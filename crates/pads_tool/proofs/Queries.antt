@@ -6,7 +6,7 @@ use Rattle.pads_describe.proofs.AnswerLaws.{one_tree}
 use Rattle.pads_describe.specs.Describing.{Describes}
 use Rattle.pads_describe.specs.Trees.{IsAccepted}
 use Rattle.pads_mask.specs.Masks.{fault_of, masked}
-use Rattle.pads_modes.specs.declared.mask.Mask.{Mask}
+use Rattle.pads_erase.specs.declared.mask.Mask.{Mask}
 use Rattle.pads_module.specs.Modules.{Contents, contents}
 use Rattle.pads_orders.specs.declared.order.Question.{Question}
 use Rattle.pads_orders.specs.declared.order.Settings.{Settings}

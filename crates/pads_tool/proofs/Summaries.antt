@@ -1,7 +1,7 @@
 -- How the promise of a summary is kept.
 use Rattle.std.proofs.Common.{◌≡◌, ◌∙◌, ◌<◌, ◌≤◌, inl, refl, sym, subst, ℕ, true, false, List, Option, IfSome, Ok, Err, arith}
 use Rattle.pads_module.specs.Modules.{Contents}
-use Rattle.pads_modes.specs.declared.mask.Mask.{Mask}
+use Rattle.pads_erase.specs.declared.mask.Mask.{Mask}
 use Rattle.pads_orders.specs.declared.order.Settings.{Settings}
 use Rattle.pads_plan.specs.Plans.{lists_of, most, size}
 use Rattle.pads_report.specs.Reports.{report_text}

@@ -5,7 +5,7 @@ use Rattle.pads_code.specs.declared.Coding.{Coding}
 use Rattle.pads_describe.specs.Describing.{Describes}
 use Rattle.pads_describe.specs.Trees.{IsAccepted}
 use Rattle.pads_mask.specs.Masks.{fault_of, masked}
-use Rattle.pads_modes.specs.declared.mask.Mask.{Mask}
+use Rattle.pads_erase.specs.declared.mask.Mask.{Mask}
 use Rattle.pads_module.specs.Modules.{Contents}
 use Rattle.pads_tool.specs.Texts.{IsDescribedIn, IsRefusedFor, IsRefusedIn}
 use Rattle.pads_tool.specs.declared.reason.Reason.{Reason}

@@ -5,7 +5,7 @@ use Rattle.pads_ast.specs.declared.decl.Ast.{Ast}
 use Rattle.pads_describe.specs.Trees.{IsAccepted}
 use Rattle.pads_io.specs.Faults.{Rose}
 use Rattle.pads_io.specs.Transfer.{AppendsPrefix}
-use Rattle.pads_modes.specs.declared.mask.Mask.{Mask}
+use Rattle.pads_erase.specs.declared.mask.Mask.{Mask}
 use Rattle.pads_orders.specs.declared.order.Cutting.{Cutting}
 use Rattle.pads_orders.specs.declared.order.Order.{Order}
 use Rattle.pads_orders.specs.declared.order.Order.TheVariants as order

@@ -9,10 +9,10 @@ use Rattle.pads_code.specs.declared.Coding.{Coding}
 use Rattle.pads_describe.specs.Trees.{IsAccepted}
 use Rattle.pads_drive.specs.Outputs.{Work}
 use Rattle.pads_expr.specs.declared.expr.Expr.{Expr}
-use Rattle.pads_filter.specs.Filters.{holds}
+use Rattle.pads_question.specs.Filters.{holds}
 use Rattle.pads_json.specs.NodeLines.{node_told}
 use Rattle.pads_mask.specs.Masks.{masked}
-use Rattle.pads_modes.specs.declared.mask.Mask.{Mask}
+use Rattle.pads_erase.specs.declared.mask.Mask.{Mask}
 use Rattle.pads_module.specs.Modules.{Contents}
 use Rattle.pads_nodes.specs.Nodes.{Node, row_nodes}
 use Rattle.pads_orders.specs.declared.order.Question.{Question}

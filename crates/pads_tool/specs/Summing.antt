@@ -11,7 +11,7 @@ use Rattle.pads_drive.specs.Outputs.{Work, rows_of}
 use Rattle.pads_io.specs.Faults.{Rose}
 use Rattle.pads_io.specs.Transfer.{AppendsPrefix}
 use Rattle.pads_mask.specs.Masks.{masked}
-use Rattle.pads_modes.specs.declared.mask.Mask.{Mask}
+use Rattle.pads_erase.specs.declared.mask.Mask.{Mask}
 use Rattle.pads_orders.specs.declared.order.Settings.{Settings}
 use Rattle.pads_plan.specs.Plans.{lists_of, most, size}
 use Rattle.pads_report.specs.Reports.{report_text}

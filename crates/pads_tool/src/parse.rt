@@ -16,7 +16,7 @@ use pads_code::Coding;
 use pads_drive::{Command, Limit, Output, drive};
 use pads_io::{Files, Sink, Source};
 use pads_json::record_line;
-use pads_modes::Mask;
+use pads_erase::Mask;
 use pads_module::Module;
 use pads_orders::{Cutting, Settings};
 use pads_value::{Kept, Memory, Refusal, Row, Rows};

@@ -16,14 +16,13 @@ use crate::unused::unused;
 use pads_calc::Shape;
 use pads_drive::{Command, Limit, Output, drive};
 use pads_expr::Expr;
-use pads_filter::keeps;
+use pads_question::{Asked, keeps};
 use pads_io::{Files, Sink, Source};
 use pads_json::node_line;
-use pads_modes::Mask;
+use pads_erase::Mask;
 use pads_module::Module;
 use pads_nodes::Cursor;
 use pads_orders::{Cutting, Question, Settings};
-use pads_question::Asked;
 use pads_value::{Kept, Memory, Pd, Refusal, Row, Rows, Val};
 use std::alloc::Global;
 

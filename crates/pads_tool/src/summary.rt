@@ -22,7 +22,7 @@ use crate::unused::unused;
 use pads_accum::Summary;
 use pads_drive::{Command, Ended, Limit, Output, Stop, drive};
 use pads_io::{Files, Sink, Source};
-use pads_modes::Mask;
+use pads_erase::Mask;
 use pads_module::Module;
 use pads_orders::{Cutting, Settings};
 use pads_report::report;

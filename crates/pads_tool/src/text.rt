@@ -1,6 +1,6 @@
 ghost use Rattle.std.specs.Prelude.{◌≡◌, [], true, Some, None, IfOk, IfErr, ◌≢◌, OnOk};
 ghost use Rattle.pads_mask.specs.Masks.{fault_of, masked as masked_of};
-ghost use Rattle.pads_modes.specs.declared.mode.Mode.TheVariants as mode_form;
+ghost use Rattle.pads_erase.specs.declared.mode.Mode.TheVariants as mode_form;
 ghost use Rattle.pads_ast.specs.declared.decl.Ast.{Ast};
 ghost use Rattle.pads_describe.specs.Describing.{Describes};
 ghost use Rattle.pads_describe.specs.Trees.{IsAccepted};
@@ -22,7 +22,7 @@ use pads_code::Coding;
 use pads_describe::Verdict;
 use pads_io::Files;
 use pads_mask::mask_module;
-use pads_modes::{Mask, Mode};
+use pads_erase::{Mask, Mode};
 use pads_module::Module;
 use pads_orders::Question;
 use pads_question::question;

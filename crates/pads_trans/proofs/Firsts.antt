@@ -2,7 +2,7 @@
 use Rattle.std.proofs.Common.{◌≡◌, ◌∙◌, sym, ap, ℕ, suc, ◌+◌, ◌<◌, List, ◌∷◌, ◌≤◌, length, drop, get_or, drop-cons, Option, None, Some, arith}
 use Rattle.std.proofs.Math.ListN.{drop_of_length-le}
 use Rattle.std.specs.Option.{option_or}
-use Rattle.pads_typed_tree.specs.declared.decl.ArrayOption.{ArrayOption}
+use Rattle.pads_resolution.specs.declared.decl.ArrayOption.{ArrayOption}
 use Rattle.pads_trans.specs.Terms.{first}
 
 pub first-from : {A : Type 0} (gives : ArrayOption → Option A) (options : List ArrayOption) (i : ℕ) (option : ArrayOption)

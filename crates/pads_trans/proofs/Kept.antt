@@ -4,8 +4,8 @@ use Rattle.std.proofs.lemmas.Bool.{and_from}
 use Rattle.pads_calc.specs.Skeletons.{KeepsAll, all_set}
 use Rattle.pads_code.specs.declared.Coding.{Coding}
 use Rattle.pads_trans.specs.Terms.{decl_of}
-use Rattle.pads_trans_expr.specs.Names.{Name}
-use Rattle.pads_typed_tree.specs.declared.decl.Decl.{Decl}
+use Rattle.pads_trans.specs.Names.{Name}
+use Rattle.pads_resolution.specs.declared.decl.Decl.{Decl}
 
 is-set : (names : List Name) (ambient : Coding) (decl : Decl) → (decl_of names ambient decl).set ≡ true
 unfolding decl_of

@@ -9,15 +9,15 @@ use Rattle.pads_expr.specs.declared.expr.Expr.TheVariants as expr
 use Rattle.pads_int.specs.declared.kind.Kind.TheVariants as kind
 use Rattle.pads_base_names.specs.declared.meaning.BaseName.TheVariants as base_name
 use Rattle.pads_base_names.specs.declared.meaning.NamedCoding.TheVariants as named_coding
-use Rattle.pads_typed_tree.specs.declared.decl.ArrayOption.TheVariants as option
-use Rattle.pads_typed_tree.specs.declared.decl.Computed.TheVariants as computed
-use Rattle.pads_typed_tree.specs.declared.decl.Part.TheVariants as part
-use Rattle.pads_typed_tree.specs.declared.expr.Expr.TheVariants as tree
-use Rattle.pads_typed_tree.specs.declared.types.Literal.TheVariants as literal
-use Rattle.pads_typed_tree.specs.declared.types.TypeName.TheVariants as type_name
+use Rattle.pads_resolution.specs.declared.decl.ArrayOption.TheVariants as option
+use Rattle.pads_resolution.specs.declared.decl.Computed.TheVariants as computed
+use Rattle.pads_resolution.specs.declared.decl.Part.TheVariants as part
+use Rattle.pads_resolution.specs.declared.expr.Expr.TheVariants as tree
+use Rattle.pads_resolution.specs.declared.types.Literal.TheVariants as literal
+use Rattle.pads_resolution.specs.declared.types.TypeName.TheVariants as type_name
 use Rattle.pads_trans.specs.Terms.{base_of, part_of, type_of, bare_type, optional, separator_of, first}
-use Rattle.pads_trans_expr.specs.Names.{Name, some_name, none_name, number_of}
-use Rattle.pads_trans_expr.proofs.ExprRolls.{made-Number}
+use Rattle.pads_trans.specs.Names.{Name, some_name, none_name, number_of}
+use Rattle.pads_trans.proofs.ExprRolls.{made-Number}
 
 y : Name
 y = 0x79 ∷ []

@@ -2,12 +2,12 @@
 use Rattle.std.proofs.Common.{◌≡◌, ◌∙◌, ap, refl, true, ◌&&◌, nat_lt, List, [], length}
 use Rattle.std.specs.List.{flat_map}
 use Rattle.pads_code.specs.declared.Coding.{Coding}
-use Rattle.pads_typed_tree.specs.declared.decl.Description.{Description}
+use Rattle.pads_resolution.specs.declared.decl.Description.{Description}
 use Rattle.pads_module.specs.Modules.{is_formed}
 use Rattle.pads_trans.specs.Modules.{module_by_table, module_of, is_module}
-use Rattle.pads_trans_expr.specs.Met.{in_decl, names_of}
-use Rattle.pads_trans_expr.specs.Names.{Name, with_names}
-use Rattle.pads_trans_expr.proofs.Places.{again}
+use Rattle.pads_trans.specs.Met.{in_decl, names_of}
+use Rattle.pads_trans.specs.Names.{Name, with_names}
+use Rattle.pads_trans.proofs.Places.{again}
 
 names-again : (d : Description) → with_names [] (names_of d) ≡ names_of d
 unfolding names_of

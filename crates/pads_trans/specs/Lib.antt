@@ -1,2 +1,5 @@
+pub mod Names
+pub mod Met
+pub mod Expressions
 pub mod Terms
 pub mod Modules

@@ -3,11 +3,11 @@ use Rattle.std.specs.Prelude.{Bool, ◌&&◌, nat_lt, List, [], length, map}
 use Rattle.pads_module.specs.Modules.{Contents, made_of, is_formed}
 use Rattle.pads_calc.specs.declared.decl.Shape.{Shape}
 use Rattle.pads_code.specs.declared.Coding.{Coding}
-use Rattle.pads_typed_tree.specs.declared.decl.Description.{Description}
-use Rattle.pads_typed_tree.specs.declared.decl.Source.{Source}
+use Rattle.pads_resolution.specs.declared.decl.Description.{Description}
+use Rattle.pads_resolution.specs.declared.decl.Source.{Source}
 use Rattle.pads_trans.specs.Terms.{decl_of}
-use Rattle.pads_trans_expr.specs.Met.{names_of}
-use Rattle.pads_trans_expr.specs.Names.{Name, with_names}
+use Rattle.pads_trans.specs.Met.{names_of}
+use Rattle.pads_trans.specs.Names.{Name, with_names}
 
 abbrev pub shape_of : Source → Shape
 shape_of source = record { head = source.header; each = source.record }

@@ -40,36 +40,36 @@ use Rattle.pads_base_names.specs.declared.meaning.BaseName.{BaseName}
 use Rattle.pads_base_names.specs.declared.meaning.BaseName.TheVariants as base_name
 use Rattle.pads_base_names.specs.declared.meaning.NamedCoding.{NamedCoding}
 use Rattle.pads_base_names.specs.declared.meaning.NamedCoding.TheVariants as named_coding
-use Rattle.pads_typed_tree.specs.declared.decl.Array.{Array}
-use Rattle.pads_typed_tree.specs.declared.decl.ArrayOption.{ArrayOption}
-use Rattle.pads_typed_tree.specs.declared.decl.ArrayOption.TheVariants as option
-use Rattle.pads_typed_tree.specs.declared.decl.Case.{Case as CaseTree}
-use Rattle.pads_typed_tree.specs.declared.decl.Computed.{Computed}
-use Rattle.pads_typed_tree.specs.declared.decl.Computed.TheVariants as computed
-use Rattle.pads_typed_tree.specs.declared.decl.Constraint.{Constraint}
-use Rattle.pads_typed_tree.specs.declared.decl.Decl.{Decl as DeclTree}
-use Rattle.pads_typed_tree.specs.declared.decl.DeclBody.{DeclBody}
-use Rattle.pads_typed_tree.specs.declared.decl.DeclBody.TheVariants as body
-use Rattle.pads_typed_tree.specs.declared.decl.Label.{Label}
-use Rattle.pads_typed_tree.specs.declared.decl.Part.{Part as PartTree}
-use Rattle.pads_typed_tree.specs.declared.decl.Part.TheVariants as part
-use Rattle.pads_typed_tree.specs.declared.decl.Role.{Role}
-use Rattle.pads_typed_tree.specs.declared.decl.Role.TheVariants as role
-use Rattle.pads_typed_tree.specs.declared.decl.Struct.{Struct}
-use Rattle.pads_typed_tree.specs.declared.decl.Switch.{Switch}
-use Rattle.pads_typed_tree.specs.declared.decl.Union.{Union}
-use Rattle.pads_typed_tree.specs.declared.decl.Union.TheVariants as union
-use Rattle.pads_typed_tree.specs.declared.expr.Expr.{Expr as ExprTree}
-use Rattle.pads_typed_tree.specs.declared.types.Branch.{Branch}
-use Rattle.pads_typed_tree.specs.declared.types.Const.{Const}
-use Rattle.pads_typed_tree.specs.declared.types.Const.TheVariants as const
-use Rattle.pads_typed_tree.specs.declared.types.Literal.{Literal}
-use Rattle.pads_typed_tree.specs.declared.types.Literal.TheVariants as literal
-use Rattle.pads_typed_tree.specs.declared.types.«Type».{«Type» as Typed}
-use Rattle.pads_typed_tree.specs.declared.types.TypeName.{TypeName}
-use Rattle.pads_typed_tree.specs.declared.types.TypeName.TheVariants as type_name
-use Rattle.pads_trans_expr.specs.Expressions.{expr_of, option_of}
-use Rattle.pads_trans_expr.specs.Names.{Name, at_sign, some_name, none_name, number_of}
+use Rattle.pads_resolution.specs.declared.decl.Array.{Array}
+use Rattle.pads_resolution.specs.declared.decl.ArrayOption.{ArrayOption}
+use Rattle.pads_resolution.specs.declared.decl.ArrayOption.TheVariants as option
+use Rattle.pads_resolution.specs.declared.decl.Case.{Case as CaseTree}
+use Rattle.pads_resolution.specs.declared.decl.Computed.{Computed}
+use Rattle.pads_resolution.specs.declared.decl.Computed.TheVariants as computed
+use Rattle.pads_resolution.specs.declared.decl.Constraint.{Constraint}
+use Rattle.pads_resolution.specs.declared.decl.Decl.{Decl as DeclTree}
+use Rattle.pads_resolution.specs.declared.decl.DeclBody.{DeclBody}
+use Rattle.pads_resolution.specs.declared.decl.DeclBody.TheVariants as body
+use Rattle.pads_resolution.specs.declared.decl.Label.{Label}
+use Rattle.pads_resolution.specs.declared.decl.Part.{Part as PartTree}
+use Rattle.pads_resolution.specs.declared.decl.Part.TheVariants as part
+use Rattle.pads_resolution.specs.declared.decl.Role.{Role}
+use Rattle.pads_resolution.specs.declared.decl.Role.TheVariants as role
+use Rattle.pads_resolution.specs.declared.decl.Struct.{Struct}
+use Rattle.pads_resolution.specs.declared.decl.Switch.{Switch}
+use Rattle.pads_resolution.specs.declared.decl.Union.{Union}
+use Rattle.pads_resolution.specs.declared.decl.Union.TheVariants as union
+use Rattle.pads_resolution.specs.declared.expr.Expr.{Expr as ExprTree}
+use Rattle.pads_resolution.specs.declared.types.Branch.{Branch}
+use Rattle.pads_resolution.specs.declared.types.Const.{Const}
+use Rattle.pads_resolution.specs.declared.types.Const.TheVariants as const
+use Rattle.pads_resolution.specs.declared.types.Literal.{Literal}
+use Rattle.pads_resolution.specs.declared.types.Literal.TheVariants as literal
+use Rattle.pads_resolution.specs.declared.types.«Type».{«Type» as Typed}
+use Rattle.pads_resolution.specs.declared.types.TypeName.{TypeName}
+use Rattle.pads_resolution.specs.declared.types.TypeName.TheVariants as type_name
+use Rattle.pads_trans.specs.Expressions.{expr_of, option_of}
+use Rattle.pads_trans.specs.Names.{Name, at_sign, some_name, none_name, number_of}
 
 -- The coding that a base type's name says, in a description of this coding.
 abbrev pub coding_of : Coding → NamedCoding → Coding

@@ -2,14 +2,14 @@
 ghost use Rattle.std.specs.Prelude.{◌≡◌, IfOk};
 ghost use Rattle.std.specs.Option.{option_copied, option_map};
 ghost use Rattle.pads_trans.specs.Terms.{separator, terminator, last, first, separator_of, terminator_of, seq_of, array_of};
-ghost use Rattle.pads_trans_expr.specs.Expressions.{option_of};
+ghost use Rattle.pads_trans.specs.Expressions.{option_of};
 
 use crate::types::{constrained, literal, text, type_term};
 use pads_calc::{Seq, Term};
 use pads_code::Coding;
 use pads_expr::Expr;
-use pads_trans_expr::{Numbering, translate_expr, translate_option};
-use pads_typed_tree::{Array, ArrayOption, Expr as Tree, Literal};
+use crate::{Numbering, translate_expr, translate_option};
+use pads_resolution::{Array, ArrayOption, Expr as Tree, Literal};
 use pads_value::{Boxed, Bytes, Memory};
 use std::alloc::Global;
 

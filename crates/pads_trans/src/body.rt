@@ -2,13 +2,13 @@
 ghost use Rattle.std.specs.Prelude.{◌≡◌, ◌++◌, map, IfOk, OnOk};
 ghost use Rattle.pads_calc.specs.declared.term.Term.TheVariants as term_form;
 ghost use Rattle.pads_trans.specs.Terms.{form_of, literal_part as literal_part_of, named_part as named_part_of, field_of, part_of, struct_of, arm_of, case_of, default_of, switch_of, union_of};
-ghost use Rattle.pads_trans_expr.specs.Expressions.{expr_of};
+ghost use Rattle.pads_trans.specs.Expressions.{expr_of};
 
 use crate::types::{constrained, form, key, literal, type_term};
 use pads_calc::{Arm, Arms, Case, Cases, Part, Parts, Term};
 use pads_code::Coding;
-use pads_trans_expr::{Numbering, translate_expr};
-use pads_typed_tree::{
+use crate::{Numbering, translate_expr};
+use pads_resolution::{
     Branch, Case as CaseTree, Computed, Expr as Tree, Literal, Part as PartTree, Struct, Switch,
     Union,
 };

@@ -7,8 +7,8 @@ use crate::decl::decls;
 use pads_calc::Shape;
 use pads_code::Coding;
 use pads_module::{IllFormed, Module};
-use pads_trans_expr::Numbering;
-use pads_typed_tree::{Description, Source};
+use crate::Numbering;
+use pads_resolution::{Description, Source};
 use pads_value::Refusal;
 use std::alloc::Global;
 

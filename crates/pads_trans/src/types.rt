@@ -8,8 +8,8 @@ use pads_bases::{Label as Spelled, Labels, Order};
 use pads_calc::{Arm, Arms, Base, ComputedForm, Exprs, Key, Term};
 use pads_code::{Coding, encode};
 use pads_expr::Expr;
-use pads_trans_expr::{Numbering, translate_expr, translate_exprs};
-use pads_typed_tree::{Computed, Const, Expr as Tree, Label, Literal, Type, TypeName};
+use crate::{Numbering, translate_expr, translate_exprs};
+use pads_resolution::{Computed, Const, Expr as Tree, Label, Literal, Type, TypeName};
 use pads_value::{Boxed, Bytes, Items, Memory};
 use std::alloc::Global;
 

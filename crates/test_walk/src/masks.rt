@@ -1,5 +1,5 @@
 //! Masks as words: `M` or `M,D:M,..`, where M is a mode and D a declaration's name.
-use pads_modes::{Mask, Mode, NamedMode, NamedModes};
+use pads_erase::{Mask, Mode, NamedMode, NamedModes};
 use pads_value::{Bytes, Items, Memory};
 use std::alloc::Global;
 

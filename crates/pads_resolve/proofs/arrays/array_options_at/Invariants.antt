@@ -1,5 +1,5 @@
 use Rattle.std.proofs.Common.{◌≡◌, map, take}
-use Rattle.pads_resolve_types.specs.Places.{stands}
+use Rattle.pads_resolve.specs.Borrowed.{stands}
 use Rattle.pads_resolution.specs.Bodies.{array_option_at}
 use Rattle.pads_resolve_expr.specs.Scopes.{names_in_scope}
 use Rattle.pads_resolve.proofs.arrays.array_options_at.Given as goal

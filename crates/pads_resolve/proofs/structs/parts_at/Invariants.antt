@@ -1,5 +1,5 @@
 use Rattle.std.proofs.Common.{◌≡◌, ◌++◌, drop}
-use Rattle.pads_resolve_types.specs.Places.{stands}
+use Rattle.pads_resolve.specs.Borrowed.{stands}
 use Rattle.pads_resolution.specs.Bodies.{parts_at}
 use Rattle.pads_resolve.proofs.structs.parts_at.Given as goal
 

@@ -1,5 +1,5 @@
 use Rattle.std.proofs.Common.{◌≡◌, map, take}
-use Rattle.pads_resolve_types.specs.Places.{stands}
+use Rattle.pads_resolve.specs.Borrowed.{stands}
 use Rattle.pads_resolution.specs.Bodies.{case_at}
 use Rattle.pads_resolve.proofs.unions.cases_at.Given as goal
 

@@ -3,7 +3,7 @@ use Rattle.std.proofs.lemmas.Int.{to_z-of_z}
 use Rattle.std.specs.Int.{w128}
 use Rattle.std.specs.Ordering.{int_eq}
 use Rattle.indexmap.specs.IndexMap.{set_value_at}
-use Rattle.pads_samples.specs.Samples.{num}
+use Rattle.pads_sums.specs.Samples.{num}
 use Rattle.pads_sums.specs.Seen.{number_pair}
 use Rattle.pads_sums.proofs.Entries.{among_lookup, again_none, again_at}
 use Rattle.pads_sums.proofs.tracked.number_again.Goals as goal

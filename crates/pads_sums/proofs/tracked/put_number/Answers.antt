@@ -2,7 +2,7 @@ use Rattle.std.proofs.Common.{◌∙◌, sym, ap, refl, [], map, ◌∷◌, ◌+
 use Rattle.std.proofs.lemmas.Int.{to_z-of_z}
 use Rattle.std.proofs.lemmas.Result.{err_from_is_err_and}
 use Rattle.std.specs.Int.{w128}
-use Rattle.pads_samples.specs.Samples.{num}
+use Rattle.pads_sums.specs.Samples.{num}
 use Rattle.pads_sums.specs.Adding.{is_among}
 use Rattle.pads_sums.specs.Seen.{number_pair}
 use Rattle.std.specs.Ordering.{int_eq}

@@ -1,7 +1,7 @@
 use Rattle.std.proofs.Common.{◌∙◌, sym, ap, refl, [], map, ◌∷◌, ◌++◌}
 use Rattle.std.proofs.lemmas.Result.{err_from_is_err_and}
 use Rattle.std.specs.Str.{bytes_eq}
-use Rattle.pads_samples.specs.Samples.{text}
+use Rattle.pads_sums.specs.Samples.{text}
 use Rattle.pads_sums.specs.Adding.{is_among}
 use Rattle.pads_sums.specs.Seen.{text_pair}
 use Rattle.pads_sums.proofs.Entries.{insert_new}

@@ -1,7 +1,7 @@
 use Rattle.std.proofs.Common.{◌∙◌, sym, ap, refl, map}
 use Rattle.std.specs.Str.{bytes_eq}
 use Rattle.indexmap.specs.IndexMap.{set_value_at}
-use Rattle.pads_samples.specs.Samples.{text}
+use Rattle.pads_sums.specs.Samples.{text}
 use Rattle.pads_sums.specs.Seen.{text_pair}
 use Rattle.pads_sums.proofs.Entries.{among_lookup, again_none, again_at}
 use Rattle.pads_sums.proofs.tracked.text_again.Goals as goal

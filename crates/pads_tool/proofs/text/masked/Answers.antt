@@ -1,7 +1,7 @@
 use Rattle.std.proofs.Common.{◌≡◌, ◌∙◌, sym, ap, refl, []}
 use Rattle.pads_mask.proofs.Whole.{whole}
 use Rattle.pads_mask.specs.Masks.{fault_of, masked}
-use Rattle.pads_modes.specs.declared.mask.Mask.{Mask}
+use Rattle.pads_erase.specs.declared.mask.Mask.{Mask}
 use Rattle.pads_module.specs.Modules.{contents}
 use Rattle.pads_tool.proofs.text.masked.Goals as goal
 

@@ -1,5 +1,5 @@
 use Rattle.std.proofs.Common.{◌≡◌, true, nat_lt, length}
-use Rattle.pads_trans_expr.specs.Met.{names_of}
+use Rattle.pads_trans.specs.Met.{names_of}
 use Rattle.pads_trans.proofs.Whole.{whole, formed}
 use Rattle.pads_trans.proofs.translation.module_of_description.Goals as goal
 

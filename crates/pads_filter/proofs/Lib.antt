@@ -1,3 +1,0 @@
-mod LevelRolls
-mod Rows
-mod Scopes

@@ -1,5 +1,0 @@
-use Rattle.std.proofs.Common.{◌≡◌, take}
-use Rattle.pads_resolve_types.proofs.scopes.copied.Given as goal
-
-abbrev pub invariant-loop-name : goal.invariant-loop-name
-invariant-loop-name l = l.made ≡ take l.name-index l.names

@@ -1,4 +1,0 @@
-pub mod Places
-pub mod MetRolls
-pub mod ExprRolls
-mod Rows

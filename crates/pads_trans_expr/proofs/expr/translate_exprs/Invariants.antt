@@ -1,6 +1,0 @@
-use Rattle.std.proofs.Common.{◌≡◌, map, take}
-use Rattle.pads_trans_expr.specs.Expressions.{expr_of}
-use Rattle.pads_trans_expr.proofs.expr.translate_exprs.Given as goal
-
-abbrev pub invariant-loop-e : goal.invariant-loop-e
-invariant-loop-e l = l.made ≡ map (expr_of l.names) (take l.e-index l.es)
