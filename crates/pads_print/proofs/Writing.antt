@@ -17,8 +17,8 @@ use Rattle.pads_calc.specs.Arguments.{arguments, bound_to}
 use Rattle.pads_calc.specs.Structs.{bind}
 use Rattle.pads_calc.proofs.Lists.{drop-next, drop-past'}
 use Rattle.pads_forms.specs.Shapes.{branch_in, tuple_in}
-use Rattle.pads_canonical.proofs.Spelled.{tuple-bytes}
-use Rattle.pads_canonical.specs.Canonical.{Speller, NamedSpeller, CallSpeller, canon, call_spelled, spelled, is_unit, joined, of_unit, of_body, in_order, of_struct, of_branch, of_arm, before, each_element}
+use Rattle.law_canonical.proofs.Spelled.{tuple-bytes}
+use Rattle.law_canonical.specs.Canonical.{Speller, NamedSpeller, CallSpeller, canon, call_spelled, spelled, is_unit, joined, of_unit, of_body, in_order, of_struct, of_branch, of_arm, before, each_element}
 use Rattle.pads_print.specs.Writes.{behind, filled, part_spells, arm_spells, case_spells, seq_spells}
 
 pub none-behind : (old : List ℕ) → filled true old ≡ behind old (Some [])

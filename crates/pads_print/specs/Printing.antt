@@ -6,7 +6,7 @@ use Rattle.pads_frame.specs.declared.discipline.Discipline.{Discipline}
 use Rattle.pads_frame.specs.Framed.{framed}
 use Rattle.pads_module.specs.Modules.{Contents}
 use Rattle.pads_calc.specs.Rows.{type_of}
-use Rattle.pads_canonical.specs.Canonical.{canon_of}
+use Rattle.law_canonical.specs.Canonical.{canon_of}
 use Rattle.pads_print.specs.declared.printed.Printed.{Printed}
 use Rattle.pads_print.specs.declared.printed.Printed.TheVariants.{Framed, Ambiguous, NotAValue}
 use Rattle.pads_print.specs.ReadBack.{ReadsBack, back, reads_back}

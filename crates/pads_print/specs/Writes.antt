@@ -5,7 +5,7 @@ use Rattle.pads_calc.specs.declared.term.Arm.{Arm}
 use Rattle.pads_calc.specs.declared.term.Case.{Case}
 use Rattle.pads_calc.specs.declared.term.Part.{Part}
 use Rattle.pads_calc.specs.declared.term.Seq.{Seq}
-use Rattle.pads_canonical.specs.Canonical.{Speller, NamedSpeller, SeqSpeller, canon, joined}
+use Rattle.law_canonical.specs.Canonical.{Speller, NamedSpeller, SeqSpeller, canon, joined}
 
 -- the buffer, where all bytes were written
 abbrev pub filled : Bool → List ℕ → Option (List ℕ)

@@ -1,7 +1,7 @@
 //! The bytes of terms without a term in them.
 ghost use Rattle.std.specs.Prelude.{◌≡◌, [], Some, reverse, IfOk};
 ghost use Rattle.pads_calc.specs.Arguments.{arguments};
-ghost use Rattle.pads_canonical.specs.Canonical.{is_unit as is_unit_of, of_base, of_computed, of_unit};
+ghost use Rattle.law_canonical.specs.Canonical.{is_unit as is_unit_of, of_base, of_computed, of_unit};
 ghost use Rattle.pads_print.specs.Writes.{behind, filled};
 ghost use Rattle.pads_value.specs.declared.value.Val.{out-Val};
 

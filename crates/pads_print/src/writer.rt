@@ -1,7 +1,7 @@
 //! Canonical bytes: by recursion on the term beside the value, into one buffer.
 ghost use Rattle.std.specs.Prelude.{◌≡◌, ◌==◌, map, reverse, slice_get, IfOk, option_map};
 ghost use Rattle.std.specs.Option.{option_copied};
-ghost use Rattle.pads_canonical.specs.Canonical.{before, call_spelled, canon, each_element, in_order, of_array, of_branch, of_struct};
+ghost use Rattle.law_canonical.specs.Canonical.{before, call_spelled, canon, each_element, in_order, of_array, of_branch, of_struct};
 ghost use Rattle.pads_forms.specs.Shapes.{array_in, branch_in, tuple_in};
 ghost use Rattle.pads_print.specs.Writes.{arm_spells, behind, case_spells, filled, part_spells, seq_spells};
 ghost use Rattle.pads_value.specs.declared.value.Val.{out-Val};
@@ -34,7 +34,7 @@ fn item<T>(items: &[T], at: u16) -> Option<&T>
 impl Writer<'_> {
     /// A term's value, where names stand for these values and calls may be nested so deep.
     #[cycle(writer)]
-    #[tactic(auto, using(pads_canonical::proofs::Rolls::spelled_rules))]
+    #[tactic(auto, using(law_canonical::proofs::Rolls::spelled_rules))]
     fn write<'x>(
         &self,
         term: &'x Term,

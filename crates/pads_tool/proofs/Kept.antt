@@ -7,7 +7,7 @@ use Rattle.law_calculus.specs.Plain.{Plain}
 use Rattle.pads_calc.specs.Rows.{kept_reading, row_by, type_of}
 use Rattle.pads_calc.specs.Skeletons.{KeepsAll}
 use Rattle.pads_calc.specs.declared.reading.Reading.{Reading}
-use Rattle.pads_canonical.proofs.CanonicalRecords.{row-has}
+use Rattle.law_canonical.proofs.CanonicalRecords.{row-has}
 use Rattle.pads_drive.specs.Outputs.{Work, rows_of}
 use Rattle.pads_frame.proofs.Tiling.{tiles}
 use Rattle.pads_frame.specs.Fits.{FitsLimit, HasBlock}
