@@ -186,11 +186,11 @@ module _ (m : Contents) (mask : Mask) where
   abbrev made : Decl → Decl
   made decl = masked_decl (mode_of decl) decl
 
-  same-arities : (decls : List Decl) → arities_of (masked_decls m mask decls) ≡ arities_of decls
+  same-arities : (decls : List Decl) → arities_of (masked_decls m.names mask decls) ≡ arities_of decls
   same-arities [] = refl
   same-arities (decl ∷ decls) = ap (λ rest. length decl.params ∷ rest) (same-arities decls)
 
-  counts-stay : (decls : List Decl) → module_counts (masked_decls m mask decls) ≡ module_counts decls
+  counts-stay : (decls : List Decl) → module_counts (masked_decls m.names mask decls) ≡ module_counts decls
   counts-stay decls =
       ap (λ front. front && list_all decl_counts (map made decls)) (few-mapped made decls)
       ∙ ap (λ rest. few decls && rest) (all-mapped made decl_counts decls (λ n decl there. decl-counts (mode_of decl) decl))

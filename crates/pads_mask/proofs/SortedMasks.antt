@@ -371,10 +371,10 @@ module _ (m : Contents) (mask : Mask) where
   abbrev mode_of : Decl → Mode
   mode_of decl = mode_for mask (name_of m decl)
 
-  bare-same : (decls : List Decl) → map bare_of (masked_decls m mask decls) ≡ map bare_of decls
+  bare-same : (decls : List Decl) → map bare_of (masked_decls m.names mask decls) ≡ map bare_of decls
   bare-same [] = refl
   bare-same (decl ∷ decls) =
-      ap (λ t. with_body decl t ∷ map bare_of (masked_decls m mask decls)) (bare-body (checks (mode_of decl)) decl.body)
+      ap (λ t. with_body decl t ∷ map bare_of (masked_decls m.names mask decls)) (bare-body (checks (mode_of decl)) decl.body)
       ∙ ap (λ rest. bare_of decl ∷ rest) (bare-same decls)
 
   pub stays-sorted-module : Plain m.decls → Sorted m.decls → Sorted (masked m mask).decls

@@ -19,9 +19,9 @@ both-decl decl = ap (with_set decl) (set-kept decl.set)
 abbrev both : Mask
 both = record { all = mode.Both; named = [] }
 
-both-decls : (m : Contents) (decls : List Decl) → masked_decls m both decls ≡ decls
+both-decls : (m : Contents) (decls : List Decl) → masked_decls m.names both decls ≡ decls
 both-decls m [] = refl
-both-decls m (decl ∷ decls) = ap (λ first. first ∷ masked_decls m both decls) (both-decl decl) ∙ ap (λ rest. decl ∷ rest) (both-decls m decls)
+both-decls m (decl ∷ decls) = ap (λ first. first ∷ masked_decls m.names both decls) (both-decl decl) ∙ ap (λ rest. decl ∷ rest) (both-decls m decls)
 
 abbrev with_decls : Contents → List Decl → Contents
 with_decls m decls = record { decls = decls; names = m.names; shape = m.shape }

@@ -23,12 +23,12 @@ masked_decl mode decl = record {
 abbrev pub name_of : Contents → Decl → List ℕ
 name_of m decl = name_at m.names decl.name
 
--- declarations by their modes
-abbrev pub masked_decls : Contents → Mask → List Decl → List Decl
-masked_decls m mask decls = map (λ decl. masked_decl (mode_for mask (name_of m decl)) decl) decls
+-- declarations of these names, each by the mode of its own
+abbrev pub masked_decls : List (List ℕ) → Mask → List Decl → List Decl
+masked_decls names mask decls = map (λ decl. masked_decl (mode_for mask (name_at names decl.name)) decl) decls
 
 abbrev pub masked : Contents → Mask → Contents
-masked m mask = made_of (masked_decls m mask m.decls) m.names m.shape
+masked m mask = made_of (masked_decls m.names mask m.decls) m.names m.shape
 
 -- some declaration has this name
 abbrev pub is_declared : Contents → List ℕ → Bool

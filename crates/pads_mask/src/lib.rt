@@ -1,7 +1,6 @@
 //! Masking: the module in which some declarations aren't checked or keep no values of their own.
 #![tactic(auto)]
 
-mod copies;
 mod laws;
 mod masking;
 mod unguarded;

@@ -1,17 +1,16 @@
 ghost use Rattle.std.specs.Prelude.{◌≡◌, ◌+◌, ◌<◌, ◌^◌, None, Some, if◌then◌else◌, IfOk, IfSome, OnOk};
 ghost use Rattle.pads_module.specs.Modules.{contents};
-ghost use Rattle.pads_mask.specs.Masks.{fault_of, first_unknown as first_unknown_of, is_declared as is_declared_of, masked as masked_of, masked_decl as masked_decl_of, masked_decls as masked_decls_of, name_of};
+ghost use Rattle.pads_mask.specs.Masks.{fault_of, first_unknown as first_unknown_of, is_declared as is_declared_of, masked as masked_of, masked_decl as masked_decl_of, masked_decls as masked_decls_of};
+ghost use Rattle.pads_forms.specs.Terms.{name_at};
 ghost use Rattle.pads_mask.specs.Unguarded.{unguarded as unguarded_of};
 ghost use Rattle.pads_erase.specs.Modes.{checks, mode_for};
 ghost use Rattle.pads_value.specs.Refusals.{OnFault};
 
-use crate::copies::copy_decl;
 use crate::unguarded::unguarded;
 use pads_calc::{Decl, Decls, Term};
-use pads_forms::{Terms, name_at};
 use pads_erase::{Mask, Mode};
 use pads_module::Module;
-use pads_value::{Items, Memory, Refusal};
+use pads_value::{Items, Memory, NameTable, Refusal};
 use std::alloc::Global;
 
 /// An item of a mask, counted from 1, that names no declaration.
@@ -21,14 +20,10 @@ pub struct MaskFault {
 }
 
 /// The name of a declaration.
-fn name<'m>(module: &'m Module, decl: &'m Decl) -> &'m [u8]
-    ensures name { result.now ≡ name_of (contents module.now) decl.now }
+fn name<'n>(names: &'n NameTable, decl: &Decl) -> &'n [u8]
+    ensures name { result.now ≡ name_at names.now decl.now.name }
 {
-    let terms = Terms {
-        decls: &module.decls,
-        names: &module.names,
-    };
-    name_at(&terms, decl.name)
+    names.at(decl.name).unwrap_or(b"")
 }
 
 /// Whether some declaration has this name.
@@ -36,7 +31,7 @@ fn is_declared(module: &Module, wanted: &[u8]) -> bool
     ensures declared { result ≡ is_declared_of (contents module.now) wanted.now }
 {
     let mut decls = module.decls.as_slice().iter();
-    decls.any(|decl| name(module, decl) == wanted)
+    decls.any(|decl| name(&module.names, decl) == wanted)
 }
 
 /// The place of the first item that names no declaration, counted from 0.
@@ -72,15 +67,15 @@ fn masked_body(alloc: Global, body: Term, mode: Mode) -> Result<Term, Memory>
 }
 
 /// A declaration of this mode.
-fn masked_decl(alloc: Global, decl: &Decl, mode: Mode) -> Result<Decl, Memory>
-    ensures decl { IfOk result (λ made. made ≡ masked_decl_of mode decl.now) }
+fn masked_decl(alloc: Global, decl: Decl, mode: Mode) -> Result<Decl, Memory>
+    ensures decl { IfOk result (λ made. made ≡ masked_decl_of mode decl) }
 {
     let Decl {
         name,
         params,
         body,
         set,
-    } = copy_decl(alloc, decl)?;
+    } = decl;
     let body = masked_body(alloc, body, mode)?;
     Ok(Decl {
         name,
@@ -90,35 +85,45 @@ fn masked_decl(alloc: Global, decl: &Decl, mode: Mode) -> Result<Decl, Memory>
     })
 }
 
-/// The declarations, each by its mode.
-fn masked_decls(alloc: Global, module: &Module, mask: &Mask) -> Result<Decls, Memory>
-    ensures decls { IfOk result (λ made. made ≡ masked_decls_of (contents module.now) mask.now module.now.decls) }
+/// The declarations, each by the mode of its name.
+fn masked_decls(
+    alloc: Global,
+    decls: Vec<Decl>,
+    names: &NameTable,
+    mask: &Mask,
+) -> Result<Decls, Memory>
+    ensures decls { IfOk result (λ made. made ≡ masked_decls_of names.now mask.now decls.items) }
 {
     let mut made = Items::new(alloc);
-    for decl in module.decls.as_slice() {
-        let mode = mask.mode_for(name(module, decl));
+    for decl in decls {
+        let mode = mask.mode_for(name(names, &decl));
         made.push(masked_decl(alloc, decl, mode)?)?;
     }
     Ok(made)
 }
 
 /// The module under a mask. `MaskFault` exactly where an item of the mask names no declaration; the least
-/// such.
+/// such. Declarations are moved and not copied.
 pub fn mask_module(
     alloc: Global,
-    module: &Module,
+    module: Module,
     mask: &Mask,
 ) -> Result<Module, Refusal<MaskFault>>
-    ensures masked { IfOk result (λ made. contents made ≡ masked_of (contents module.now) mask.now) }
-    ensures named { OnOk result (fault_of (contents module.now) mask.now ≡ None) }
-    ensures fault { OnFault result (λ fault. fault_of (contents module.now) mask.now ≡ Some fault.item) }
+    ensures masked { IfOk result (λ made. contents made ≡ masked_of (contents module) mask.now) }
+    ensures named { OnOk result (fault_of (contents module) mask.now ≡ None) }
+    ensures fault { OnFault result (λ fault. fault_of (contents module) mask.now ≡ Some fault.item) }
 {
-    if let Some(item) = fault(module, mask) {
+    if let Some(item) = fault(&module, mask) {
         return Err(Refusal::Fault(MaskFault { item }));
     }
-    let decls = masked_decls(alloc, module, mask)?;
-    let names = module.names.copy(alloc)?;
-    match Module::new(alloc, decls, names, module.shape) {
+    let Module {
+        decls,
+        names,
+        shape,
+        ..
+    } = module;
+    let decls = masked_decls(alloc, decls.into_vec(), &names, mask)?;
+    match Module::new(alloc, decls, names, shape) {
         Ok(made) => Ok(made),
         Err(Refusal::Fault(_)) => unreachable!(),
         Err(Refusal::Memory) => Err(Refusal::Memory),

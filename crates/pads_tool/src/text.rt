@@ -104,7 +104,7 @@ fn is_whole(mask: &Mask) -> bool
 }
 
 /// The module under a mask, or how the run ends without it. Where everything is checked and kept, nothing is
-/// copied.
+/// done.
 fn masked(alloc: Global, whole: Module, mask: &Mask) -> Result<Module, Ending>
     ensures masked { IfOk result (λ made. (fault_of (contents whole) mask.now ≡ None) × (contents made ≡ masked_of (contents whole) mask.now)) }
     ensures stops { IfErr result (StopsFor (IsMaskFault (contents whole) mask.now)) }
@@ -112,7 +112,7 @@ fn masked(alloc: Global, whole: Module, mask: &Mask) -> Result<Module, Ending>
     if is_whole(mask) {
         return Ok(whole);
     }
-    match mask_module(alloc, &whole, mask) {
+    match mask_module(alloc, whole, mask) {
         Ok(made) => Ok(made),
         Err(Refusal::Fault(fault)) => Err(Ending::Refused(Reason::MaskItem(fault.item))),
         Err(Refusal::Memory) => Err(Ending::Memory),

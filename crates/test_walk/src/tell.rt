@@ -154,12 +154,16 @@ fn above(module: &Option<Module>) -> Result<&Module, Trouble> {
     }
 }
 
-/// Puts the mask that words stand for over the module above, or tells which of its items names nothing.
+/// Puts the mask that words stand for over the module above, or tells which of its items names nothing. Where one
+/// names nothing, no module is left.
 fn mask(alloc: Global, module: &mut Option<Module>, words: &str) -> Result<String, Trouble> {
     let Some(mask) = mask_of(alloc, words)? else {
         return Err(Trouble::Line("words that are no mask"));
     };
-    match mask_module(alloc, above(module)?, &mask) {
+    let Some(whole) = module.take() else {
+        return Err(Trouble::Line("no description stands above it"));
+    };
+    match mask_module(alloc, whole, &mask) {
         Ok(masked) => {
             *module = Some(masked);
             Ok(String::new(alloc))
