@@ -104,16 +104,12 @@ fn masked_decls(
 
 /// The module under a mask. `MaskFault` exactly where an item of the mask names no declaration; the least
 /// such. Declarations are moved and not copied.
-pub fn mask_module(
-    alloc: Global,
-    module: Module,
-    mask: &Mask,
-) -> Result<Module, Refusal<MaskFault>>
-    ensures masked { IfOk result (λ made. contents made ≡ masked_of (contents module) mask.now) }
-    ensures named { OnOk result (fault_of (contents module) mask.now ≡ None) }
-    ensures fault { OnFault result (λ fault. fault_of (contents module) mask.now ≡ Some fault.item) }
+pub fn mask_module(alloc: Global, whole: Module, mask: &Mask) -> Result<Module, Refusal<MaskFault>>
+    ensures masked { IfOk result (λ made. contents made ≡ masked_of (contents whole) mask.now) }
+    ensures named { OnOk result (fault_of (contents whole) mask.now ≡ None) }
+    ensures fault { OnFault result (λ fault. fault_of (contents whole) mask.now ≡ Some fault.item) }
 {
-    if let Some(item) = fault(&module, mask) {
+    if let Some(item) = fault(&whole, mask) {
         return Err(Refusal::Fault(MaskFault { item }));
     }
     let Module {
@@ -121,7 +117,7 @@ pub fn mask_module(
         names,
         shape,
         ..
-    } = module;
+    } = whole;
     let decls = masked_decls(alloc, decls.into_vec(), &names, mask)?;
     match Module::new(alloc, decls, names, shape) {
         Ok(made) => Ok(made),

@@ -10,8 +10,8 @@ use crate::option::{coding_of, records_of, value_in};
 use crate::reading::{description, question, records_asked};
 use crate::word::Word;
 use pads_code::Coding;
-use pads_frame::Discipline;
 use pads_erase::Mask;
+use pads_frame::Discipline;
 use pads_value::Refusal;
 use std::alloc::Global;
 

@@ -1,7 +1,7 @@
 use crate::{Order, Usage, Word, Words, read_order};
 use pads_code::Coding;
-use pads_frame::Discipline;
 use pads_erase::{Mask, Mode};
+use pads_frame::Discipline;
 use pads_value::{Memory, Refusal};
 use std::alloc::Global;
 use std::process::Abort;

@@ -13,10 +13,10 @@ ghost use Rattle.pads_rules.specs.Resolving.{declared as declared_of};
 ghost use Rattle.pads_question.specs.Questions.{ComesTo, HasFilter, IsFilterRefused, faults_there, sort_there};
 
 use crate::fault::FilterError;
+use crate::filter;
 use pads_ast::{Ast, ExprAst};
 use pads_declared::declared;
 use pads_expr::Expr;
-use crate::filter;
 use pads_lex::{Tokens, lex};
 use pads_module::Module;
 use pads_resolve_expr::{PartTable, Types};

@@ -1,5 +1,5 @@
-use pads_rules::ExprSort;
 use crate::Expr;
+use pads_rules::ExprSort;
 use pads_value::Bytes;
 
 /// What a name in scope stands for.

@@ -5,10 +5,10 @@ ghost use Rattle.pads_resolve.specs.Borrowed.{stands};
 ghost use Rattle.pads_resolution.specs.Bodies as bodies;
 ghost use Rattle.pads_resolve_expr.specs.Scopes.{names_in_scope};
 
+use crate::{ResolvingSite, expr_at, literal_of, option_at, type_at};
 use pads_ast::{Array as WrittenArray, ArrayOption as WrittenOption};
 use pads_resolution::{Array, ArrayOption, Stands, Visible};
 use pads_resolve_expr::{NameScope, points};
-use crate::{ResolvingSite, expr_at, literal_of, option_at, type_at};
 use pads_rules::{ExprSort, Form};
 use pads_value::{Items, Memory};
 use std::alloc::Global;

@@ -9,10 +9,10 @@ use crate::arrays::array_at;
 use crate::structs::struct_at;
 use crate::typedefs::typedef_at;
 use crate::unions::union_at;
+use crate::{ResolvingSite, labels_of, type_at};
 use pads_ast::{DeclBody as WrittenBody, Type as WrittenType};
 use pads_resolution::{DeclBody, Type, Visible};
 use pads_resolve_expr::NameScope;
-use crate::{ResolvingSite, labels_of, type_at};
 use pads_value::{Items, Memory};
 use std::alloc::Global;
 

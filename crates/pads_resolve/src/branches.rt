@@ -7,10 +7,10 @@ ghost use Rattle.pads_resolution.specs.Scopes.{variable};
 ghost use Rattle.pads_rules.specs.Pieces as pieces;
 ghost use Rattle.pads_rules.specs.Resolving.{branch_named};
 
+use crate::{ResolvingSite, add_variable, earlier, option_at, type_at};
 use pads_ast::Branch as WrittenBranch;
 use pads_resolution::{Branch, Visible};
 use pads_resolve_expr::{NameScope, text};
-use crate::{ResolvingSite, add_variable, earlier, option_at, type_at};
 use pads_value::{Items, Memory};
 use std::alloc::Global;
 

@@ -7,10 +7,10 @@ ghost use Rattle.pads_resolve.specs.Places.{sites_among};
 
 use crate::bodies::body_at;
 use crate::sources::role_of;
+use crate::{ResolvingSite, earlier, params_of, variables};
 use pads_declared::{TypeTable, name_of, params_of as params_in};
 use pads_resolution::{Decl, Visible};
 use pads_resolve_expr::{PartTable, text};
-use crate::{ResolvingSite, earlier, params_of, variables};
 use pads_value::{Items, Memory};
 use std::alloc::Global;
 

@@ -5,8 +5,8 @@ ghost use Rattle.pads_resolution.specs.Bodies as bodies;
 ghost use Rattle.pads_ast.specs.Trees.{points_of};
 
 use pads_ast::{Label as WrittenLabel, Word};
-use pads_resolve_expr::{points, text};
 use pads_resolution::Label;
+use pads_resolve_expr::{points, text};
 use pads_value::{Bytes, Items, Memory};
 use std::alloc::Global;
 

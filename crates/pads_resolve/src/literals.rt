@@ -5,8 +5,8 @@ ghost use Rattle.pads_resolution.specs.Types as types;
 ghost use Rattle.pads_rules.specs.PieceRules as rules;
 
 use pads_ast::{Const as WrittenConst, Literal as WrittenLiteral, Number};
-use pads_resolve_expr::points;
 use pads_resolution::{Const, Literal};
+use pads_resolve_expr::points;
 use pads_value::Memory;
 use std::alloc::Global;
 

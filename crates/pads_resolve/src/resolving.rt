@@ -7,8 +7,8 @@ use crate::declarations::decls_of;
 use crate::sources::source_of;
 use pads_ast::Ast;
 use pads_declared::declared;
-use pads_resolve_expr::PartTable;
 use pads_resolution::Description;
+use pads_resolve_expr::PartTable;
 use pads_value::Memory;
 use std::alloc::Global;
 

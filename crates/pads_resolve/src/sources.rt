@@ -6,11 +6,11 @@ ghost use Rattle.pads_resolve.specs.Borrowed.{stands};
 ghost use Rattle.pads_resolution.specs.Resolution as resolution;
 ghost use Rattle.pads_resolve.specs.Places.{sites_among};
 
+use crate::{ResolvingSite, earlier};
 use pads_ast::{Decl as WrittenDecl, DeclBody, DeclMark, Part, Type};
 use pads_declared::{EarlierTypes, TypeTable, is_precord, is_psource, is_record_list};
-use pads_resolve_expr::{PartTable, number_of, short};
-use crate::{ResolvingSite, earlier};
 use pads_resolution::{Role, Source};
+use pads_resolve_expr::{PartTable, number_of, short};
 
 /// What a declaration is for.
 #[tactic(auto, unfolding(pads_resolution::specs::Resolution::role_of))]

@@ -9,14 +9,12 @@ ghost use Rattle.pads_resolution.specs.Types as types;
 ghost use Rattle.pads_rules.specs.Pieces as pieces;
 
 use crate::branches::branch_in;
+use crate::{ResolvingSite, add_variable, computed_of, earlier, expr_at, literal_of, with_fields};
 use pads_ast::{
     Expr as Tree, Name, Part as WrittenPart, Struct as WrittenStruct, Type as WrittenType,
 };
 use pads_resolution::{Expr, Part, Struct, Visible};
 use pads_resolve_expr::{NameScope, text};
-use crate::{
-    ResolvingSite, add_variable, computed_of, earlier, expr_at, literal_of, with_fields,
-};
 use pads_value::{Items, Memory};
 use std::alloc::Global;
 

@@ -4,11 +4,11 @@ ghost use Rattle.std.specs.Prelude.{◌≡◌, option_map, IfOk};
 ghost use Rattle.pads_resolve.specs.Borrowed.{stands};
 ghost use Rattle.pads_resolution.specs.Bodies as bodies;
 
+use crate::{ResolvingSite, earlier, expr_at, type_at};
 use pads_ast::{Constraint as WrittenConstraint, Typedef as WrittenTypedef};
 use pads_declared::type_sort;
 use pads_resolution::{Constraint, Stands, Typedef, Visible};
 use pads_resolve_expr::{NameScope, text};
-use crate::{ResolvingSite, earlier, expr_at, type_at};
 use pads_value::Memory;
 use std::alloc::Global;
 

@@ -11,8 +11,8 @@ use crate::site::{ResolvingSite, earlier};
 use pads_ast::{Arg, Param as WrittenParam, Type as WrittenType};
 use pads_base_names::{BaseName, NamedCoding, base_name};
 use pads_declared::{EarlierTypes, type_sort};
-use pads_resolve_expr::{NameScope, short, sort_known, text};
 use pads_resolution::{Computed, Expr, Param, Params, Type, TypeName};
+use pads_resolve_expr::{NameScope, short, sort_known, text};
 use pads_value::{Items, Memory};
 use std::alloc::Global;
 

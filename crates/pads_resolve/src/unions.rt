@@ -5,10 +5,10 @@ ghost use Rattle.pads_resolve.specs.Borrowed.{stands};
 ghost use Rattle.pads_resolution.specs.Bodies as bodies;
 
 use crate::branches::branch_in;
+use crate::{ResolvingSite, const_of, expr_at};
 use pads_ast::{Branch as WrittenBranch, Case as WrittenCase, Switch as WrittenSwitch, UnionBody};
 use pads_resolution::{Branch, Case, Switch, Union, Visible};
 use pads_resolve_expr::NameScope;
-use crate::{ResolvingSite, const_of, expr_at};
 use pads_value::{Items, Memory};
 use std::alloc::Global;
 

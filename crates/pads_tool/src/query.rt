@@ -15,14 +15,14 @@ use crate::text::asked_in;
 use crate::unused::unused;
 use pads_calc::Shape;
 use pads_drive::{Command, Limit, Output, drive};
+use pads_erase::Mask;
 use pads_expr::Expr;
-use pads_question::{Asked, keeps};
 use pads_io::{Files, Sink, Source};
 use pads_json::node_line;
-use pads_erase::Mask;
 use pads_module::Module;
 use pads_nodes::Cursor;
 use pads_orders::{Cutting, Question, Settings};
+use pads_question::{Asked, keeps};
 use pads_value::{Kept, Memory, Pd, Refusal, Row, Rows, Val};
 use std::alloc::Global;
 

@@ -5,10 +5,10 @@ ghost use Rattle.pads_trans.specs.Terms.{separator, terminator, last, first, sep
 ghost use Rattle.pads_trans.specs.Expressions.{option_of};
 
 use crate::types::{constrained, literal, text, type_term};
+use crate::{Numbering, translate_expr, translate_option};
 use pads_calc::{Seq, Term};
 use pads_code::Coding;
 use pads_expr::Expr;
-use crate::{Numbering, translate_expr, translate_option};
 use pads_resolution::{Array, ArrayOption, Expr as Tree, Literal};
 use pads_value::{Boxed, Bytes, Memory};
 use std::alloc::Global;

@@ -5,9 +5,9 @@ ghost use Rattle.pads_trans.specs.Terms.{form_of, literal_part as literal_part_o
 ghost use Rattle.pads_trans.specs.Expressions.{expr_of};
 
 use crate::types::{constrained, form, key, literal, type_term};
+use crate::{Numbering, translate_expr};
 use pads_calc::{Arm, Arms, Case, Cases, Part, Parts, Term};
 use pads_code::Coding;
-use crate::{Numbering, translate_expr};
 use pads_resolution::{
     Branch, Case as CaseTree, Computed, Expr as Tree, Literal, Part as PartTree, Struct, Switch,
     Union,

@@ -3,12 +3,12 @@ ghost use Rattle.std.specs.Prelude.{◌≡◌, map, IfOk};
 ghost use Rattle.pads_trans.specs.Terms.{constrained_type as constrained_type_of, type_of, optional as optional_of, body_of, read_body as read_body_of, decl_of};
 ghost use Rattle.pads_trans.specs.Names.{number_of};
 
+use crate::Numbering;
 use crate::array::array;
 use crate::body::{structure, union_term};
 use crate::types::{enumeration, guarded, optional, type_term};
 use pads_calc::{Decl, Decls, NameIds, Term};
 use pads_code::Coding;
-use crate::Numbering;
 use pads_resolution::{Constraint, Decl as DeclTree, DeclBody, Param, Role, Type, Typedef};
 use pads_value::{Items, Memory};
 use std::alloc::Global;

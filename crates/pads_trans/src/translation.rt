@@ -3,11 +3,11 @@ ghost use Rattle.pads_module.specs.Modules.{contents, is_formed};
 ghost use Rattle.pads_trans.specs.Modules.{shape_of, module_by_table, module_of, is_module};
 ghost use Rattle.pads_value.specs.Refusals.{OnFault};
 
+use crate::Numbering;
 use crate::decl::decls;
 use pads_calc::Shape;
 use pads_code::Coding;
 use pads_module::{IllFormed, Module};
-use crate::Numbering;
 use pads_resolution::{Description, Source};
 use pads_value::Refusal;
 use std::alloc::Global;

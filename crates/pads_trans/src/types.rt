@@ -3,12 +3,12 @@ ghost use Rattle.std.specs.Prelude.{◌≡◌, ◌∷◌, [], map, Some, IfOk};
 ghost use Rattle.pads_code.specs.CodePage.{byte_of};
 ghost use Rattle.pads_trans.specs.Terms.{coding_of, until, base_of, text_of, literal_of, form_of, key_of, spelling_of, label_of, enum_of, constrained as constrained_by, some_arm, none_arm, optional as optional_of, named_type as named, bare_type as bare, type_of};
 
+use crate::{Numbering, translate_expr, translate_exprs};
 use pads_base_names::{BaseName, NamedCoding};
 use pads_bases::{Label as Spelled, Labels, Order};
 use pads_calc::{Arm, Arms, Base, ComputedForm, Exprs, Key, Term};
 use pads_code::{Coding, encode};
 use pads_expr::Expr;
-use crate::{Numbering, translate_expr, translate_exprs};
 use pads_resolution::{Computed, Const, Expr as Tree, Label, Literal, Type, TypeName};
 use pads_value::{Boxed, Bytes, Items, Memory};
 use std::alloc::Global;

@@ -7,11 +7,11 @@ use pads_declared::{
 };
 use pads_lex::lex;
 use pads_module::IllFormed;
+use pads_resolution::{Decl, DeclBody, Description, Role, Source, Type, TypeName};
 use pads_resolve::resolve;
 use pads_rules::{ExprSort, Form};
 use pads_syntax::parse;
 use pads_trans::module_of_description;
-use pads_resolution::{Decl, DeclBody, Description, Role, Source, Type, TypeName};
 use pads_value::{Bytes, Items, Memory, Refusal};
 use std::alloc::Global;
 use std::test::Fail;
