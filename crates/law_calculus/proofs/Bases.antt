@@ -13,7 +13,7 @@ use Rattle.pads_bases.proofs.ChoiceLaws.{enum_spelled}
 use Rattle.pads_dispatch.specs.declared.base.Arg.{Arg}
 use Rattle.pads_dispatch.specs.declared.base.Base.{Base}
 use Rattle.pads_dispatch.specs.declared.base.Base.TheVariants as base
-use Rattle.pads_dispatch.specs.Applied.{Applied, integer, field, binary, until, fixed, class, char, address, labelled, alone, number_in, text_in, size_in, stop_in}
+use Rattle.pads_dispatch.specs.Applied.{Applied, integer, field, binary, until, fixed, class, char, address, labelled, packed, zoned, alone, number_in, text_in, size_in, stop_in}
 use Rattle.pads_dispatch.specs.Readings.{as_value, reading_of, reading_or_bad_param, base_reading}
 use Rattle.law_calculus.specs.Sorts.{Sort, Number, Text, Labels, base_sort}
 use Rattle.law_calculus.specs.Values.{has_sort}
@@ -70,3 +70,5 @@ module _ (declared : List Sort) where
   base-has (base.Char coding) args bytes = alone-has Text (char coding) args bytes (texts _)
   base-has (base.Ip coding) args bytes = alone-has Number (address coding) args bytes (numbers _)
   base-has (base.Enum coding labels) args bytes = alone-has (Labels (length labels)) (labelled coding labels) args bytes (labels-read coding labels bytes)
+  base-has (base.Packed signed) args bytes = with-has Number (λ digits. packed signed digits) (number_in args) bytes (λ digits. numbers _)
+  base-has (base.Zoned signed) args bytes = with-has Number (λ digits. zoned signed digits) (number_in args) bytes (λ digits. numbers _)

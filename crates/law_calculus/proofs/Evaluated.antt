@@ -84,6 +84,8 @@ takes-there (base.Class coding) sorts h = text-there sorts h
 takes-there (base.Char coding) sorts h = none-there sorts h
 takes-there (base.Ip coding) sorts h = none-there sorts h
 takes-there (base.Enum coding labels) sorts h = none-there sorts h
+takes-there (base.Packed signed) sorts h = number-there sorts h
+takes-there (base.Zoned signed) sorts h = number-there sorts h
 
 argument-there : (param : Sort) (o : Option Sort) → is_argument param o ≡ true → IsThere o
 argument-there Number o h = let found = has-there is_number o h in (found.0, found.1)

@@ -23,6 +23,8 @@ HasPlainLabels (base.Class coding) = ⊤
 HasPlainLabels (base.Char coding) = ⊤
 HasPlainLabels (base.Ip coding) = ⊤
 HasPlainLabels (base.Enum coding labels) = SpellingsDiffer labels
+HasPlainLabels (base.Packed signed) = ⊤
+HasPlainLabels (base.Zoned signed) = ⊤
 
 -- a literal, or the end of the record
 abbrev pub IsMark : Term-F Term Arm Case Part Seq → Type 0

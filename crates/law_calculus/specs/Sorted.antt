@@ -50,6 +50,8 @@ takes (base.Class coding) sorts = one_text sorts
 takes (base.Char coding) sorts = no_argument sorts
 takes (base.Ip coding) sorts = no_argument sorts
 takes (base.Enum coding labels) sorts = no_argument sorts
+takes (base.Packed signed) sorts = one_number sorts
+takes (base.Zoned signed) sorts = one_number sorts
 
 abbrev pub is_number_key : Option Key → Bool
 is_number_key None = true

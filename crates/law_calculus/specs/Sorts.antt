@@ -51,6 +51,8 @@ base_sort (base.Class coding) = Text
 base_sort (base.Char coding) = Text
 base_sort (base.Ip coding) = Number
 base_sort (base.Enum coding labels) = Labels (length labels)
+base_sort (base.Packed signed) = Number
+base_sort (base.Zoned signed) = Number
 
 abbrev pub result_sort : ComputedForm → Sort
 result_sort (form.Range least greatest) = Number

@@ -9,7 +9,7 @@ use Rattle.pads_int.specs.Spellings.{widest}
 use Rattle.pads_dispatch.specs.declared.base.Arg.{Arg}
 use Rattle.pads_dispatch.specs.declared.base.Base.{Base}
 use Rattle.pads_dispatch.specs.declared.base.Base.TheVariants as base
-use Rattle.pads_dispatch.specs.Applied.{Applied, alone, size_in, number_in, text_in, stop_in, integer, field, binary, until, fixed, class, char, address, labelled}
+use Rattle.pads_dispatch.specs.Applied.{Applied, alone, size_in, number_in, text_in, stop_in, integer, field, binary, until, fixed, class, char, address, labelled, packed, zoned}
 use Rattle.pads_dispatch.specs.Conditions.{Holds, IsNarrow, HasNoStopOf, LabelsDiffer}
 use Rattle.pads_dispatch.specs.Readings.{base_reading}
 use Rattle.pads_dispatch.specs.Spellings.{base_spelling, text_of}
@@ -29,6 +29,8 @@ narrow (class coding text) v bytes spells fits = tt
 narrow (char coding) v bytes spells fits = tt
 narrow (address coding) v bytes spells fits = tt
 narrow (labelled coding labels) v bytes spells fits = tt
+narrow (packed signed digits) v bytes spells fits = tt
+narrow (zoned signed digits) v bytes spells fits = tt
 
 -- what spells a text up to a stop character has none
 unstopped : (whole : Applied) (v : Val) (bytes : List ℕ) → SpellsApplied whole v bytes → HasNoStopOf whole v
@@ -44,6 +46,8 @@ unstopped (class coding text) v bytes spells = tt
 unstopped (char coding) v bytes spells = tt
 unstopped (address coding) v bytes spells = tt
 unstopped (labelled coding labels) v bytes spells = tt
+unstopped (packed signed digits) v bytes spells = tt
+unstopped (zoned signed digits) v bytes spells = tt
 
 -- a plain base type's labels differ, whatever its arguments
 alone-differs : (whole : Applied) → LabelsDiffer whole → (args : List Arg) (found : Applied) → alone whole args ≡ Some found → LabelsDiffer found
@@ -65,6 +69,8 @@ labels-differ (base.Class coding) labels args = each-differs (λ text. class cod
 labels-differ (base.Char coding) labels args = alone-differs (char coding) tt args
 labels-differ (base.Ip coding) labels args = alone-differs (address coding) tt args
 labels-differ (base.Enum coding labels) differ args = alone-differs (labelled coding labels) differ args
+labels-differ (base.Packed signed) labels args = each-differs (λ digits. packed signed digits) (λ digits. tt) (number_in args)
+labels-differ (base.Zoned signed) labels args = each-differs (λ digits. zoned signed digits) (λ digits. tt) (number_in args)
 
 -- the canonical spelling of what was read in so many bytes
 pub record BaseBytes (base : Base) (args : List Arg) (n : ℕ) (v : Val) : Type 0 where

@@ -61,6 +61,8 @@ base-plain (base.Fixed c) = inr refl
 base-plain (base.Class c) = inr refl
 base-plain (base.Char c) = inr refl
 base-plain (base.Ip c) = inl refl
+base-plain (base.Packed signed) = inl refl
+base-plain (base.Zoned signed) = inl refl
 
 neither : (u l : Bool) → (u && not l) ≡ false → (u && l) ≡ false → u ≡ false
 neither true true a b = b

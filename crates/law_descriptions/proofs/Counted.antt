@@ -67,6 +67,8 @@ module _ (names : List Name) (ambient : Coding) where
   base-labels (base_name.Class prefix) args = refl
   base-labels (base_name.Char prefix) args = refl
   base-labels (base_name.Ip prefix) args = refl
+  base-labels (base_name.Packed signed) args = refl
+  base-labels (base_name.Zoned signed) args = refl
 
   named-fits : (name : TypeName) (args : List Expr) → Fits (named_type ambient name args)
   named-fits (type_name.Base b) args = counts-Base (base_of ambient b args) args ∙ base-labels b args

@@ -146,6 +146,8 @@ module _ (declared : List TermSort) where
       base-means (base_name.Class prefix) args = refl
       base-means (base_name.Char prefix) args = refl
       base-means (base_name.Ip prefix) args = refl
+      base-means (base_name.Packed signed) args = refl
+      base-means (base_name.Zoned signed) args = refl
 
       named-means : (number : ℕ) → ((n : ℕ) → n < number → ReadMeans n) → (scope : SortScope) (given : List ExprTree) (args : List Expr) (name : TypeName) → IsNamed decls sorts number scope given name
           → Means (named_sort sorts name) (sort_of declared (named_type ambient name args))

@@ -62,6 +62,8 @@ module _ (names : List Name) (ambient : Coding) (decls : List DeclTree) (sorts :
   base-labels (base_name.Class prefix) args = tt
   base-labels (base_name.Char prefix) args = tt
   base-labels (base_name.Ip prefix) args = tt
+  base-labels (base_name.Packed signed) args = tt
+  base-labels (base_name.Zoned signed) args = tt
 
   named-plain : (scope : SortScope) (given : List ExprTree) (args : List Expr) (name : TypeName) → IsNamed decls sorts number scope given name → IsPlainTerm (named_type ambient name args)
   named-plain scope given args (type_name.Base b) h = plain-as number (term.Base (base_of ambient b args) args) (Term-F.Base (base_of ambient b args) args) (out-Base (base_of ambient b args) args) (base-labels b args) tt

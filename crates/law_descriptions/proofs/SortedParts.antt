@@ -150,6 +150,8 @@ module _ (declared : List TermSort) (names : List Name) (ambient : Coding) (decl
   base-takes scope bound (base_name.Class prefix) args means met h = text-given scope bound args means met h
   base-takes scope bound (base_name.Char prefix) args means met h = none-given scope bound args h
   base-takes scope bound (base_name.Ip prefix) args means met h = none-given scope bound args h
+  base-takes scope bound (base_name.Packed signed) args means met h = number-given scope bound args means met h
+  base-takes scope bound (base_name.Zoned signed) args means met h = number-given scope bound args means met h
 
   argument-is : (scope : SortScope) (bound : made.SortScope) (e : ExprTree) (param : Param) → IsParam param → ScopeIs scope bound → AllKnown (in_expr e) → HasSort decls sorts scope e param.sort
       → is_argument (param_sort param) (sort_made e bound) ≡ true

@@ -10,7 +10,9 @@
 --                      char, ip                   one character, an address
 --   Pb_              before a kind: binary, low byte first, of the kind's size
 --   Psbl_  Psbh_     before a kind: binary, low or high byte first, maybe of a size of its own
-use Rattle.std.specs.Prelude.{ℕ, Bool, List, [], ◌∷◌, Option, Some, None, option_map, option_and_then, if◌then◌else◌, codes, take, drop, length}
+--
+-- Four names are whole: Ppacked, Pupacked, Pzoned, Puzoned, decimals in half bytes, signed and unsigned.
+use Rattle.std.specs.Prelude.{ℕ, Bool, true, false, List, [], ◌∷◌, Option, Some, None, option_map, option_and_then, if◌then◌else◌, codes, take, drop, length}
 use Rattle.std.specs.Str.{bytes_eq}
 use Rattle.pads_value.specs.Words.{find_word}
 use Rattle.pads_int.specs.declared.kind.Kind.{Kind}
@@ -74,9 +76,15 @@ abbrev pub of_binary : List ℕ → Option BaseName
 of_binary word = or_else (prefixed (codes "Pb_") binary word)
     (or_else (prefixed (codes "Psbl_") (sized order.Low) word) (prefixed (codes "Psbh_") (sized order.High) word))
 
+-- the decimals of mainframes, which may be negative or not
+abbrev pub decimals : List (List ℕ × BaseName)
+decimals =
+    (codes "Ppacked", base.Packed true) ∷ (codes "Pupacked", base.Packed false)
+    ∷ (codes "Pzoned", base.Zoned true) ∷ (codes "Puzoned", base.Zoned false) ∷ []
+
 -- The base type that a name means.
 unfoldable pub base_name : List ℕ → Option BaseName
-base_name word = or_else (of_coding word) (of_binary word)
+base_name word = or_else (of_coding word) (or_else (of_binary word) (find_word word decimals))
 
 -- The arguments that a base type takes.
 abbrev pub takes : BaseName → Takes
@@ -89,3 +97,5 @@ takes (base.Fixed c) = takes_form.Number
 takes (base.Class c) = takes_form.Text
 takes (base.Char c) = takes_form.Nothing
 takes (base.Ip c) = takes_form.Nothing
+takes (base.Packed signed) = takes_form.Number
+takes (base.Zoned signed) = takes_form.Number

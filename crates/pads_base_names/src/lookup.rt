@@ -2,7 +2,7 @@
 
 ghost use Rattle.std.specs.Prelude.{◌≡◌, codes, option_map};
 ghost use Rattle.pads_base_names.specs.Names as names;
-ghost use Rattle.pads_base_names.specs.Names.{texts};
+ghost use Rattle.pads_base_names.specs.Names.{texts, decimals};
 ghost use Rattle.pads_value.specs.Words.{find_word};
 
 use crate::{BaseName, NamedCoding};
@@ -161,6 +161,25 @@ fn of_binary(word: &[u8]) -> Option<BaseName>
     sized(word, b"Psbh_", Order::High)
 }
 
+/// The decimals of mainframes.
+fn decimal_of(word: &[u8]) -> Option<BaseName>
+    ensures found { result ≡ find_word word.now decimals }
+{
+    if is_word(word, b"Ppacked") {
+        return Some(BaseName::Packed(true));
+    }
+    if is_word(word, b"Pupacked") {
+        return Some(BaseName::Packed(false));
+    }
+    if is_word(word, b"Pzoned") {
+        return Some(BaseName::Zoned(true));
+    }
+    if is_word(word, b"Puzoned") {
+        return Some(BaseName::Zoned(false));
+    }
+    None
+}
+
 /// The base type that a name means; `None` exactly where it is none's.
 #[tactic(auto, unfolding(crate::specs::Names::base_name))]
 pub fn base_name(word: &[u8]) -> Option<BaseName>
@@ -169,5 +188,8 @@ pub fn base_name(word: &[u8]) -> Option<BaseName>
     if let Some(name) = of_coding(word) {
         return Some(name);
     }
-    of_binary(word)
+    if let Some(name) = of_binary(word) {
+        return Some(name);
+    }
+    decimal_of(word)
 }

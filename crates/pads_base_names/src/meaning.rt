@@ -34,13 +34,17 @@ pub enum BaseName {
     Char(NamedCoding),
     /// An IP address of version 4.
     Ip(NamedCoding),
+    /// A packed decimal, which may be negative if this is true.
+    Packed(bool),
+    /// A zoned decimal, which may be negative if this is true.
+    Zoned(bool),
 }
 
 /// The arguments that a base type takes.
 #[derive(Clone, Copy, Debug, PartialEq, Eq)]
 pub enum Takes {
     Nothing,
-    /// One number: a width.
+    /// One number: a width, or how many digits.
     Number,
     /// One number, a size, or none.
     NumberOrNothing,
@@ -59,7 +63,8 @@ impl BaseName {
             BaseName::Int(_, _) | BaseName::Bin(_) | BaseName::Char(_) | BaseName::Ip(_) => {
                 Takes::Nothing
             }
-            BaseName::IntFw(_, _) | BaseName::Fixed(_) => Takes::Number,
+            BaseName::IntFw(_, _) | BaseName::Fixed(_) | BaseName::Packed(_) | BaseName::Zoned(_) =>
+                Takes::Number,
             BaseName::SizedBin(_, _) => Takes::NumberOrNothing,
             BaseName::Class(_) => Takes::Text,
             BaseName::Until(_) => Takes::TextOrEnd,

@@ -24,6 +24,10 @@ fn names_by_prefix(rt: HostRuntime) -> Result<(), Fail> {
             Some(BaseName::SizedBin(Order::High, Kind::I32)),
         ),
         (b"Pip".as_slice(), Some(BaseName::Ip(NamedCoding::Ambient))),
+        (b"Ppacked".as_slice(), Some(BaseName::Packed(true))),
+        (b"Pupacked".as_slice(), Some(BaseName::Packed(false))),
+        (b"Pzoned".as_slice(), Some(BaseName::Zoned(true))),
+        (b"Puzoned".as_slice(), Some(BaseName::Zoned(false))),
     ] {
         assert_eq!(rt; base_name(word), want);
     }
@@ -38,6 +42,8 @@ fn names_of_no_base_type(rt: HostRuntime) -> Result<(), Fail> {
         b"Puint8 ".as_slice(),
         b"Psbl_int8_FW".as_slice(),
         b"int8".as_slice(),
+        b"Pe_zoned".as_slice(),
+        b"packed".as_slice(),
         b"".as_slice(),
     ] {
         assert_eq!(rt; base_name(word), None);

@@ -55,7 +55,9 @@ pub fn base_sort(base: BaseName) -> ExprSort
         | BaseName::IntFw(_, _)
         | BaseName::Bin(_)
         | BaseName::SizedBin(_, _)
-        | BaseName::Ip(_) => ExprSort::plain(Form::Num),
+        | BaseName::Ip(_)
+        | BaseName::Packed(_)
+        | BaseName::Zoned(_) => ExprSort::plain(Form::Num),
     }
 }
 

@@ -22,9 +22,13 @@ use Rattle.pads_bases.proofs.BinaryLaws.{bin_canonical, bin_canonical_reads_back
 use Rattle.pads_bases.proofs.ChoiceLaws.{enum_canonical, enum_canonical_reads_back, enum_reads_back, enum_spelled}
 use Rattle.pads_bases.proofs.FieldLaws.{char_canonical, char_canonical_reads_back, char_reads_back, char_spelled, class_canonical, class_canonical_reads_back, class_reads_back, class_spelled, fixed_canonical, fixed_canonical_reads_back, fixed_reads_back, fixed_spelled}
 use Rattle.pads_bases.proofs.StringLaws.{not_hard, good_parts, until_canonical, until_canonical_reads_back, until_reads_back, until_spelled}
+use Rattle.pads_decimal.specs.Packed.{packed_reading, packed_spelling, SpellsPacked}
+use Rattle.pads_decimal.specs.Zoned.{zoned_reading, zoned_spelling, SpellsZoned}
+use Rattle.pads_decimal.proofs.PackedLaws.{packed_spelled, packed_canonical, packed_reads_back, packed_canonical_reads_back}
+use Rattle.pads_decimal.proofs.ZonedLaws.{zoned_spelled, zoned_canonical, zoned_reads_back, zoned_canonical_reads_back}
 use Rattle.pads_dispatch.specs.declared.base.Arg.{Arg}
 use Rattle.pads_dispatch.specs.declared.base.Base.{Base}
-use Rattle.pads_dispatch.specs.Applied.{Applied, applied, integer, field, binary, until, fixed, class, char, address, labelled}
+use Rattle.pads_dispatch.specs.Applied.{Applied, applied, integer, field, binary, until, fixed, class, char, address, labelled, packed, zoned}
 use Rattle.pads_dispatch.specs.Conditions.{Holds, IsNarrow, HasNoStopOf, LabelsDiffer}
 use Rattle.pads_dispatch.specs.Kinds.{range_of}
 use Rattle.pads_dispatch.specs.Readings.{reading_of, reading_or_bad_param, base_reading}
@@ -51,6 +55,8 @@ spelled (class coding chars) bytes n v e = lift_spelled val.Text (SpellsClass co
 spelled (char coding) bytes n v e = lift_spelled val.Text (SpellsChar coding) (char_reading coding bytes) n v (take n bytes) (char_spelled coding bytes n) e
 spelled (address coding) bytes n v e = lift_spelled val.Num (SpellsIp coding) (ip_reading coding bytes) n v (take n bytes) (ip_spelled coding bytes n) e
 spelled (labelled coding labels) bytes n v e = lift_spelled val.Enum (SpellsEnum coding labels) (enum_reading coding labels bytes) n v (take n bytes) (enum_spelled coding labels bytes n) e
+spelled (packed signed digits) bytes n v e = lift_spelled val.Num (SpellsPacked digits signed) (packed_reading digits signed bytes) n v (take n bytes) (packed_spelled digits signed bytes n) e
+spelled (zoned signed digits) bytes n v e = lift_spelled val.Num (SpellsZoned digits signed) (zoned_reading digits signed bytes) n v (take n bytes) (zoned_spelled digits signed bytes n) e
 
 -- what is read of a field is as wide as it
 narrow : (n w : ℕ) (width : ℤ) → width ≡ pos n → width ≤ℤ pos w → n ≤ w
@@ -66,6 +72,8 @@ canonical (class coding chars) bytes n v _ e = lift_canonical val.Text text_of (
 canonical (char coding) bytes n v _ e = lift_canonical val.Text text_of (char_spelling coding) text_of-Text (char_reading coding bytes) n v (char_canonical coding bytes n) e
 canonical (address coding) bytes n v _ e = lift_canonical val.Num number_of (ip_spelling coding) number_of-Num (ip_reading coding bytes) n v (ip_canonical coding bytes n) e
 canonical (labelled coding labels) bytes n v _ e = lift_canonical val.Enum label_of (enum_spelling coding labels) label_of-Enum (enum_reading coding labels bytes) n v (enum_canonical coding labels bytes n) e
+canonical (packed signed digits) bytes n v _ e = lift_canonical val.Num number_of (packed_spelling digits signed) number_of-Num (packed_reading digits signed bytes) n v (packed_canonical digits signed bytes n) e
+canonical (zoned signed digits) bytes n v _ e = lift_canonical val.Num number_of (zoned_spelling digits signed) number_of-Num (zoned_reading digits signed bytes) n v (zoned_canonical digits signed bytes n) e
 
 pub reads_back : (whole : Applied) (v : Val) (bytes : List ℕ) → LabelsDiffer whole → SpellsApplied whole v bytes → reading_of whole bytes ≡ Good (length bytes) v
 reads_back (integer kind coding) v bytes _ spelled = lift_reads_back val.Num (SpellsInt kind coding) (int_reading kind coding bytes) (length bytes) v bytes (λ x. int_reads_back kind coding x bytes) spelled
@@ -77,6 +85,8 @@ reads_back (class coding chars) v bytes _ spelled = lift_reads_back val.Text (Sp
 reads_back (char coding) v bytes _ spelled = lift_reads_back val.Text (SpellsChar coding) (char_reading coding bytes) (length bytes) v bytes (λ x. char_reads_back coding x bytes) spelled
 reads_back (address coding) v bytes _ spelled = lift_reads_back val.Num (SpellsIp coding) (ip_reading coding bytes) (length bytes) v bytes (λ x. ip_reads_back coding x bytes) spelled
 reads_back (labelled coding labels) v bytes differ spelled = lift_reads_back val.Enum (SpellsEnum coding labels) (enum_reading coding labels bytes) (length bytes) v bytes (λ x. enum_reads_back coding labels x bytes differ) spelled
+reads_back (packed signed digits) v bytes _ spelled = lift_reads_back val.Num (SpellsPacked digits signed) (packed_reading digits signed bytes) (length bytes) v bytes (λ x. packed_reads_back digits signed x bytes) spelled
+reads_back (zoned signed digits) v bytes _ spelled = lift_reads_back val.Num (SpellsZoned digits signed) (zoned_reading digits signed bytes) (length bytes) v bytes (λ x. zoned_reads_back digits signed x bytes) spelled
 
 pub canonical_reads_back : (whole : Applied) (v : Val) (s : List ℕ) → LabelsDiffer whole → HasNoStopOf whole v → spelling_of whole v ≡ Some s → reading_of whole s ≡ Good (length s) v
 canonical_reads_back (integer kind coding) v s _ _ e = lift_canonical_reads_back val.Num number_of (int_spelling kind coding) is-Num (int_reading kind coding s) (length s) v s (λ x is. int_canonical_reads_back kind coding x s) e
@@ -88,6 +98,8 @@ canonical_reads_back (class coding chars) v s _ _ e = lift_canonical_reads_back 
 canonical_reads_back (char coding) v s _ _ e = lift_canonical_reads_back val.Text text_of (char_spelling coding) is-Text (char_reading coding s) (length s) v s (λ x is. char_canonical_reads_back coding x s) e
 canonical_reads_back (address coding) v s _ _ e = lift_canonical_reads_back val.Num number_of (ip_spelling coding) is-Num (ip_reading coding s) (length s) v s (λ x is. ip_canonical_reads_back coding x s) e
 canonical_reads_back (labelled coding labels) v s differ _ e = lift_canonical_reads_back val.Enum label_of (enum_spelling coding labels) is-Enum (enum_reading coding labels s) (length s) v s (λ x is. enum_canonical_reads_back coding labels x s differ) e
+canonical_reads_back (packed signed digits) v s _ _ e = lift_canonical_reads_back val.Num number_of (packed_spelling digits signed) is-Num (packed_reading digits signed s) (length s) v s (λ x is. packed_canonical_reads_back digits signed x s) e
+canonical_reads_back (zoned signed digits) v s _ _ e = lift_canonical_reads_back val.Num number_of (zoned_spelling digits signed) is-Num (zoned_reading digits signed s) (length s) v s (λ x is. zoned_canonical_reads_back digits signed x s) e
 
 -- the same of a base type with its arguments
 

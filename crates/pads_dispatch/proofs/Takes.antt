@@ -1,7 +1,9 @@
 -- A base type takes no more bytes than there are.
-use Rattle.std.proofs.Common.{not, Option, Some, None, ◌≡◌, ℕ, ◌+◌, ◌≤◌, Bool, true, false, if◌then◌else◌, ℤ, pos, negsuc, nat_lt, nat_eq, List, [], ◌∷◌, length, take, drop, refl, arith, length-drop, length-take}
+use Rattle.std.proofs.Common.{not, Option, Some, None, ◌≡◌, ℕ, ◌+◌, ◌≤◌, Bool, true, false, ◌&&◌, if◌then◌else◌, ℤ, pos, negsuc, nat_lt, nat_eq, List, [], ◌∷◌, length, map, slice_index, take, drop, refl, arith, length-drop, length-take}
 use Rattle.std.specs.Char.{is_ascii_digit}
-use Rattle.std.specs.List.{prefix_len, take_while, position_or_len}
+use Rattle.std.specs.Int.Digits.{number_from_digits}
+use Rattle.std.specs.List.{list_all, prefix_len, take_while, position_or_len}
+use Rattle.std.specs.Option.{option_map_or}
 use Rattle.std.proofs.lemmas.Grind.{common_steps}
 use Rattle.std.proofs.lemmas.Bool.{ltb-false}
 use Rattle.std.proofs.lemmas.List.{length-map}
@@ -29,9 +31,14 @@ use Rattle.pads_bases.specs.Classes.{is_class, has_point, class_reading}
 use Rattle.pads_bases.specs.Enums.{choice, choice_read, enum_reading}
 use Rattle.pads_bases.proofs.ChoiceLaws.{enum_within}
 use Rattle.pads_bases.specs.Strings.{until_reading, fixed_reading, char_reading}
+use Rattle.pads_decimal.specs.Digits.{digit_count}
+use Rattle.pads_decimal.specs.HalfBytes.{high, low, is_digit, halves, last, front}
+use Rattle.pads_decimal.specs.Packed.{packed_width, is_padded, packed_field, packed_in_front, packed_reading}
+use Rattle.pads_decimal.specs.Signs.{is_sign, with_sign}
+use Rattle.pads_decimal.specs.Zoned.{is_zoned, zoned_field, zoned_in_front, zoned_reading}
 use Rattle.pads_dispatch.specs.declared.base.Arg.{Arg}
 use Rattle.pads_dispatch.specs.declared.base.Base.{Base}
-use Rattle.pads_dispatch.specs.Applied.{Applied, applied, integer, field, binary, until, fixed, class, char, address, labelled}
+use Rattle.pads_dispatch.specs.Applied.{Applied, applied, integer, field, binary, until, fixed, class, char, address, labelled, packed, zoned}
 use Rattle.pads_dispatch.specs.Kinds.{range_of}
 use Rattle.pads_dispatch.specs.Readings.{as_value, reading_of, reading_or_bad_param, base_reading}
 use Rattle.pads_dispatch.specs.Sizes.{taken}
@@ -166,6 +173,50 @@ never-soft coding labels bytes size c e = choice-not-soft labels (points_of codi
 enum-takes : (coding : Coding) (labels : List Label) (bytes : List ℕ) → taken (enum_reading coding labels bytes) ≤ length bytes
 enum-takes coding labels bytes = good-takes (enum_reading coding labels bytes) (length bytes) (enum_within coding labels bytes) (never-soft coding labels bytes)
 
+-- a field is no longer than the bytes that it is taken from
+padded-takes : (padded signed : Bool) (whole : List ℕ) → taken (packed_field padded signed whole) ≤ length whole
+unfolding packed_field
+padded-takes padded signed whole =
+    let written : List ℕ = front (halves whole) in
+    let sign : ℕ = last (halves whole) in
+    let good : Read ℤ = Good (length whole) (with_sign sign (number_from_digits 10 written)) in
+    let used : Bool = padded && not (nat_eq (slice_index (halves whole) 0) 0) in
+    either-takes (length whole) (not (list_all is_digit written && is_sign signed sign)) (Soft (length whole) cause.Invalid) (if used then Soft (length whole) cause.Range else good)
+    (λ _. omega arith)
+    (λ _. either-takes (length whole) used (Soft (length whole) cause.Range) good (λ _. omega arith) (λ _. omega arith))
+
+packed-front-takes : (signed : Bool) (bytes : List ℕ) (count : ℕ) → taken (packed_in_front signed bytes count) ≤ length bytes
+unfolding packed_in_front
+packed-front-takes signed bytes count =
+    let width : ℕ = packed_width count in
+    either-takes (length bytes) (nat_lt (length bytes) width) (Hard cause.Width) (packed_field (is_padded count) signed (take width bytes))
+    (λ _. omega arith)
+    (λ _. omega (arith, padded-takes (is_padded count) signed (take width bytes), length-take width bytes))
+
+packed-takes : (digits : ℤ) (signed : Bool) (bytes : List ℕ) → taken (packed_reading digits signed bytes) ≤ length bytes
+unfolding packed_reading
+packed-takes digits signed bytes =
+    option-cases (digit_count digits) (λ o. taken (option_map_or (packed_in_front signed bytes) o (Hard cause.BadParam)) ≤ length bytes) (omega arith) (packed-front-takes signed bytes)
+
+zones-take : (signed : Bool) (whole : List ℕ) → taken (zoned_field signed whole) ≤ length whole
+unfolding zoned_field
+zones-take signed whole =
+    let sign : ℕ = high (last whole) in
+    let ends : Bool = is_digit (low (last whole)) && is_sign signed sign in
+    either-takes (length whole) (list_all is_zoned (front whole) && ends) (Good (length whole) (with_sign sign (number_from_digits 10 (map low whole)))) (Soft (length whole) cause.Invalid)
+    (λ _. omega arith) (λ _. omega arith)
+
+zoned-front-takes : (signed : Bool) (bytes : List ℕ) (count : ℕ) → taken (zoned_in_front signed bytes count) ≤ length bytes
+unfolding zoned_in_front
+zoned-front-takes signed bytes count =
+    either-takes (length bytes) (nat_lt (length bytes) count) (Hard cause.Width) (zoned_field signed (take count bytes))
+    (λ _. omega arith) (λ _. omega (arith, zones-take signed (take count bytes), length-take count bytes))
+
+zoned-takes : (digits : ℤ) (signed : Bool) (bytes : List ℕ) → taken (zoned_reading digits signed bytes) ≤ length bytes
+unfolding zoned_reading
+zoned-takes digits signed bytes =
+    option-cases (digit_count digits) (λ o. taken (option_map_or (zoned_in_front signed bytes) o (Hard cause.BadParam)) ≤ length bytes) (omega arith) (zoned-front-takes signed bytes)
+
 reading-takes : (whole : Applied) (bytes : List ℕ) → taken (reading_of whole bytes) ≤ length bytes
 reading-takes (integer kind coding) bytes = value-takes val.Num (int_reading kind coding bytes) (length bytes) (int-takes kind coding bytes)
 reading-takes (field kind coding width) bytes = value-takes val.Num (int_fw_reading kind coding width bytes) (length bytes) (int_fw-takes kind coding width bytes)
@@ -176,6 +227,8 @@ reading-takes (class coding text) bytes = value-takes val.Text (class_reading co
 reading-takes (char coding) bytes = value-takes val.Text (char_reading coding bytes) (length bytes) (char-takes coding bytes)
 reading-takes (address coding) bytes = value-takes val.Num (ip_reading coding bytes) (length bytes) (ip-takes coding bytes)
 reading-takes (labelled coding labels) bytes = value-takes val.Enum (enum_reading coding labels bytes) (length bytes) (enum-takes coding labels bytes)
+reading-takes (packed signed digits) bytes = value-takes val.Num (packed_reading digits signed bytes) (length bytes) (packed-takes digits signed bytes)
+reading-takes (zoned signed digits) bytes = value-takes val.Num (zoned_reading digits signed bytes) (length bytes) (zoned-takes digits signed bytes)
 
 optional-takes : (whole : Option Applied) (bytes : List ℕ) → taken (reading_or_bad_param whole bytes) ≤ length bytes
 optional-takes None bytes = omega arith

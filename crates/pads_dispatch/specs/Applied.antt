@@ -1,6 +1,6 @@
 -- A base type with its arguments: which number and sorts of arguments each base type takes. A binary
 -- integer without an argument has its kind's size; a stop character is a text of one code point.
-use Rattle.std.specs.Prelude.{ℕ, ℤ, pos, List, [], ◌∷◌, Option, Some, None, option_map, option_and_then}
+use Rattle.std.specs.Prelude.{ℕ, ℤ, pos, Bool, List, [], ◌∷◌, Option, Some, None, option_map, option_and_then}
 use Rattle.pads_code.specs.declared.Coding.{Coding}
 use Rattle.pads_int.specs.declared.kind.Kind.{Kind}
 use Rattle.pads_bases.specs.declared.binary.Order.{Order}
@@ -26,6 +26,9 @@ pub data Applied : Type 0 where
   char : Coding → Applied
   address : Coding → Applied
   labelled : Coding → List Label → Applied
+  -- whether it may be negative, with the number of digits
+  packed : Bool → ℤ → Applied
+  zoned : Bool → ℤ → Applied
 
 -- no argument
 abbrev pub alone : Applied → List Arg → Option Applied
@@ -69,3 +72,5 @@ applied (base.Class coding) args = option_map (λ text. class coding text) (text
 applied (base.Char coding) args = alone (char coding) args
 applied (base.Ip coding) args = alone (address coding) args
 applied (base.Enum coding labels) args = alone (labelled coding labels) args
+applied (base.Packed signed) args = option_map (λ digits. packed signed digits) (number_in args)
+applied (base.Zoned signed) args = option_map (λ digits. zoned signed digits) (number_in args)

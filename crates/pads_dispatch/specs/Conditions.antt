@@ -7,7 +7,7 @@ use Rattle.pads_bases.specs.Enums.{SpellingsDiffer}
 use Rattle.pads_bases.specs.Strings.{HasNoStop, widest}
 use Rattle.pads_dispatch.specs.declared.base.Arg.{Arg}
 use Rattle.pads_dispatch.specs.declared.base.Base.{Base}
-use Rattle.pads_dispatch.specs.Applied.{Applied, applied, integer, field, binary, until, fixed, class, char, address, labelled}
+use Rattle.pads_dispatch.specs.Applied.{Applied, applied, integer, field, binary, until, fixed, class, char, address, labelled, packed, zoned}
 
 -- the field, if it is one, has at most 16,777,216 bytes
 abbrev pub IsNarrow : Applied → Type 0
@@ -20,6 +20,8 @@ IsNarrow (class coding text) = Unit {0}
 IsNarrow (char coding) = Unit {0}
 IsNarrow (address coding) = Unit {0}
 IsNarrow (labelled coding labels) = Unit {0}
+IsNarrow (packed signed digits) = Unit {0}
+IsNarrow (zoned signed digits) = Unit {0}
 
 -- a text that goes up to a stop character has none
 abbrev pub HasNoStopOf : Applied → Val → Type 0
@@ -32,6 +34,8 @@ HasNoStopOf (class coding text) v = Unit {0}
 HasNoStopOf (char coding) v = Unit {0}
 HasNoStopOf (address coding) v = Unit {0}
 HasNoStopOf (labelled coding labels) v = Unit {0}
+HasNoStopOf (packed signed digits) v = Unit {0}
+HasNoStopOf (zoned signed digits) v = Unit {0}
 
 -- no two labels have one spelling
 abbrev pub LabelsDiffer : Applied → Type 0
@@ -44,6 +48,8 @@ LabelsDiffer (class coding text) = Unit {0}
 LabelsDiffer (char coding) = Unit {0}
 LabelsDiffer (address coding) = Unit {0}
 LabelsDiffer (labelled coding labels) = SpellingsDiffer labels
+LabelsDiffer (packed signed digits) = Unit {0}
+LabelsDiffer (zoned signed digits) = Unit {0}
 
 -- where the arguments are of the base type's number and sorts, it holds of the two together
 abbrev pub Holds : Base → List Arg → (Applied → Type 0) → Type 0

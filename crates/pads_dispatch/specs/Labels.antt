@@ -14,3 +14,5 @@ labels_fit (base.Class coding) = true
 labels_fit (base.Char coding) = true
 labels_fit (base.Ip coding) = true
 labels_fit (base.Enum coding labels) = nat_le (length labels) 65535
+labels_fit (base.Packed signed) = true
+labels_fit (base.Zoned signed) = true

@@ -12,9 +12,11 @@ use Rattle.pads_bases.specs.Binaries.{bin_reading}
 use Rattle.pads_bases.specs.Classes.{class_reading}
 use Rattle.pads_bases.specs.Enums.{enum_reading}
 use Rattle.pads_bases.specs.Strings.{until_reading, fixed_reading, char_reading}
+use Rattle.pads_decimal.specs.Packed.{packed_reading}
+use Rattle.pads_decimal.specs.Zoned.{zoned_reading}
 use Rattle.pads_dispatch.specs.declared.base.Arg.{Arg}
 use Rattle.pads_dispatch.specs.declared.base.Base.{Base}
-use Rattle.pads_dispatch.specs.Applied.{Applied, applied, integer, field, binary, until, fixed, class, char, address, labelled}
+use Rattle.pads_dispatch.specs.Applied.{Applied, applied, integer, field, binary, until, fixed, class, char, address, labelled, packed, zoned}
 use Rattle.pads_dispatch.specs.Kinds.{range_of}
 
 -- a reading of numbers, texts or labels as one of values
@@ -33,6 +35,8 @@ reading_of (class coding text) bytes = as_value val.Text (class_reading coding t
 reading_of (char coding) bytes = as_value val.Text (char_reading coding bytes)
 reading_of (address coding) bytes = as_value val.Num (ip_reading coding bytes)
 reading_of (labelled coding labels) bytes = as_value val.Enum (enum_reading coding labels bytes)
+reading_of (packed signed digits) bytes = as_value val.Num (packed_reading digits signed bytes)
+reading_of (zoned signed digits) bytes = as_value val.Num (zoned_reading digits signed bytes)
 
 abbrev pub reading_or_bad_param : Option Applied → List ℕ → Read Val
 reading_or_bad_param None bytes = Hard cause.BadParam

@@ -8,9 +8,11 @@ use Rattle.pads_bases.specs.Binaries.{bin_spelling}
 use Rattle.pads_bases.specs.Classes.{class_spelling}
 use Rattle.pads_bases.specs.Enums.{enum_spelling}
 use Rattle.pads_bases.specs.Strings.{until_spelling, fixed_spelling, char_spelling}
+use Rattle.pads_decimal.specs.Packed.{packed_spelling}
+use Rattle.pads_decimal.specs.Zoned.{zoned_spelling}
 use Rattle.pads_dispatch.specs.declared.base.Arg.{Arg}
 use Rattle.pads_dispatch.specs.declared.base.Base.{Base}
-use Rattle.pads_dispatch.specs.Applied.{Applied, applied, integer, field, binary, until, fixed, class, char, address, labelled}
+use Rattle.pads_dispatch.specs.Applied.{Applied, applied, integer, field, binary, until, fixed, class, char, address, labelled, packed, zoned}
 use Rattle.pads_dispatch.specs.Kinds.{range_of}
 
 -- the number, if the value is one
@@ -65,6 +67,8 @@ spelling_of (class coding text) v = option_and_then (class_spelling coding text)
 spelling_of (char coding) v = option_and_then (char_spelling coding) (text_of v)
 spelling_of (address coding) v = option_and_then (ip_spelling coding) (number_of v)
 spelling_of (labelled coding labels) v = option_and_then (enum_spelling coding labels) (label_of v)
+spelling_of (packed signed digits) v = option_and_then (packed_spelling digits signed) (number_of v)
+spelling_of (zoned signed digits) v = option_and_then (zoned_spelling digits signed) (number_of v)
 
 unfoldable pub base_spelling : Base → List Arg → Val → Option (List ℕ)
 base_spelling base args v = option_and_then (λ whole. spelling_of whole v) (applied base args)

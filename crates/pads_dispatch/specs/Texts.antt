@@ -8,9 +8,11 @@ use Rattle.pads_bases.specs.Binaries.{SpellsBin}
 use Rattle.pads_bases.specs.Classes.{SpellsClass}
 use Rattle.pads_bases.specs.Enums.{SpellsEnum}
 use Rattle.pads_bases.specs.Strings.{SpellsUntil, SpellsFixed, SpellsChar}
+use Rattle.pads_decimal.specs.Packed.{SpellsPacked}
+use Rattle.pads_decimal.specs.Zoned.{SpellsZoned}
 use Rattle.pads_dispatch.specs.declared.base.Arg.{Arg}
 use Rattle.pads_dispatch.specs.declared.base.Base.{Base}
-use Rattle.pads_dispatch.specs.Applied.{Applied, applied, integer, field, binary, until, fixed, class, char, address, labelled}
+use Rattle.pads_dispatch.specs.Applied.{Applied, applied, integer, field, binary, until, fixed, class, char, address, labelled, packed, zoned}
 use Rattle.pads_dispatch.specs.Kinds.{range_of}
 
 -- the value is a number, text or label that the bytes spell
@@ -29,6 +31,8 @@ SpellsApplied (class coding text) v bytes = Spelled val.Text (SpellsClass coding
 SpellsApplied (char coding) v bytes = Spelled val.Text (SpellsChar coding) v bytes
 SpellsApplied (address coding) v bytes = Spelled val.Num (SpellsIp coding) v bytes
 SpellsApplied (labelled coding labels) v bytes = Spelled val.Enum (SpellsEnum coding labels) v bytes
+SpellsApplied (packed signed digits) v bytes = Spelled val.Num (SpellsPacked digits signed) v bytes
+SpellsApplied (zoned signed digits) v bytes = Spelled val.Num (SpellsZoned digits signed) v bytes
 
 pub record SpellsBase (base : Base) (args : List Arg) (v : Val) (bytes : List ℕ) : Type 0 where
   pub whole : Applied

@@ -21,6 +21,8 @@ pub(crate) enum Applied<'a> {
     Char(Coding),
     Ip(Coding),
     Enum(Coding, &'a Labels),
+    Packed(bool, i128),
+    Zoned(bool, i128),
 }
 
 /// A base type without arguments.
@@ -92,5 +94,7 @@ pub(crate) fn with_args<'a>(base: &'a Base, args: &'a [Arg]) -> Option<Applied<'
         Base::Char(coding) => alone(Applied::Char(*coding), args),
         Base::Ip(coding) => alone(Applied::Ip(*coding), args),
         Base::Enum(coding, labels) => alone(Applied::Enum(*coding, labels), args),
+        Base::Packed(signed) => number_arg(args).map(|digits| Applied::Packed(*signed, digits)),
+        Base::Zoned(signed) => number_arg(args).map(|digits| Applied::Zoned(*signed, digits)),
     }
 }

@@ -31,6 +31,10 @@ pub enum Base {
     Ip(Coding),
     /// One of these labels, by its spelling. No argument.
     Enum(Coding, Labels),
+    /// A packed decimal, which may be negative if this is true. Its argument is the number of its digits.
+    Packed(bool),
+    /// A zoned decimal, which may be negative if this is true. Its argument is the number of its digits.
+    Zoned(bool),
 }
 
 impl Base {
@@ -51,6 +55,8 @@ impl Base {
             Base::Enum(coding, labels) => {
                 Base::Enum(*coding, copy_labels(alloc, labels.as_slice())?)
             }
+            Base::Packed(signed) => Base::Packed(*signed),
+            Base::Zoned(signed) => Base::Zoned(*signed),
         })
     }
 }

@@ -10,6 +10,7 @@ use crate::applied::{Applied, with_args};
 use crate::kinds::range_of;
 use crate::{Arg, Args, Base};
 use pads_bases::{read_bin, read_char, read_class, read_enum, read_fixed, read_ip, read_until};
+use pads_decimal::{read_packed, read_zoned};
 use pads_int::{read_int, read_int_fw};
 use pads_value::{Bytes, Cause, Memory, Read, Val};
 use std::alloc::Global;
@@ -62,6 +63,8 @@ fn read_applied(alloc: Global, whole: Applied<'_>, bytes: &[u8]) -> Result<Read<
         Applied::Char(coding) => text(read_char(alloc, coding, bytes)?),
         Applied::Ip(coding) => number(read_ip(coding, bytes)),
         Applied::Enum(coding, labels) => label(read_enum(coding, labels, bytes)),
+        Applied::Packed(signed, digits) => number(read_packed(digits, signed, bytes)),
+        Applied::Zoned(signed, digits) => number(read_zoned(digits, signed, bytes)),
     })
 }
 

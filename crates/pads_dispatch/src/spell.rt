@@ -14,6 +14,7 @@ use crate::{Args, Base};
 use arrayvec::ArrayVec;
 use pads_bases::{Labels, encode_text, in_class, spell_bin, spell_ip};
 use pads_code::Coding;
+use pads_decimal::{spell_packed, spell_zoned};
 use pads_int::{spell_int, spell_int_fw};
 use pads_value::{Bytes, Items, Memory, Val};
 use std::alloc::Global;
@@ -120,6 +121,8 @@ fn spell_number(alloc: Global, whole: Applied<'_>, number: i128) -> Result<Optio
             owned(alloc, spell_bin(range_of(kind), order, size, number))
         }
         Applied::Ip(coding) => owned(alloc, spell_ip(coding, number)),
+        Applied::Packed(signed, digits) => owned(alloc, spell_packed(digits, signed, number)),
+        Applied::Zoned(signed, digits) => owned(alloc, spell_zoned(digits, signed, number)),
         _ => Ok(None),
     }
 }

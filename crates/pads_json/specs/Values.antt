@@ -62,6 +62,8 @@ base_shown (base.Class coding) v = text_shown (text_in v)
 base_shown (base.Char coding) v = text_shown (text_in v)
 base_shown (base.Ip coding) v = address_shown (num_in v)
 base_shown (base.Enum coding labels) v = labelled labels (label_in v)
+base_shown (base.Packed signed) v = number_shown (num_in v)
+base_shown (base.Zoned signed) v = number_shown (num_in v)
 
 -- the value of a computed field
 abbrev pub computed_shown : {A : Type 0} → ComputedForm → Val-F A → Data

@@ -19,7 +19,8 @@ fn write_base(out: &mut Bytes, base: &Base, val: &Val) -> Result<(), Memory>
     ensures written { OnOk result (out.new ≡ out.old ++ compact_text (base_told base.now val.now)) }
 {
     match base {
-        Base::Int(_, _) | Base::IntFw(_, _) | Base::Bin(_, _) => write_number(out, val),
+        Base::Int(_, _) | Base::IntFw(_, _) | Base::Bin(_, _) | Base::Packed(_) | Base::Zoned(_) =>
+            write_number(out, val),
         Base::Until(_) | Base::UntilEor(_) | Base::Fixed(_) | Base::Class(_) | Base::Char(_) => {
             write_string(out, val)
         }

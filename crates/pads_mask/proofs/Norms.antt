@@ -44,6 +44,8 @@ base-norm (base.Fixed coding) = refl
 base-norm (base.Class coding) = refl
 base-norm (base.Char coding) = refl
 base-norm (base.Ip coding) = refl
+base-norm (base.Packed signed) = refl
+base-norm (base.Zoned signed) = refl
 base-norm (base.Enum coding labels) = refl
 
 result-norm : (f : ComputedForm) → result_sort f ≡ norm (result_sort f)

@@ -72,6 +72,8 @@ takes-norm (base.Fixed coding) sorts = one_number-norm sorts
 takes-norm (base.Class coding) sorts = one_text-norm sorts
 takes-norm (base.Char coding) sorts = none-norm sorts
 takes-norm (base.Ip coding) sorts = none-norm sorts
+takes-norm (base.Packed signed) sorts = one_number-norm sorts
+takes-norm (base.Zoned signed) sorts = one_number-norm sorts
 takes-norm (base.Enum coding labels) sorts = none-norm sorts
 
 chooses-norm : (keys : List (Option Key)) (o : Option Sort) → chooses (normed o) keys ≡ chooses o keys

@@ -64,6 +64,8 @@ base_form (base.Class coding) = form.Text
 base_form (base.Char coding) = form.Text
 base_form (base.Ip coding) = form.Address
 base_form (base.Enum coding labels) = form.Label (map (λ label. label.name) labels)
+base_form (base.Packed signed) = form.Number
+base_form (base.Zoned signed) = form.Number
 
 abbrev pub computed_form : ComputedForm → PartForm
 computed_form (computed.Range least greatest) = form.Number

@@ -44,7 +44,8 @@ fn base_form(alloc: Global, base: &Base) -> Result<PartForm, Memory>
     ensures form { IfOk result (λ form. form ≡ base_form_of base.now) }
 {
     Ok(match base {
-        Base::Int(_, _) | Base::IntFw(_, _) | Base::Bin(_, _) => PartForm::Number,
+        Base::Int(_, _) | Base::IntFw(_, _) | Base::Bin(_, _) | Base::Packed(_) | Base::Zoned(_) =>
+            PartForm::Number,
         Base::Until(_) | Base::UntilEor(_) | Base::Fixed(_) | Base::Class(_) | Base::Char(_) => {
             PartForm::Text
         }

@@ -79,6 +79,8 @@ base_sort (base.IntFw coding kind) = num
 base_sort (base.Bin kind) = num
 base_sort (base.SizedBin order kind) = num
 base_sort (base.Ip coding) = num
+base_sort (base.Packed signed) = num
+base_sort (base.Zoned signed) = num
 
 -- The sort of what holds these violations: unknown where there are any.
 abbrev pub unless_broken : List CheckFault → ExprSort → ExprSort

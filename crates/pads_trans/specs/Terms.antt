@@ -93,6 +93,8 @@ base_of ambient (base_name.Fixed named) args = base.Fixed (coding_of ambient nam
 base_of ambient (base_name.Class named) args = base.Class (coding_of ambient named)
 base_of ambient (base_name.Char named) args = base.Char (coding_of ambient named)
 base_of ambient (base_name.Ip named) args = base.Ip (coding_of ambient named)
+base_of ambient (base_name.Packed signed) args = base.Packed signed
+base_of ambient (base_name.Zoned signed) args = base.Zoned signed
 
 -- A text is its code points, encoded.
 abbrev pub text_of : Coding → List ℕ → Term

@@ -48,6 +48,8 @@ fn base(ambient: Coding, name: BaseName, args: &[Expr]) -> Base
         BaseName::Class(named) => Base::Class(coding(ambient, named)),
         BaseName::Char(named) => Base::Char(coding(ambient, named)),
         BaseName::Ip(named) => Base::Ip(coding(ambient, named)),
+        BaseName::Packed(signed) => Base::Packed(signed),
+        BaseName::Zoned(signed) => Base::Zoned(signed),
     }
 }
 

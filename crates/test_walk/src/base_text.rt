@@ -41,6 +41,11 @@ fn put_binary(out: &mut Line, kind: Kind, order: Order) {
     }
 }
 
+fn put_decimal(out: &mut Line, form: &str, signed: bool) {
+    out.put(form);
+    out.put(if signed { "signed" } else { "unsigned" });
+}
+
 fn put_labels(out: &mut Line, labels: &[Label]) {
     for label in labels {
         out.put("; ");
@@ -66,5 +71,7 @@ pub(crate) fn put_base(out: &mut Line, base: &Base) {
             put_coded(out, "Enum(", "", *coding);
             put_labels(out, labels.as_slice());
         }
+        Base::Packed(signed) => put_decimal(out, "Packed(", *signed),
+        Base::Zoned(signed) => put_decimal(out, "Zoned(", *signed),
     }
 }
