@@ -12,6 +12,6 @@ unreachable-requires c =
     let m = c.args.whole in
     let formed : is_formed (contents m) ≡ true = and_from (module_counts m.decls) (module_in_scope m.decls m.names m.shape) m.counted m.in_scope in
     let refused = rw c.in-Err-Fault.field-0-is at c.in-Err-Fault.ensures.ill_formed in
-    let unformed : is_formed (masked (contents m) c.args.mask.now) ≡ false = rw c.in_ok-decls.ensures.decls at refused in
+    let unformed : is_formed (masked (contents m) c.args.mask.now) ≡ false = rw (c.in_ok-decls.ensures.decls, c.into_vec.ensures.same) at refused in
     let both : true ≡ false = sym (stays-formed (contents m) c.args.mask.now formed) ∙ unformed in
     absurd cc
