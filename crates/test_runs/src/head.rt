@@ -1,6 +1,6 @@
 //! What each line of a row says.
 
-use crate::row::Row;
+use crate::row::{Mark, Row, Wanted};
 use pads_io::Calls;
 use pads_orders::{Word, Words};
 use std::alloc::Global;
@@ -41,8 +41,10 @@ fn put_moves(row: &mut Row<'_>, head: &str, rest: &str) -> Result<(), Trouble> {
         asked.out.most = number_of(rest)?;
     } else if head == "write fails" {
         put_call(&mut asked.out.failing, rest)?;
+    } else if head == "a note takes" {
+        asked.notes.most = number_of(rest)?;
     } else if head == "note fails" {
-        put_call(&mut asked.notes, rest)?;
+        put_call(&mut asked.notes.failing, rest)?;
     } else if head == "file read fails" {
         put_call(&mut asked.files, rest)?;
     } else if head == "room" {
@@ -69,6 +71,31 @@ fn put_asked(alloc: Global, row: &mut Row<'_>, head: &str, rest: &str) -> Result
     }
 }
 
+/// What is said above is complete as soon as so many bytes were read.
+fn put_mark(wanted: &mut Wanted<'_>, rest: &str) -> Result<(), Trouble> {
+    let mark = Mark {
+        read: number_of(rest)?,
+        out: wanted.out.len(),
+        notes: wanted.notes.len(),
+    };
+    wanted.marks.push(mark)?;
+    Ok(())
+}
+
+/// Takes a line that says what failing calls must leave, or another.
+fn put_turns(alloc: Global, row: &mut Row<'_>, head: &str, rest: &str) -> Result<(), Trouble> {
+    if head == "complete after" {
+        put_mark(&mut row.wanted, rest)
+    } else if head == "calls" {
+        for calls in rest.split_whitespace() {
+            put_call(&mut row.wanted.calls, calls)?;
+        }
+        Ok(())
+    } else {
+        put_asked(alloc, row, head, rest)
+    }
+}
+
 /// Takes a line that says what a run must leave, or another.
 fn put_head<'t>(
     alloc: Global,
@@ -92,7 +119,7 @@ fn put_head<'t>(
         row.wanted.unread = number_of(rest)?;
         Ok(())
     } else {
-        put_asked(alloc, row, head, rest)
+        put_turns(alloc, row, head, rest)
     }
 }
 

@@ -16,6 +16,8 @@ pub(crate) struct Left {
     pub(crate) unread: u64,
     pub(crate) out: Bytes,
     pub(crate) notes: Bytes,
+    /// How many calls failed.
+    pub(crate) faults: u64,
 }
 
 /// The file `d` alone.
@@ -35,12 +37,14 @@ fn left_on(
     unread: &[u8],
     out: &[u8],
     notes: &[u8],
+    faults: u64,
 ) -> Result<Left, Memory> {
     Ok(Left {
         status,
         unread: unread.len() as u64,
         out: Bytes::from_slice(alloc, out)?,
         notes: Bytes::from_slice(alloc, notes)?,
+        faults,
     })
 }
 
@@ -50,7 +54,8 @@ fn left_over_failing(alloc: Global, asked: Asked) -> Result<Left, Memory> {
     let mut source = MemSource::new(asked.input, most, failing);
     let Moves { most, failing } = asked.out;
     let mut out = MemSink::new(alloc, most, failing);
-    let mut notes = MemSink::new(alloc, 0, asked.notes);
+    let Moves { most, failing } = asked.notes;
+    let mut notes = MemSink::new(alloc, most, failing);
     let mut files = MemFiles::new(files_of(alloc, asked.description)?, asked.files);
     let status = run(
         alloc,
@@ -60,14 +65,26 @@ fn left_over_failing(alloc: Global, asked: Asked) -> Result<Left, Memory> {
         &mut out,
         &mut notes,
     );
-    left_on(alloc, status, source.unread(), out.bytes(), notes.bytes())
+    let faults = files
+        .fault_count()
+        .saturating_add(source.fault_count())
+        .saturating_add(out.fault_count())
+        .saturating_add(notes.fault_count());
+    left_on(
+        alloc,
+        status,
+        source.unread(),
+        out.bytes(),
+        notes.bytes(),
+        faults,
+    )
 }
 
 /// Makes the run over objects that never fail but where the room is used up.
 fn left_over_sure(alloc: Global, asked: Asked, room: u64) -> Result<Left, Memory> {
     let mut source = SureSource::new(asked.input, asked.source.most);
     let mut out = SureSink::new(alloc, asked.out.most, room)?;
-    let mut notes = SureSink::new(alloc, 0, room)?;
+    let mut notes = SureSink::new(alloc, asked.notes.most, room)?;
     let mut files = SureFiles::new(files_of(alloc, asked.description)?);
     let status = run(
         alloc,
@@ -77,7 +94,15 @@ fn left_over_sure(alloc: Global, asked: Asked, room: u64) -> Result<Left, Memory
         &mut out,
         &mut notes,
     );
-    left_on(alloc, status, source.unread(), out.bytes(), notes.bytes())
+    let faults = out.fault_count().saturating_add(notes.fault_count());
+    left_on(
+        alloc,
+        status,
+        source.unread(),
+        out.bytes(),
+        notes.bytes(),
+        faults,
+    )
 }
 
 /// Makes the run.

@@ -1,14 +1,17 @@
-//! Tries each row of the tables `records.txt`, `refusals.txt`, `failures.txt`, `prints.txt`, `summaries.txt`,
-//! `masks.txt`, `queries.txt` and `selftests.txt`: a run of the program over objects in memory, and what it must leave. What a row says was worked out by hand. Prints each row whose run leaves something else,
-//! and how many rows each table has.
+//! Tries each row of the tables `records.txt`, `refusals.txt`, `failures.txt`, `turns.txt`, `prints.txt`,
+//! `summaries.txt`, `masks.txt`, `queries.txt` and `selftests.txt`: a run of the program over objects in memory, and what
+//! it must leave. What a row says was worked out by hand. Prints each row whose run leaves something else, and how many
+//! rows each table has.
 #![tactic(auto)]
 
 mod head;
 mod left;
 mod row;
+mod turns;
 
 use crate::left::{Left, left_by};
 use crate::row::{Row, Wanted, row_of};
+use crate::turns::{Turns, put_turns};
 use std::alloc::{AllocError, Global};
 use std::{fs, io};
 use test_rows::{Tally, Trouble, difference, lines_of};
@@ -78,11 +81,24 @@ fn differences(alloc: Global, left: &Left, wanted: &Wanted<'_>) -> Result<String
     Ok(text)
 }
 
-/// What the run of a row left in place of what it wants; nothing where it left that.
+/// What the run of a row left in place of what it wants, and where its calls fail in turn what those runs left; nothing
+/// where each left that.
 fn tried(alloc: Global, lines: &[&str]) -> Result<String, Trouble> {
     let Row { asked, wanted } = row_of(alloc, lines)?;
-    let left = left_by(alloc, asked)?;
-    Ok(differences(alloc, &left, &wanted)?)
+    let length = asked.input.len();
+    let whole = left_by(alloc, asked)?;
+    let mut text = differences(alloc, &whole, &wanted)?;
+    if wanted.calls.is_empty() {
+        return Ok(text);
+    }
+    let turns = Turns {
+        lines,
+        wanted,
+        length,
+        whole,
+    };
+    put_turns(alloc, &mut text, &turns)?;
+    Ok(text)
 }
 
 /// Tries the rows of a table.
@@ -102,6 +118,7 @@ fn main(rt: HostRuntime) -> io::Result<()> {
     try_table(&rt, "records.txt")?;
     try_table(&rt, "refusals.txt")?;
     try_table(&rt, "failures.txt")?;
+    try_table(&rt, "turns.txt")?;
     try_table(&rt, "prints.txt")?;
     try_table(&rt, "summaries.txt")?;
     try_table(&rt, "masks.txt")?;

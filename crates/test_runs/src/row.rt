@@ -3,7 +3,7 @@
 use crate::head::put_line;
 use pads_io::Calls;
 use pads_orders::Words;
-use pads_value::Bytes;
+use pads_value::{Bytes, Items};
 use std::alloc::Global;
 use test_rows::Trouble;
 
@@ -30,8 +30,16 @@ pub(crate) struct Asked {
     pub(crate) files: Calls,
     pub(crate) source: Moves,
     pub(crate) out: Moves,
-    /// The writes to the notes that fail.
-    pub(crate) notes: Calls,
+    pub(crate) notes: Moves,
+}
+
+/// What is complete as soon as so many bytes of the input were read.
+#[derive(Clone, Copy)]
+pub(crate) struct Mark {
+    pub(crate) read: u64,
+    /// How many bytes of the output and of the notes.
+    pub(crate) out: u64,
+    pub(crate) notes: u64,
 }
 
 /// What a run must leave.
@@ -44,6 +52,10 @@ pub(crate) struct Wanted<'t> {
     pub(crate) notes: Bytes,
     /// How many bytes of the input are left at least.
     pub(crate) unread: u64,
+    /// What stands on the sinks where the source fails behind so many bytes.
+    pub(crate) marks: Items<Mark>,
+    /// How often files, source, output and notes are called; where that is said, each of these calls fails in turn.
+    pub(crate) calls: Calls,
 }
 
 /// A row of a table.
@@ -72,7 +84,7 @@ fn empty(alloc: Global) -> Row<'static> {
             files: Calls::new(alloc),
             source: whole(alloc),
             out: whole(alloc),
-            notes: Calls::new(alloc),
+            notes: whole(alloc),
         },
         wanted: Wanted {
             status: "",
@@ -80,6 +92,8 @@ fn empty(alloc: Global) -> Row<'static> {
             out_bytes: None,
             notes: Bytes::new(alloc),
             unread: 0,
+            marks: Items::new(alloc),
+            calls: Calls::new(alloc),
         },
     }
 }
