@@ -12,6 +12,8 @@ import os
 import re
 import sys
 
+import decimals
+
 TABLES = os.path.join(os.path.dirname(os.path.abspath(__file__)), '..', 'crates', 'test_walk', 'data')
 KINDS = {f'{sign}int{bits}': (f'{"i" if not sign else "u"}{bits}',
                               0 if sign else -2 ** (bits - 1), 2 ** (bits - (not sign)) - 1)
@@ -432,6 +434,8 @@ class Translation:
     def base(self, name):
         if m := re.fullmatch(r'P(?:b|sbl|sbh)_(u?int\d+)', name):
             return ('Bin', KINDS[m[1]][0], 'high' if name.startswith('Psbh') else 'low')
+        if m := re.fullmatch(r'P(u?)(packed|zoned)', name):
+            return (m[2].capitalize(), 'unsigned' if m[1] else 'signed')
         m = re.fullmatch(r'P(?:[ae]_)?([a-z]+\d*)(_FW|_in)?', name)
         coding, word, tail = self.coding_of(name), m[1], m[2]
         if word in KINDS:
@@ -665,7 +669,7 @@ def class_pattern(text):
 
 def read_base(base, args, data, i):
     form = base[0]
-    wanted = {'IntFw': int, 'Until': str, 'Fixed': int, 'Class': str}
+    wanted = {'IntFw': int, 'Until': str, 'Fixed': int, 'Class': str, 'Packed': int, 'Zoned': int}
     if form == 'Bin':
         args = args or [int(base[1][1:]) // 8]
     if len(args) != (form in wanted or form == 'Bin') or any(type(a) is not wanted.get(form, int) for a in args):
@@ -680,6 +684,15 @@ def read_base(base, args, data, i):
             return failed('WIDTH', i)
         number = int.from_bytes(rest[:arg], 'big' if base[2] == 'high' else 'little', signed=low < 0)
         return good(number, i, arg) if low <= number <= high else soft('RANGE', i, arg)
+    if form in ('Packed', 'Zoned'):
+        width = arg // 2 + 1 if form == 'Packed' else arg
+        if not 1 <= arg <= 18:
+            return failed('BAD_PARAM', i)
+        if len(rest) < width:
+            return failed('WIDTH', i)
+        read = decimals.packed if form == 'Packed' else decimals.zoned
+        found = read(rest[:width].hex().upper(), arg, base[1] == 'signed')
+        return soft(found, i, width) if isinstance(found, str) else good(found, i, width)
     rest = rest.decode(base[1] if form not in ('Int', 'IntFw') else base[2])
     if form == 'Int':
         low, high = RANGES[base[1]]
