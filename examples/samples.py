@@ -95,7 +95,29 @@ def payroll():
     ])
 
 
-SAMPLES = {"wtmp.bin": wtmp, "png.bin": png, "png-broken.bin": png_broken, "pcap.bin": pcap, "tzif.bin": tzif, "payroll.bin": payroll}
+def ledger():
+    """Seven blocks of 35 bytes of ledger.csv, as ledger.cob writes them with the texts in EBCDIC: two with blanks in place of
+    a packed and of a zoned number, and a rate of 0."""
+    def cents(text, places):
+        return round(float(text) * 10 ** places)
+    def zoned(number, digits):
+        text = f"{abs(number):0{digits}d}".encode("cp037")
+        return text[:-1] + bytes([text[-1] - (0x20 if number < 0 else 0x30)])
+    def block(line):
+        account, holder, balance, change, rate, branch = line.split(";")
+        amount = cents(balance or "0", 2)
+        return b"".join([
+            f"{account:>06}{holder:<12}".encode("cp037"),
+            packed(abs(amount), "D" if amount < 0 else "C", 5) if balance else b"\x40" * 5,
+            zoned(cents(change, 2), 7) if change else b"\x40" * 7,
+            packed(cents(rate, 3), "F"),
+            int(branch).to_bytes(2, "big"),
+        ])
+    return b"".join(map(block, (HERE / "ledger.csv").read_text().splitlines()))
+
+
+SAMPLES = {"wtmp.bin": wtmp, "png.bin": png, "png-broken.bin": png_broken, "pcap.bin": pcap, "tzif.bin": tzif, "payroll.bin": payroll,
+           "ledger.bin": ledger}
 
 
 def main():

@@ -5,7 +5,7 @@ import grammar
 KINDS = [f"{sign}int{bits}" for sign in ("", "u") for bits in (8, 16, 32, 64)]
 TEXTS = [*KINDS, *(f"{kind}_FW" for kind in KINDS), "string", "string_FW", "string_in", "char", "ip"]
 BASES = [*(f"{prefix}{text}" for prefix in ("P", "Pa_", "Pe_") for text in TEXTS),
-         *(f"{prefix}{kind}" for prefix in ("Pb_", "Psbl_", "Psbh_") for kind in KINDS)]
+         *(f"{prefix}{kind}" for prefix in ("Pb_", "Psbl_", "Psbh_") for kind in KINDS), "Ppacked", "Pupacked", "Pzoned", "Puzoned"]
 ESCAPES = {"n": "\n", "r": "\r", "t": "\t", "0": "\0"}
 
 
@@ -59,6 +59,8 @@ def argument_warning(name, value):
         return f"a width of {value}", NEVER + f" The least width is {0 if 'string' in name else 1}."
     if re.match(r"P(?:b|sbl|sbh)_", name) and not text and not 1 <= value <= 8:
         return f"a binary integer of {value} bytes", NEVER + " It has 1 to 8 bytes."
+    if re.fullmatch(r"Pu?(?:packed|zoned)", name) and not text and not 1 <= value <= 18:
+        return f"a decimal of {value} digits", NEVER + " It has 1 to 18 digits."
     return None
 
 

@@ -13,6 +13,7 @@ syntax keyword padsBoolean true false
 syntax match padsType /\<P\%([ae]_\)\?u\?int\%(8\|16\|32\|64\)\%(_FW\)\?\>/
 syntax match padsType /\<P\%(b\|sbl\|sbh\)_u\?int\%(8\|16\|32\|64\)\>/
 syntax match padsType /\<P\%([ae]_\)\?\%(string\%(_FW\|_in\)\?\|char\|ip\)\>/
+syntax match padsType /\<Pu\?\%(packed\|zoned\)\>/
 
 syntax match padsNumber /\<\%(0x\x\+\|0\|[1-9]\d*\)\>/
 syntax match padsEscape contained /\\\%(x\x\x\|[nrt0\\'"]\)/
