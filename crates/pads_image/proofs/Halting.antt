@@ -1,12 +1,12 @@
 -- Straight modules: each record's run halts with the calculus' reading of its type, and never needs more
 -- stack entries than the need.
-use Rattle.std.proofs.Common.{◌≡◌, ◌≢◌, ◌∙◌, sym, ap, refl, subst, arith, ℕ, zero, suc, ◌+◌, ◌-◌, ◌<◌, ◌≤◌, max, true, ◌&&◌, nat_lt, List, [], ◌∷◌, ◌++◌, length, length-append, map, take, drop, get_or, Option, Some, None, slice_get}
+use Rattle.std.proofs.Common.{◌≡◌, ◌≢◌, ◌∙◌, sym, ap, refl, subst, arith, ℕ, zero, suc, ◌+◌, ◌-◌, ◌<◌, ◌≤◌, max, Bool, cond, true, ◌&&◌, nat_lt, List, [], ◌∷◌, ◌++◌, length, length-append, map, take, drop, get_or, Option, Some, None, slice_get}
 use Rattle.pads_value.specs.Cuts.{Cut}
 use Rattle.pads_value.specs.declared.cause.Cause.TheVariants as cause
 use Rattle.pads_expr.specs.declared.expr.Expr.{Expr}
 use Rattle.pads_expr.specs.Value.{Pairs}
 use Rattle.pads_dispatch.specs.declared.base.Arg.{Arg}
-use Rattle.std.proofs.lemmas.Bool.{and_parts, ltb-true}
+use Rattle.std.proofs.lemmas.Bool.{and_parts, le-leb, ltb-true}
 use Rattle.pads_calc.specs.declared.decl.Decl.{Decl}
 use Rattle.pads_calc.specs.declared.decl.Shape.{Shape}
 use Rattle.pads_calc.specs.declared.term.Term.{Term}
@@ -26,8 +26,8 @@ use Rattle.pads_image.specs.Blocks.{single, layout}
 use Rattle.pads_image.specs.Code.{code_of, entries_of}
 use Rattle.pads_image.specs.Heights.{Deeper, call_needs, inside, need_of, needs, stack_need}
 use Rattle.pads_image.specs.Validity.{arities_of as arities_of_entries}
-use Rattle.pads_image.specs.States.{State, Caller, entries, seen}
-use Rattle.pads_image.specs.Steps.{Goes, Halts, does_there, call_step, call_in}
+use Rattle.pads_image.specs.States.{State, Caller, entries, floor_of, seen}
+use Rattle.pads_image.specs.Steps.{Goes, Halts, Stuck, does_there, call_step, call_in}
 use Rattle.pads_module.specs.Straight.{is_straight, all_straight}
 use Rattle.pads_image.proofs.Declared.{Declared, declared, undeclared, entry_for, needs_of, stands}
 use Rattle.pads_image.proofs.ValidCode.{arities-same, kept-same}
@@ -124,13 +124,16 @@ module _ (decls : List Decl) (straight : all_straight decls ≡ true) (subject :
             at_ = refl;
             deep = refl;
             sane = omega (arith, ap length over, length-append own s.bindings);
+            above = omega (arith, ready.above, ap length over, length-append own s.bindings);
             counted = counted;
             there = left-there (code_of decls) d.first (b.code d.first) (op.Return ∷ []) code_;
             fits = below-left (deeper_at depth) most (b.code d.first) (op.Return ∷ []) below_ (length decl.params) fits;
           }))
           (once (code_of decls) (entries_of decls) subject most u end q op.Return refl
           (first-there (code_of decls) q op.Return [] (right-there (code_of decls) d.first (b.code d.first) (op.Return ∷ []) q ends code_))
-          (omega (arith, counted, final.0)) (ap (λ s. Goes s) made)))
+          (omega (arith, counted, final.0))
+          (ap (λ (found : Bool). cond found (Goes (returned (drop (length bindings - length s.bindings) bindings) (depth + 1) (s.at_ + 1) r)) Stuck)
+          (le-leb (floor_of s.nodes) (length s.bindings) ready.above) ∙ ap (λ s. Goes s) made)))
 
       -- by cases of the arguments and of the declaration
       called : (found : Option (List Arg)) (decl : Option Decl) (p below h : ℕ) (s : State) → ReadyFor (suc depth) p below h s
@@ -205,6 +208,7 @@ module _ (decls : List Decl) (straight : all_straight decls ≡ true) (subject :
             at_ = refl;
             deep = refl;
             sane = omega arith;
+            above = omega arith;
             counted = omega arith;
             there = left-there (code_of decls) d.first (b.code d.first) (op.Return ∷ []) code_;
             fits = below-left (deeper_at inside) most (b.code d.first) (op.Return ∷ []) 0 (length decl.params) bounded;

@@ -2,6 +2,7 @@ pub mod Bounded
 pub mod Closed
 pub mod Declared
 pub mod Halting
+pub mod KeptReadings
 pub mod Layouts
 pub mod Lengths
 pub mod Levels

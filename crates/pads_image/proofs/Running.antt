@@ -1,6 +1,7 @@
 -- The code of a straight term runs as the calculus reads the term: from a state at its first instruction to
 -- the one behind its last, where what was read last is the term's reading, and all else is as before.
-use Rattle.std.proofs.Common.{◌≡◌, ◌∙◌, sym, ap, refl, subst, arith, true, ℕ, zero, suc, ◌+◌, ◌-◌, ◌≤◌, List, [], ◌∷◌, ◌++◌, length, append_assoc, map, take, drop, Option, Some, None, slice_get}
+use Rattle.std.proofs.Common.{◌≡◌, ◌∙◌, sym, ap, refl, subst, arith, true, Bool, cond, eqb, ℕ, zero, suc, ◌+◌, ◌-◌, ◌≤◌, List, [], ◌∷◌, ◌++◌, length, append_assoc, map, take, drop, Option, Some, None, slice_get}
+use Rattle.std.proofs.lemmas.Bool.{eq-eqb}
 use Rattle.pads_value.specs.declared.descriptor.Pd.{Pd}
 use Rattle.pads_value.specs.declared.value.Val.{Val}
 use Rattle.pads_value.specs.declared.value.Val.TheVariants as val
@@ -24,9 +25,9 @@ use Rattle.pads_image.specs.declared.op.Op.{Op}
 use Rattle.pads_image.specs.declared.op.Op.TheVariants as op
 use Rattle.pads_image.specs.Blocks.{Block, bindings_of, single, followed, parts_code, parts_size, named, struct_block, layout, part_layout}
 use Rattle.pads_image.specs.Heights.{Deeper, entries_at, height_after}
-use Rattle.pads_image.specs.States.{State, Node, entries, seen}
+use Rattle.pads_image.specs.States.{State, Node, entries, floor_of, seen}
 use Rattle.pads_image.specs.States as states
-use Rattle.pads_image.specs.Steps.{Goes, does, new_node, part_step, with_reading}
+use Rattle.pads_image.specs.Steps.{Step, Goes, Stuck, does, new_node, part_step, with_reading}
 use Rattle.pads_module.specs.Straight.{is_straight}
 use Rattle.pads_image.proofs.Layouts.{layout-Unit, layout-Base, layout-Lit, layout-Eor, layout-Struct, layout-Guard, layout-Call, layout-Compute, layout-Absorb}
 use Rattle.pads_image.proofs.Lengths.{parts-sized, sized}
@@ -42,6 +43,7 @@ module _ (code : List Op) (of_entries : List Entry) (subject : Subject) (most : 
     pub at_ : s.at_ ≡ p
     pub deep : s.depth ≡ depth
     pub sane : states.base_of s.callers ≤ length s.bindings
+    pub above : floor_of s.nodes ≤ length s.bindings
     pub counted : entries s ≤ below + h
     pub there : StandsAt code p ops
     pub fits : AllBelow deeper most below h ops
@@ -87,6 +89,7 @@ module _ (code : List Op) (of_entries : List Entry) (subject : Subject) (most : 
         at_ = ready.at_;
         deep = ready.deep;
         sane = ready.sane;
+        above = ready.above;
         counted = ready.counted;
         there = left-there code p (b.code p) (instruction ∷ []) ready.there;
         fits = below-left deeper most (b.code p) (instruction ∷ []) below h ready.fits;
@@ -103,7 +106,7 @@ module _ (code : List Op) (of_entries : List Entry) (subject : Subject) (most : 
 
   abbrev pub last_of : Reading → List Reading → Reading
   last_of r [] = r
-  last_of r (next ∷ rs) = last_of next rs
+  last_of r (next ∷ rs) = last_of (unit_of subject.origin next.place) rs
 
   abbrev pub bound_after : List Part → List Reading → Pairs → Pairs
   bound_after [] rs env = env
@@ -112,7 +115,7 @@ module _ (code : List Op) (of_entries : List Entry) (subject : Subject) (most : 
 
   last-ends : (r : Reading) (rs : List Reading) → (last_of r rs).place ≡ end_of r.place rs
   last-ends r [] = refl
-  last-ends r (next ∷ rs) = last-ends next rs
+  last-ends r (next ∷ rs) = last-ends (unit_of subject.origin next.place) rs
 
   node-values : (n : Node) (rs : List Reading) → (node_after n rs).values ≡ n.values ++ values rs
   node-values n [] = sym (append-none n.values)
@@ -125,6 +128,10 @@ module _ (code : List Op) (of_entries : List Entry) (subject : Subject) (most : 
   node-begin : (n : Node) (rs : List Reading) → (node_after n rs).begin ≡ n.begin
   node-begin n [] = refl
   node-begin n (r ∷ rs) = node-begin (with_reading n r) rs
+
+  node-base : (n : Node) (rs : List Reading) → (node_after n rs).base ≡ n.base
+  node-base n [] = refl
+  node-base n (r ∷ rs) = node-base (with_reading n r) rs
 
   bind-more : (name : Option ℕ) (v : _) (env : Pairs) → length (bind name v env) ≡ bindings_of name + length env
   bind-more None v env = omega arith
@@ -161,6 +168,14 @@ module _ (code : List Op) (of_entries : List Entry) (subject : Subject) (most : 
         let same : m ≡ m + 0 = omega arith in
         ap (λ n. drop n (bound_after parts (readings parts seen_ i) env)) same ∙ drop-bound parts seen_ i 0 env
 
+    -- each named part has a binding
+    bound-size : (parts : List Part) (seen_ : Pairs) (i : ℕ) (env : Pairs)
+        → length (bound_after parts (readings parts seen_ i) env) ≡ named (map part_layout parts) + length env
+    bound-size [] seen_ i env = omega arith
+    bound-size (part ∷ parts) seen_ i env =
+        let r = read subject call part.term seen_ i in
+        omega (arith, bound-size parts (bind part.name r.value seen_) r.place (bind part.name r.value env), bind-more part.name r.value env)
+
     abbrev after : List Part → State → Node → List Node → ℕ → List Reading → State
     after parts s n nodes p rs = record s { at_ = p; last = last_of s.last rs; bindings = bound_after parts rs s.bindings; nodes = node_after n rs ∷ nodes }
 
@@ -183,7 +198,7 @@ module _ (code : List Op) (of_entries : List Entry) (subject : Subject) (most : 
         let q = p + b.size in
         let r = read subject call part.term (seen s) s.last.place in
         let t = behind s q r in
-        let u : State = record s { at_ = q + 1; last = r; bindings = bind part.name r.value s.bindings; nodes = with_reading n r ∷ nodes } in
+        let u : State = record s { at_ = q + 1; last = unit_of subject.origin r.place; bindings = bind part.name r.value s.bindings; nodes = with_reading n r ∷ nodes } in
         let one = each 0 part refl in
         let sized_ : p + length (b.code p) ≡ q = ap (λ n. p + n) (sized part.term p) in
         let over = below-right deeper most (b.code p) (here_ ∷ rest) below h h (one.1.level p h) ready.fits in
@@ -200,17 +215,19 @@ module _ (code : List Op) (of_entries : List Entry) (subject : Subject) (most : 
           at_ = ready.at_;
           deep = ready.deep;
           sane = ready.sane;
+          above = ready.above;
           counted = ready.counted;
           there = left-there code p (b.code p) (here_ ∷ rest) ready.there;
           fits = below-left deeper most (b.code p) (here_ ∷ rest) below h ready.fits;
         }))
         (join code of_entries subject most t u end
         (once code of_entries subject most t u q here_ refl (first-there code q here_ rest behind_) (omega (arith, ready.counted, over.0))
-        (ap (λ nodes. part_step part.name t nodes) open_))
+        (ap (λ nodes. part_step subject.origin part.name t nodes) open_))
         (parts-run parts (λ k part there. each (suc k) part there) (q + 1) below (h + bindings_of part.name) u (with_reading n r) nodes refl (record {
           at_ = refl;
           deep = ready.deep;
           sane = omega (arith, ready.sane, bind-more part.name r.value s.bindings);
+          above = omega (arith, ready.above, ap floor_of open_, bind-more part.name r.value s.bindings);
           counted = omega (arith, ready.counted, bind-more part.name r.value s.bindings, ap length open_);
           there = rest-there code q here_ rest behind_;
           fits = over.1;
@@ -222,7 +239,7 @@ module _ (code : List Op) (of_entries : List Entry) (subject : Subject) (most : 
         let ops = parts_code (map part_layout parts) (p + 1) in
         let place = s.last.place in
         let rs = readings parts (seen s) place in
-        let n = new_node place None in
+        let n = new_node place (length s.bindings) None in
         let t : State = record s { at_ = p + 1; nodes = n ∷ s.nodes } in
         let q = p + 1 + parts_size (map part_layout parts) in
         let u = after parts t n s.nodes q rs in
@@ -238,6 +255,8 @@ module _ (code : List Op) (of_entries : List Entry) (subject : Subject) (most : 
         let ends : u.last.place ≡ end_of place rs = last-ends s.last rs in
         let bound : drop m u.bindings ≡ s.bindings = drop-named parts (seen s) place s.bindings in
         let N = node_after n rs in
+        let own : eqb (length u.bindings) (N.base + m) ≡ true =
+        eq-eqb (length u.bindings) (N.base + m) (omega (arith, bound-size parts (seen s) place s.bindings, node-base n rs)) in
         let made : close N.values N.pds N.begin u.last.place (drop m u.bindings) ≡ close (values rs) (pds rs) place (end_of place rs) s.bindings =
         ap (λ vs. close vs N.pds N.begin u.last.place (drop m u.bindings)) (node-values n rs)
         ∙ ap (λ ks. close (values rs) ks N.begin u.last.place (drop m u.bindings)) (node-pds n rs)
@@ -255,6 +274,7 @@ module _ (code : List Op) (of_entries : List Entry) (subject : Subject) (most : 
           at_ = refl;
           deep = ready.deep;
           sane = ready.sane;
+          above = omega arith;
           counted = omega (arith, ready.counted);
           there = left-there code (p + 1) ops (op.Close m ∷ []) inner;
           fits = below-left deeper most ops (op.Close m ∷ []) below (h + 1) ready.fits.1;
@@ -262,7 +282,7 @@ module _ (code : List Op) (of_entries : List Entry) (subject : Subject) (most : 
         (once code of_entries subject most u (behind s (q + 1) r) q (op.Close m) refl
         (first-there code q (op.Close m) [] (right-there code (p + 1) ops (op.Close m ∷ []) q sized_ inner))
         (omega (arith, over.0, ready.counted, bound-entries parts rs s.bindings))
-        (ap (λ s. Goes s) made))))
+        (ap (λ (found : Bool). cond found (Goes (close N.values N.pds N.begin u.last.place (drop m u.bindings))) Stuck) own ∙ ap (λ s. Goes s) made))))
 
     -- the forms of straight terms
     abbrev pub Runs : Term → Type 0

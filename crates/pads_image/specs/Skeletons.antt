@@ -1,5 +1,6 @@
 -- Whether two skeletons are the same, and what the entries of an image keep.
-use Rattle.std.specs.Prelude.{ℕ, Bool, true, false, ◌&&◌, nat_eq, List, [], ◌∷◌, map}
+use Rattle.std.specs.Prelude.{ℕ, Bool, true, false, ◌&&◌, nat_eq, List, [], ◌∷◌, map, Option, Some, None, if◌then◌else◌}
+use Rattle.std.specs.List.{list_all}
 use Rattle.pads_erase.specs.declared.skeleton.Keeping.{Keeping}
 use Rattle.pads_erase.specs.declared.skeleton.Skeleton.{Skeleton, Skeleton-F, fold-Skeleton, out-Skeleton}
 use Rattle.pads_image.specs.declared.entry.Entry.{Entry}
@@ -52,3 +53,11 @@ same_skeleton = fold-Skeleton Known same_step
 -- what the declarations of entries keep
 abbrev pub kept_in : List Entry → List Keeping
 kept_in entries = map (λ entry. record { set = entry.set; skeleton = entry.skeleton }) entries
+
+-- each declaration keeps the values of its own body
+abbrev pub all_set : List Entry → Bool
+all_set entries = list_all (λ entry. entry.set) entries
+
+-- what is looked up where values are erased; none where all are kept
+abbrev pub erasing_in : List Entry → Option (List Keeping)
+erasing_in entries = if all_set entries then None else Some (kept_in entries)

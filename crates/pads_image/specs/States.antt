@@ -7,9 +7,11 @@ use Rattle.pads_value.specs.declared.value.Val.{Val}
 use Rattle.pads_expr.specs.Value.{Pairs}
 use Rattle.pads_calc.specs.declared.reading.Reading.{Reading}
 
--- a struct or an array that is open: where it begins, its size, and what was read of it
+-- a struct or an array that is open: where it begins, how many bindings are below its own, its size, and
+-- what was read of it
 pub record Node : Type 0 where
   pub begin : ℕ
+  pub base : ℕ
   pub size : Option ℕ
   pub values : List Val
   pub pds : List Pd
@@ -39,6 +41,11 @@ pub record State : Type 0 where
 abbrev pub base_of : List Caller → ℕ
 base_of [] = 0
 base_of (caller ∷ callers) = caller.base
+
+-- and below those of the latest node
+abbrev pub floor_of : List Node → ℕ
+floor_of [] = 0
+floor_of (node ∷ nodes) = node.base
 
 -- the bindings that an expression sees: those above the latest call's base
 unfoldable pub seen : State → Pairs

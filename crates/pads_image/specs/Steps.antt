@@ -1,5 +1,5 @@
 -- Steps of the machine. Each is made of the calculus' own functions of readings.
-use Rattle.std.specs.Prelude.{ℕ, zero, suc, ◌+◌, ◌-◌, Bool, true, false, not, ◌&&◌, nat_eq, nat_lt, List, [], ◌∷◌, ◌++◌, drop, length, map, Option, Some, None, slice_get, if◌then◌else◌}
+use Rattle.std.specs.Prelude.{ℕ, zero, suc, ◌+◌, ◌-◌, Bool, true, false, not, ◌&&◌, nat_eq, nat_le, nat_lt, List, [], ◌∷◌, ◌++◌, drop, length, map, Option, Some, None, slice_get, if◌then◌else◌}
 use Rattle.pads_value.specs.declared.cause.Cause.{Cause}
 use Rattle.pads_value.specs.declared.cause.Cause.TheVariants as cause
 use Rattle.pads_value.specs.declared.descriptor.Pd.{Pd, out-Pd}
@@ -22,10 +22,10 @@ use Rattle.pads_image.specs.declared.entry.Entry.{Entry}
 use Rattle.pads_image.specs.declared.op.Op.{Op}
 use Rattle.pads_image.specs.declared.op.Op.TheVariants as op
 use Rattle.pads_image.specs.declared.op.Target.{Target}
-use Rattle.pads_image.specs.States.{Node, Mark, Caller, State, seen}
+use Rattle.pads_image.specs.States.{Node, Mark, Caller, State, floor_of, seen}
 
 -- what comes of a state: the next one, the end, or nothing where an instruction finds a stack without
--- the entry that it takes
+-- the entry that it takes, or bindings that aren't its own above those that it leaves
 pub data Step : Type 0 where
   Goes : (next : State) → Step
   Halts : Step
@@ -42,25 +42,37 @@ abbrev pub back_to : ℕ → Reading → Reading
 back_to place r = record r { place = place }
 
 -- structs
-abbrev pub new_node : ℕ → Option ℕ → Node
-new_node begin size = record { begin = begin; size = size; values = []; pds = []; own = None }
+abbrev pub new_node : ℕ → ℕ → Option ℕ → Node
+new_node begin base size = record { begin = begin; base = base; size = size; values = []; pds = []; own = None }
 
 abbrev pub with_reading : Node → Reading → Node
 with_reading n r = record n { values = n.values ++ r.value ∷ []; pds = n.pds ++ r.pd ∷ [] }
 
-abbrev pub part_step : Option ℕ → State → List Node → Step
-part_step name s [] = Stuck
-part_step name s (n ∷ nodes) =
-    Goes (record s { at_ = s.at_ + 1; bindings = bind name s.last.value s.bindings; nodes = with_reading n s.last ∷ nodes })
+abbrev pub open_step : State → Step
+open_step s = Goes (record s { at_ = s.at_ + 1; nodes = new_node s.last.place (length s.bindings) None ∷ s.nodes })
 
+-- what was read last goes into the node, and nothing stands in its place
+abbrev pub part_step : ℕ → Option ℕ → State → List Node → Step
+part_step origin name s [] = Stuck
+part_step origin name s (n ∷ nodes) = Goes (record s {
+  at_ = s.at_ + 1;
+  last = unit_of origin s.last.place;
+  bindings = bind name s.last.value s.bindings;
+  nodes = with_reading n s.last ∷ nodes;
+})
+
+-- the struct's own bindings are the newest ones, and there are so many
 abbrev pub close_step : ℕ → ℕ → State → List Node → Step
 close_step origin m s [] = Stuck
-close_step origin m s (n ∷ nodes) = Goes (record s {
-  at_ = s.at_ + 1;
-  last = node origin None (val.Tuple n.values) n.begin s.last.place n.pds;
-  bindings = drop m s.bindings;
-  nodes = nodes;
-})
+close_step origin m s (n ∷ nodes) =
+    if nat_eq (length s.bindings) (n.base + m)
+    then Goes (record s {
+      at_ = s.at_ + 1;
+      last = node origin None (val.Tuple n.values) n.begin s.last.place n.pds;
+      bindings = drop m s.bindings;
+      nodes = nodes;
+    })
+    else Stuck
 
 -- unions
 abbrev pub mark_at : ℕ → Mark
@@ -95,7 +107,7 @@ began origin r = (out-Pd r.pd).span.begin - origin
 -- arrays
 abbrev pub size_step : ℕ → Option (Option ℕ) → ℕ → State → Step
 size_step origin None otherwise s = reads_to otherwise (fails origin cause.ArrayBound s.last.place) s
-size_step origin (Some size) otherwise s = Goes (record s { at_ = s.at_ + 1; nodes = new_node s.last.place size ∷ s.nodes })
+size_step origin (Some size) otherwise s = Goes (record s { at_ = s.at_ + 1; nodes = new_node s.last.place (length s.bindings) size ∷ s.nodes })
 
 abbrev pub with_own : Option Cause → Node → Node
 with_own own n = record n { own = own }
@@ -142,7 +154,7 @@ abbrev pub elem_step : ℕ → ℕ → ℕ → State → List Node → List Mark
 elem_step origin to again s (n ∷ nodes) (m ∷ marks) =
     if is_fail_class (out-Pd s.last.pd).class && nat_eq s.last.place (began origin s.last) then undone cause.ArrayElem to s n nodes m marks
     else if not (is_first n) && nat_eq s.last.place m.place then undone cause.ArrayStall to s n nodes m marks
-    else Goes (record s { at_ = again; nodes = with_reading n s.last ∷ nodes; marks = marks })
+    else Goes (record s { at_ = again; last = unit_of origin s.last.place; nodes = with_reading n s.last ∷ nodes; marks = marks })
 elem_step origin to again s _ _ = Stuck
 
 abbrev pub shut_step : ℕ → State → List Node → Step
@@ -172,29 +184,38 @@ scan_step subject to s (m ∷ marks) =
     else if at_end subject.bytes at_ then Goes (record s { at_ = s.at_ + 1; last = fails subject.origin kept m.place; marks = marks })
     else Goes (record s { at_ = to; last = back_to (at_ + 1) s.last; marks = (record m { cause = Some kept }) ∷ marks })
 
--- calls; a valid image has each declaration that a call names
-abbrev pub call_in : ℕ → Option Entry → Option (List Arg) → ℕ → State → Step
-call_in origin entry None depth s = reads (fails origin cause.BadParam s.last.place) s
-call_in origin None (Some args) depth s = reads (fails origin cause.BadParam s.last.place) s
-call_in origin (Some entry) (Some args) depth s = Goes (record s {
+-- a call that begins: its parameters are bound, and it goes on at its declaration's first instruction
+abbrev pub entered : Entry → List Arg → ℕ → State → State
+entered entry args depth s = record s {
   at_ = entry.first;
   depth = depth;
   bindings = bound_to entry.params args s.bindings;
   callers = (record { back = s.at_ + 1; base = length s.bindings }) ∷ s.callers;
-})
+}
+
+-- a valid image has each declaration that a call names
+abbrev pub call_in : ℕ → Option Entry → Option (List Arg) → ℕ → State → Step
+call_in origin entry None depth s = reads (fails origin cause.BadParam s.last.place) s
+call_in origin None (Some args) depth s = reads (fails origin cause.BadParam s.last.place) s
+call_in origin (Some entry) (Some args) depth s = Goes (entered entry args depth s)
 
 abbrev pub call_step : ℕ → List Entry → ℕ → List Expr → ℕ → State → Step
 call_step origin entries number args zero s = reads (fails origin cause.Depth s.last.place) s
 call_step origin entries number args (suc depth) s = call_in origin (slice_get entries number) (arguments args (seen s)) depth s
 
-abbrev pub return_step : State → List Caller → Step
-return_step s [] = Halts
-return_step s (c ∷ callers) = Goes (record s {
+-- a call that ended: its own bindings go, and it goes on behind the instruction that made it
+abbrev pub returned : Caller → List Caller → State → State
+returned c callers s = record s {
   at_ = c.back;
   depth = s.depth + 1;
   bindings = drop (length s.bindings - c.base) s.bindings;
   callers = callers;
-})
+}
+
+-- none of the call's own bindings is below those of a node that is open
+abbrev pub return_step : State → List Caller → Step
+return_step s [] = Halts
+return_step s (c ∷ callers) = if nat_le (floor_of s.nodes) c.base then Goes (returned c callers s) else Stuck
 
 module _ (entries : List Entry) (subject : Subject) where
   -- one instruction
@@ -206,8 +227,8 @@ module _ (entries : List Entry) (subject : Subject) where
   does (op.Compute e form) s = reads (compute_of subject.origin form (worth_or_none (value e (seen s))) s.last.place) s
   does op.Absorb s = reads (absorb_of s.last) s
   does (op.Guard binder condition) s = reads (guard_of binder condition (seen s) s.last) s
-  does op.Open s = Goes (record s { at_ = s.at_ + 1; nodes = new_node s.last.place None ∷ s.nodes })
-  does (op.Part name) s = part_step name s s.nodes
+  does op.Open s = open_step s
+  does (op.Part name) s = part_step subject.origin name s s.nodes
   does (op.Close m) s = close_step subject.origin m s s.nodes
   does op.Mark s = marked s
   does op.ScanFrom s = marked s

@@ -1,10 +1,13 @@
 ghost use Rattle.std.specs.Prelude.{◌≡◌, true, IfOk};
 ghost use Rattle.pads_image.specs.Heights.{stack_need as stack_need_of};
+ghost use Rattle.pads_image.specs.Skeletons.{erasing_in};
 ghost use Rattle.pads_image.specs.Validity.{is_valid};
 
+use crate::keeping::erasing;
 use crate::need::stack_need;
 use crate::{Entries, Ops};
 use pads_calc::Shape;
+use pads_erase::Keepings;
 use pads_value::Memory;
 use std::alloc::Global;
 
@@ -16,8 +19,11 @@ pub struct Image {
     pub entries: Entries,
     pub shape: Shape,
     pub need: u64,
+    /// What its declarations keep; none where each keeps the values of its own body.
+    pub erasing: Option<Keepings>,
     pub ghost valid: { is_valid code entries shape ≡ true },
     pub ghost needed: { need ≡ stack_need_of code entries shape },
+    pub ghost erases: { erasing ≡ erasing_in entries },
 }
 
 impl Image {
@@ -29,11 +35,13 @@ impl Image {
         ensures shape { IfOk result (λ image. image.shape ≡ shape) }
     {
         let need = stack_need(alloc, code.as_slice(), entries.as_slice(), &shape)?;
+        let erasing = erasing(alloc, entries.as_slice())?;
         Ok(Image {
             code,
             entries,
             shape,
             need,
+            erasing,
         })
     }
 

@@ -3,9 +3,12 @@
 
 mod entry;
 mod image;
+mod keeping;
 mod laws;
 mod need;
 mod op;
+#[cfg(test)]
+mod tests;
 
 pub use entry::{Entries, Entry};
 pub use image::Image;
