@@ -1,0 +1,9 @@
+pub mod Answered
+pub mod Bound
+pub mod Halts
+pub mod Homes
+pub mod Nodes
+pub mod Plain
+pub mod Shows
+pub mod Taking
+pub mod Work

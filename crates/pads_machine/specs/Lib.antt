@@ -1,0 +1,4 @@
+pub mod Held
+pub mod Image
+pub mod Ran
+pub mod Shown

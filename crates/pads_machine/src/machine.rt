@@ -1,0 +1,133 @@
+ghost use Rattle.std.specs.Prelude.{◌≡◌, ◌≤◌, List, length, slice_get, IfOk};
+ghost use Rattle.pads_calc.specs.declared.decl.Decl.{Decl};
+ghost use Rattle.pads_calc.specs.declared.reading.Reading.{Reading};
+ghost use Rattle.pads_calc.specs.Rows.{row_of};
+ghost use Rattle.pads_image.specs.Answers.{Answers, HaltsWith, first_of, start};
+ghost use Rattle.pads_machine.specs.Held.{Roomy};
+ghost use Rattle.pads_machine.specs.Image.{IsOf, IsStraight};
+ghost use Rattle.pads_machine.specs.Ran.{Halting};
+ghost use Rattle.pads_steps.specs.Records.{subject_of};
+ghost use Rattle.pads_value.specs.Cuts.{cut_of_frame};
+
+use crate::state::State;
+use crate::step::Program;
+use pads_calc::Reading;
+use pads_image::{Entry, Image};
+use pads_steps::{Record, row_over, row_without};
+use pads_value::{Frame, Memory, Row};
+use std::alloc::Global;
+use std::marker::Model;
+
+/// How deep calls may be nested inside the declaration of a record.
+const INSIDE: u8 = 127;
+
+/// A machine that reads records by images. Its stacks don't grow.
+///
+/// Contracts see it as its room: the number of entries that each stack takes.
+#[derive(Drop)]
+pub struct Machine {
+    state: State,
+}
+
+impl Model for Machine {
+    ghost use Rattle.std.specs.Prelude.{ℕ};
+    ghost use Rattle.std.specs.Coded.{coded_ℕ};
+
+    ghost Value = { ℕ };
+
+    ghost coded = { coded_ℕ };
+
+    ghost use Rattle.pads_machine.specs.Held.{Roomy};
+
+    ghost view = { λ machine. machine.state.room };
+
+    ghost invariant = { λ machine. Roomy machine.state.room machine.state };
+}
+
+/// The address of a declaration's first instruction.
+fn first(entries: &[Entry], number: u16) -> usize
+    ensures first { result ≡ first_of (slice_get entries.now number) }
+{
+    match entries.get(usize::from(number)) {
+        None => 0,
+        Some(entry) => entry.first as usize,
+    }
+}
+
+/// What a declaration reads as at a record's first byte.
+fn read_body(
+    alloc: Global,
+    state: &mut State,
+    image: &Image,
+    number: u16,
+    from: Record,
+) -> Result<Reading, Memory>
+    requires room { image.now.need ≤ state.old.room }
+    requires roomy { Roomy state.old.room state.old }
+    requires straight { IsStraight image.now }
+    requires halts { Halting image.now.code image.now.entries (subject_of from) image.now.need (start image.now.entries (subject_of from) number) }
+    ensures body { IfOk result (λ body. (r : Reading) → HaltsWith image.now.code image.now.entries (subject_of from.entry) image.now.need (start image.now.entries (subject_of from.entry) number) r → body ≡ r) }
+    ensures within { IfOk result (λ body. body.place ≤ length from.entry.bytes.now) }
+    ensures roomy { Roomy state.old.room state.new }
+{
+    state.start(
+        alloc,
+        from.origin,
+        first(image.entries.as_slice(), number),
+        INSIDE,
+    );
+    let program = Program {
+        code: image.code.as_slice(),
+        entries: image.entries.as_slice(),
+        record: from,
+    };
+    state.run(alloc, &program)?;
+    Ok(state.take_last(alloc, from.origin))
+}
+
+impl Machine {
+    /// A machine with room for what an image needs.
+    pub fn new(alloc: Global, image: &Image) -> Result<Machine, Memory>
+        ensures room { IfOk result (λ machine. machine ≡ image.now.need) }
+    {
+        Ok(Machine {
+            state: State::new(alloc, image.need as usize)?,
+        })
+    }
+
+    /// How many entries each of its stacks takes.
+    pub fn room(&self) -> u64
+        ensures room { result ≡ self.now }
+    {
+        self.state.room as u64
+    }
+
+    /// The row of a record by the image of straight declarations: its value, its descriptor and where its
+    /// reading ended. A frame without its bytes isn't read, and its row has the cause of its mark. After
+    /// either answer the machine is ready for the next record.
+    pub fn read_record(
+        &mut self,
+        alloc: Global,
+        image: &Image,
+        record_no: u64,
+        frame: &Frame,
+    ) -> Result<Row, Memory>
+        requires room { image.now.need ≤ self.old }
+        requires straight { IsStraight image.now }
+        ensures answer { IfOk result (λ row. Answers image.now.code image.now.entries image.now.shape image.now.need record_no (cut_of_frame frame.now) row) }
+        ensures row { IfOk result (λ row. (decls : List Decl) → IsOf decls image.now → row ≡ row_of decls image.now.shape record_no (cut_of_frame frame.now)) }
+        ensures room { self.new ≡ self.old }
+    {
+        if let Some(row) = row_without(alloc, record_no, frame) {
+            return Ok(row);
+        }
+        let record = Record {
+            origin: frame.first,
+            bytes: frame.bytes,
+        };
+        let number = image.shape.type_of(record_no);
+        let body = read_body(alloc, &mut self.state, image, number, record)?;
+        let left = image.kept(alloc, number, body)?;
+        row_over(alloc, record_no, frame, left)
+    }
+}

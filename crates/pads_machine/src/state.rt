@@ -1,0 +1,270 @@
+//! Where the machine stands: an address, what was read last, and its stacks.
+ghost use Rattle.std.specs.Prelude.{◌≡◌, ◌+◌, ◌-◌, ◌<◌, ◌≤◌, ◌^◌, [], length, reverse, vec_len, IfOk, OnOk};
+ghost use Rattle.pads_calc.specs.Leaves.{unit_of};
+ghost use Rattle.pads_image.specs.States.{base_of, entries, floor_of, seen as seen_of};
+ghost use Rattle.pads_image.specs.Steps.{Goes, close_step, entered, open_step, part_step, reads, returned};
+ghost use Rattle.pads_machine.specs.Held.{Held, Roomy};
+ghost use Rattle.pads_machine.specs.Ran.{GoesWithin};
+ghost use Rattle.pads_machine.specs.Shown.{below, caller_shown, shown};
+
+use crate::bindings::{bind, hold, take_back};
+use crate::node::{Caller, Node};
+use pads_calc::Reading;
+use pads_dispatch::Args;
+use pads_expr::Binding;
+use pads_image::Entry;
+use pads_value::{Items, Memory, Val};
+use std::alloc::Global;
+use std::mem;
+
+/// The machine between two instructions.
+#[derive(Drop)]
+pub(crate) struct State {
+    /// The address of the next instruction.
+    pub(crate) address: usize,
+    /// What was read last.
+    pub(crate) last: Reading,
+    /// How deep calls may still be nested.
+    pub(crate) depth: u8,
+    /// How many entries each stack takes.
+    pub(crate) room: usize,
+    pub(crate) bindings: Vec<Binding>,
+    /// For each binding the part of the latest struct at which its value is at home, if it has one.
+    pub(crate) homes: Vec<Option<usize>>,
+    pub(crate) nodes: Vec<Node>,
+    pub(crate) callers: Vec<Caller>,
+}
+
+impl State {
+    /// Nothing was read yet. Each stack takes so many entries.
+    pub(crate) fn new(alloc: Global, room: usize) -> Result<State, Memory>
+        ensures roomy { IfOk result (λ m. Roomy room m) }
+    {
+        Ok(State {
+            address: 0,
+            last: Reading::leaf(alloc, 0, Val::Unit, 0, 0),
+            depth: 0,
+            room,
+            bindings: Vec::with_capacity(alloc, room)?,
+            homes: Vec::with_capacity(alloc, room)?,
+            nodes: Vec::with_capacity(alloc, room)?,
+            callers: Vec::with_capacity(alloc, room)?,
+        })
+    }
+
+    /// Stands at an address, at a record's first byte.
+    pub(crate) fn start(&mut self, alloc: Global, origin: u64, address: usize, depth: u8)
+        requires origin { origin ≤ 2 ^ 62 }
+        requires roomy { Roomy self.old.room self.old }
+        ensures start { shown self.new ≡ record { at_ = address; last = unit_of origin 0; depth = depth; bindings = []; nodes = []; marks = []; callers = [] } }
+        ensures held { Held self.new }
+        ensures roomy { Roomy self.old.room self.new }
+    {
+        self.address = address;
+        self.last = Reading::leaf(alloc, origin, Val::Unit, 0, 0);
+        self.depth = depth;
+        self.bindings.clear();
+        self.homes.clear();
+        self.nodes.clear();
+        self.callers.clear();
+    }
+
+    /// How many bindings are below those of the latest call.
+    fn base(&self) -> usize
+        ensures base { result ≡ base_of (shown self.now).callers }
+    {
+        match self.callers.as_slice() {
+            [] => 0,
+            [.., caller] => caller.base,
+        }
+    }
+
+    /// The bindings that an expression sees: those above the latest call's base.
+    pub(crate) fn seen(&self) -> &[Binding]
+        ensures seen { reverse result.now ≡ seen_of (shown self.now) }
+    {
+        let base = self.base();
+        let bindings = self.bindings.as_slice();
+        if base < bindings.len() {
+            &bindings[base..]
+        } else {
+            &[]
+        }
+    }
+
+    /// Goes on at the next address with what was read.
+    pub(crate) fn read(&mut self, reading: Reading)
+        requires address { self.old.address < 2 ^ 32 }
+        requires roomy { Roomy self.old.room self.old }
+        requires held { Held self.old }
+        ensures read { reads reading (shown self.old) ≡ Goes (shown self.new) }
+        ensures last { self.new.last ≡ reading }
+        ensures held { Held self.new }
+        ensures roomy { Roomy self.old.room self.new }
+    {
+        self.last = reading;
+        self.address += 1;
+    }
+
+    /// Takes what was read last, and leaves nothing, read at the same place.
+    pub(crate) fn take_last(&mut self, alloc: Global, origin: u64) -> Reading
+        requires origin { origin ≤ 2 ^ 62 }
+        requires place { self.old.last.place ≤ 2 ^ 62 }
+        ensures last { result ≡ self.old.last }
+        ensures left { self.new ≡ record self.old { last = unit_of origin self.old.last.place } }
+    {
+        let place = self.last.place;
+        mem::replace(
+            &mut self.last,
+            Reading::leaf(alloc, origin, Val::Unit, place, place),
+        )
+    }
+
+    /// Begins a struct.
+    pub(crate) fn open(&mut self, alloc: Global)
+        requires address { self.old.address < 2 ^ 32 }
+        requires place { self.old.last.place ≤ 2 ^ 62 }
+        requires within { GoesWithin self.old.room (open_step (shown self.old)) }
+        requires roomy { Roomy self.old.room self.old }
+        requires held { Held self.old }
+        ensures open { open_step (shown self.old) ≡ Goes (shown self.new) }
+        ensures place { self.new.last.place ≡ self.old.last.place }
+        ensures held { Held self.new }
+        ensures roomy { Roomy self.old.room self.new }
+    {
+        self.nodes.push_reserved(Node {
+            begin: self.last.place,
+            base: self.bindings.len(),
+            values: Vec::new(alloc),
+            pds: Vec::new(alloc),
+        });
+        self.address += 1;
+    }
+
+    /// Keeps what was read as the next part of the latest struct, and binds a named part's value.
+    pub(crate) fn part(
+        &mut self,
+        alloc: Global,
+        origin: u64,
+        name: Option<u16>,
+    ) -> Result<(), Memory>
+        requires origin { origin ≤ 2 ^ 62 }
+        requires place { self.old.last.place ≤ 2 ^ 62 }
+        requires address { self.old.address < 2 ^ 32 }
+        requires within { GoesWithin self.old.room (part_step origin name (shown self.old) (shown self.old).nodes) }
+        requires roomy { Roomy self.old.room self.old }
+        requires held { Held self.old }
+        ensures part { OnOk result (part_step origin name (shown self.old) (shown self.old).nodes ≡ Goes (shown self.new)) }
+        ensures place { OnOk result (self.new.last.place ≡ self.old.last.place) }
+        ensures held { OnOk result (Held self.new) }
+        ensures roomy { Roomy self.old.room self.new }
+    {
+        let Some(node) = self.nodes.pop() else {
+            unreachable!()
+        };
+        let Reading {
+            value,
+            pd,
+            place: _,
+        } = self.take_last(alloc, origin);
+        let part = node.values.len();
+        let held = hold(&mut self.bindings, &mut self.homes, name, value, part);
+        let node = node.with(held, pd)?;
+        self.nodes.push_reserved(node);
+        self.address += 1;
+        Ok(())
+    }
+
+    /// Ends the latest struct, which has so many named parts.
+    pub(crate) fn close(&mut self, origin: u64, count: u32)
+        requires origin { origin ≤ 2 ^ 62 }
+        requires place { self.old.last.place ≤ 2 ^ 62 }
+        requires address { self.old.address < 2 ^ 32 }
+        requires within { GoesWithin self.old.room (close_step origin count (shown self.old) (shown self.old).nodes) }
+        requires roomy { Roomy self.old.room self.old }
+        requires held { Held self.old }
+        ensures close { close_step origin count (shown self.old) (shown self.old).nodes ≡ Goes (shown self.new) }
+        ensures place { self.new.last.place ≡ self.old.last.place }
+        ensures held { Held self.new }
+        ensures roomy { Roomy self.old.room self.new }
+    {
+        let Some(node) = self.nodes.pop() else {
+            unreachable!()
+        };
+        let Node {
+            begin,
+            base,
+            mut values,
+            pds,
+        } = node;
+        take_back(&mut self.bindings, &mut self.homes, base, &mut values);
+        let value = Val::Tuple(Items::from_vec(values));
+        let place = self.last.place;
+        self.last = Reading::node(origin, None, value, begin, place, Items::from_vec(pds));
+        self.address += 1;
+    }
+
+    /// Begins a call of a declaration.
+    pub(crate) fn enter(&mut self, entry: &Entry, args: Args)
+        requires address { self.old.address < 2 ^ 32 }
+        requires depth { 0 < self.old.depth }
+        requires within { entries (entered entry.now args (self.old.depth - 1) (shown self.old)) ≤ self.old.room }
+        requires roomy { Roomy self.old.room self.old }
+        requires held { Held self.old }
+        ensures enter { shown self.new ≡ entered entry.now args (self.old.depth - 1) (shown self.old) }
+        ensures held { Held self.new }
+        ensures roomy { Roomy self.old.room self.new }
+    {
+        let caller = Caller {
+            back: self.address + 1,
+            base: self.bindings.len(),
+        };
+        bind(
+            &mut self.bindings,
+            &mut self.homes,
+            entry.params.as_slice(),
+            args,
+        );
+        self.callers.push_reserved(caller);
+        self.depth -= 1;
+        self.address = entry.first as usize;
+    }
+
+    /// Takes the bindings above the first so many back.
+    fn cut(&mut self, base: usize)
+        requires base { floor_of (shown self.old).nodes ≤ base }
+        requires roomy { Roomy self.old.room self.old }
+        requires held { Held self.old }
+        ensures cut { shown self.new ≡ record (shown self.old) { bindings = below base (shown self.old).bindings } }
+        ensures depth { self.new.depth ≡ self.old.depth }
+        ensures callers { self.new.callers ≡ self.old.callers }
+        ensures held { Held self.new }
+        ensures roomy { Roomy self.old.room self.new }
+    {
+        match self.nodes.pop() {
+            None => {
+                self.bindings.truncate(base);
+                self.homes.truncate(base);
+            }
+            Some(mut node) => {
+                take_back(&mut self.bindings, &mut self.homes, base, &mut node.values);
+                self.nodes.push_reserved(node);
+            }
+        }
+    }
+
+    /// Ends a call: its bindings go, and it goes on behind the instruction that made it.
+    pub(crate) fn leave(&mut self, caller: Caller)
+        requires depth { self.old.depth + length self.old.callers.items < 255 }
+        requires base { floor_of (shown self.old).nodes ≤ caller.base }
+        requires roomy { Roomy self.old.room self.old }
+        requires held { Held self.old }
+        ensures leave { shown self.new ≡ returned (caller_shown caller) (shown self.old).callers (shown self.old) }
+        ensures held { Held self.new }
+        ensures roomy { Roomy self.old.room self.new }
+    {
+        self.cut(caller.base);
+        self.depth += 1;
+        self.address = caller.back;
+    }
+}

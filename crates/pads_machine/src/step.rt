@@ -1,0 +1,291 @@
+//! Instructions, one after another.
+ghost use Rattle.std.specs.Prelude.{◌≡◌, ◌<◌, ◌≤◌, ◌^◌, true, length, slice_get, IfOk, OnOk};
+ghost use Rattle.std.specs.Option.{option_copied};
+ghost use Rattle.std.specs.List.{list_all};
+ghost use Rattle.pads_calc.specs.declared.reading.Reading.{Reading};
+ghost use Rattle.pads_steps.specs.Records.{subject_of};
+ghost use Rattle.pads_image.specs.Answers.{HaltsWith};
+ghost use Rattle.pads_calc.specs.Arguments.{arguments as arguments_of};
+ghost use Rattle.pads_calc.specs.Leaves.{base_of, compute_of};
+ghost use Rattle.pads_calc.specs.Readings.{fails};
+ghost use Rattle.pads_calc.specs.Wrappers.{absorb_of, guard_of};
+ghost use Rattle.pads_dispatch.specs.Labels.{labels_fit};
+ghost use Rattle.pads_expr.specs.Value.{value};
+ghost use Rattle.pads_expr.specs.Worth.{worth_or_none};
+ghost use Rattle.pads_image.specs.States.{seen};
+ghost use Rattle.pads_image.specs.Steps.{Goes, call_step, does, reads, return_step};
+ghost use Rattle.pads_machine.specs.Held.{Held, Roomy};
+ghost use Rattle.pads_machine.specs.Ran.{GoesWithin, Halting, Tells, is_plain, labels_stand};
+ghost use Rattle.pads_machine.specs.Shown.{shown};
+
+use crate::state::State;
+use pads_calc::{Base, ComputedForm, Reading};
+use pads_expr::Expr;
+use pads_image::{Entry, Op};
+use pads_steps::{Record, arguments_in, guarded_in};
+use pads_value::{Cause, Memory};
+use std::alloc::Global;
+
+/// What came of an instruction.
+#[derive(Clone, Copy, PartialEq, Eq)]
+pub(crate) enum Next {
+    Goes,
+    Halts,
+}
+
+/// What runs: the instructions and the declarations of an image, over a record.
+#[derive(Clone, Copy)]
+pub(crate) struct Program<'a> {
+    pub(crate) code: &'a [Op],
+    pub(crate) entries: &'a [Entry],
+    pub(crate) record: Record<'a>,
+}
+
+/// The instruction at an address.
+fn at(code: &[Op], address: usize) -> Option<&Op>
+    ensures op { option_copied result ≡ slice_get code.now address }
+{
+    code.get(address)
+}
+
+impl State {
+    /// Goes on at the next address where no reading is to be had.
+    fn fail(&mut self, alloc: Global, origin: u64, cause: Cause)
+        requires origin { origin ≤ 2 ^ 62 }
+        requires address { self.old.address < 2 ^ 32 }
+        requires place { self.old.last.place ≤ 2 ^ 62 }
+        requires roomy { Roomy self.old.room self.old }
+        requires held { Held self.old }
+        ensures fail { reads (fails origin cause self.old.last.place) (shown self.old) ≡ Goes (shown self.new) }
+        ensures place { self.new.last.place ≡ self.old.last.place }
+        ensures held { Held self.new }
+        ensures roomy { Roomy self.old.room self.new }
+    {
+        let place = self.last.place;
+        self.read(Reading::fails(alloc, origin, cause, place));
+    }
+
+    /// Reads a base type with its arguments.
+    fn base_type(
+        &mut self,
+        alloc: Global,
+        from: &Record,
+        base: &Base,
+        args: &[Expr],
+    ) -> Result<(), Memory>
+        requires labels { labels_fit base.now ≡ true }
+        requires address { self.old.address < 2 ^ 32 }
+        requires place { self.old.last.place ≤ length from.now.bytes.now }
+        requires roomy { Roomy self.old.room self.old }
+        requires held { Held self.old }
+        ensures read { OnOk result (reads (base_of (subject_of from.now) base.now (arguments_of args.now (seen (shown self.old))) self.old.last.place) (shown self.old) ≡ Goes (shown self.new)) }
+        ensures place { OnOk result (self.new.last.place ≤ length from.now.bytes.now) }
+        ensures held { OnOk result (Held self.new) }
+        ensures roomy { Roomy self.old.room self.new }
+    {
+        let place = self.last.place;
+        let reading = from.base_in(alloc, base, args, self.seen(), place)?;
+        self.read(reading);
+        Ok(())
+    }
+
+    /// Computes a value.
+    fn compute(
+        &mut self,
+        alloc: Global,
+        from: &Record,
+        e: &Expr,
+        form: &ComputedForm,
+    ) -> Result<(), Memory>
+        requires address { self.old.address < 2 ^ 32 }
+        requires place { self.old.last.place ≤ length from.now.bytes.now }
+        requires roomy { Roomy self.old.room self.old }
+        requires held { Held self.old }
+        ensures read { OnOk result (reads (compute_of from.now.origin form.now (worth_or_none (value e.now (seen (shown self.old)))) self.old.last.place) (shown self.old) ≡ Goes (shown self.new)) }
+        ensures place { OnOk result (self.new.last.place ≤ length from.now.bytes.now) }
+        ensures held { OnOk result (Held self.new) }
+        ensures roomy { Roomy self.old.room self.new }
+    {
+        let place = self.last.place;
+        let reading = from.computed_in(alloc, e, form, self.seen(), place)?;
+        self.read(reading);
+        Ok(())
+    }
+
+    /// Drops the value that was read.
+    fn absorb(&mut self, alloc: Global, origin: u64)
+        requires origin { origin ≤ 2 ^ 62 }
+        requires address { self.old.address < 2 ^ 32 }
+        requires place { self.old.last.place ≤ 2 ^ 62 }
+        requires roomy { Roomy self.old.room self.old }
+        requires held { Held self.old }
+        ensures absorb { reads (absorb_of self.old.last) (shown self.old) ≡ Goes (shown self.new) }
+        ensures place { self.new.last.place ≡ self.old.last.place }
+        ensures held { Held self.new }
+        ensures roomy { Roomy self.old.room self.new }
+    {
+        let reading = self.take_last(alloc, origin);
+        self.read(reading.absorbed());
+    }
+
+    /// Constrains the value that was read, by its name in the condition.
+    fn guard(&mut self, alloc: Global, origin: u64, binder: u16, condition: &Expr)
+        requires origin { origin ≤ 2 ^ 62 }
+        requires address { self.old.address < 2 ^ 32 }
+        requires place { self.old.last.place ≤ 2 ^ 62 }
+        requires roomy { Roomy self.old.room self.old }
+        requires held { Held self.old }
+        ensures guard { reads (guard_of binder condition.now (seen (shown self.old)) self.old.last) (shown self.old) ≡ Goes (shown self.new) }
+        ensures place { self.new.last.place ≡ self.old.last.place }
+        ensures held { Held self.new }
+        ensures roomy { Roomy self.old.room self.new }
+    {
+        let reading = self.take_last(alloc, origin);
+        let reading = guarded_in(reading, binder, condition, self.seen());
+        self.read(reading);
+    }
+
+    /// Reads a declaration. It fails where calls are nested too deep, or where an argument has no value.
+    fn call(
+        &mut self,
+        alloc: Global,
+        origin: u64,
+        entries: &[Entry],
+        number: u16,
+        args: &[Expr],
+    ) -> Result<(), Memory>
+        requires origin { origin ≤ 2 ^ 62 }
+        requires address { self.old.address < 2 ^ 32 }
+        requires place { self.old.last.place ≤ 2 ^ 62 }
+        requires within { GoesWithin self.old.room (call_step origin entries.now number args.now self.old.depth (shown self.old)) }
+        requires roomy { Roomy self.old.room self.old }
+        requires held { Held self.old }
+        ensures call { OnOk result (call_step origin entries.now number args.now self.old.depth (shown self.old) ≡ Goes (shown self.new)) }
+        ensures place { OnOk result (self.new.last.place ≡ self.old.last.place) }
+        ensures held { OnOk result (Held self.new) }
+        ensures roomy { Roomy self.old.room self.new }
+    {
+        if self.depth == 0 {
+            self.fail(alloc, origin, Cause::Depth);
+            return Ok(());
+        }
+        let args = arguments_in(alloc, args, self.seen())?;
+        let Some(args) = args else {
+            self.fail(alloc, origin, Cause::BadParam);
+            return Ok(());
+        };
+        let Some(entry) = entries.get(usize::from(number)) else {
+            self.fail(alloc, origin, Cause::BadParam);
+            return Ok(());
+        };
+        self.enter(entry, args);
+        Ok(())
+    }
+
+    /// Ends a declaration: the run halts, or goes on behind the call.
+    fn end(&mut self) -> Next
+        requires within { GoesWithin self.old.room (return_step (shown self.old) (shown self.old).callers) }
+        requires roomy { Roomy self.old.room self.old }
+        requires held { Held self.old }
+        ensures end { Tells result (return_step (shown self.old) (shown self.old).callers) (shown self.old) (shown self.new) }
+        ensures last { self.new.last ≡ self.old.last }
+        ensures held { Held self.new }
+        ensures roomy { Roomy self.old.room self.new }
+    {
+        match self.callers.pop() {
+            None => Next::Halts,
+            Some(caller) => {
+                self.leave(caller);
+                Next::Goes
+            }
+        }
+    }
+
+    /// One instruction.
+    fn step(&mut self, alloc: Global, program: &Program, op: &Op) -> Result<Next, Memory>
+        requires plain { is_plain op.now ≡ true }
+        requires labels { labels_stand op.now ≡ true }
+        requires address { self.old.address < 2 ^ 32 }
+        requires place { self.old.last.place ≤ length program.now.record.bytes.now }
+        requires within { GoesWithin self.old.room (does program.now.entries.now (subject_of program.now.record) op.now (shown self.old)) }
+        requires roomy { Roomy self.old.room self.old }
+        requires held { Held self.old }
+        ensures step { IfOk result (λ next. Tells next (does program.now.entries.now (subject_of program.now.record) op.now (shown self.old)) (shown self.old) (shown self.new)) }
+        ensures place { OnOk result (self.new.last.place ≤ length program.now.record.bytes.now) }
+        ensures held { OnOk result (Held self.new) }
+        ensures roomy { Roomy self.old.room self.new }
+    {
+        let record = &program.record;
+        let origin = record.origin;
+        let place = self.last.place;
+        match op {
+            Op::Unit => {
+                self.read(record.unit(alloc, place));
+                Ok(Next::Goes)
+            }
+            Op::Lit(literal) => {
+                self.read(record.literal(alloc, literal.as_slice(), place));
+                Ok(Next::Goes)
+            }
+            Op::Eor => {
+                self.read(record.end(alloc, place));
+                Ok(Next::Goes)
+            }
+            Op::Base(base, args) => {
+                self.base_type(alloc, record, base, args.as_slice())?;
+                Ok(Next::Goes)
+            }
+            Op::Compute(e, form) => {
+                self.compute(alloc, record, e, form)?;
+                Ok(Next::Goes)
+            }
+            Op::Absorb => {
+                self.absorb(alloc, origin);
+                Ok(Next::Goes)
+            }
+            Op::Guard(binder, condition) => {
+                self.guard(alloc, origin, *binder, condition);
+                Ok(Next::Goes)
+            }
+            Op::Open => {
+                self.open(alloc);
+                Ok(Next::Goes)
+            }
+            Op::Part(name) => {
+                self.part(alloc, origin, *name)?;
+                Ok(Next::Goes)
+            }
+            Op::Close(count) => {
+                self.close(origin, *count);
+                Ok(Next::Goes)
+            }
+            Op::Call(number, args) => {
+                self.call(alloc, origin, program.entries, *number, args.as_slice())?;
+                Ok(Next::Goes)
+            }
+            Op::Return => Ok(self.end()),
+            _ => unreachable!(),
+        }
+    }
+
+    /// Runs until it halts.
+    pub(crate) fn run(&mut self, alloc: Global, program: &Program) -> Result<(), Memory>
+        requires short { length program.now.code.now < 2 ^ 32 }
+        requires plain { list_all is_plain program.now.code.now ≡ true }
+        requires labels { list_all labels_stand program.now.code.now ≡ true }
+        requires place { self.old.last.place ≤ length program.now.record.bytes.now }
+        requires halts { Halting program.now.code.now program.now.entries.now (subject_of program.now.record) self.old.room (shown self.old) }
+        requires roomy { Roomy self.old.room self.old }
+        requires held { Held self.old }
+        ensures ran { OnOk result ((r : Reading) → HaltsWith program.now.code.now program.now.entries.now (subject_of program.now.record) self.old.room (shown self.old) r → self.new.last ≡ r) }
+        ensures place { OnOk result (self.new.last.place ≤ length program.now.record.bytes.now) }
+        ensures roomy { Roomy self.old.room self.new }
+    {
+        'run: while let Some(op) = at(program.code, self.address) {
+            if let Next::Halts = self.step(alloc, program, op)? {
+                return Ok(());
+            }
+        }
+        unreachable!()
+    }
+}
