@@ -7,8 +7,6 @@ mod keeping;
 mod laws;
 mod need;
 mod op;
-#[cfg(test)]
-mod tests;
 
 pub use entry::{Entries, Entry};
 pub use image::Image;
