@@ -67,14 +67,14 @@ def told(read, spelled, digits, signed, first, second):
     answer = read(f'{first:02X}{second:02X}', digits, signed)
     if answer == 'INVALID':
         return ''
-    return f' {second:02X}={answer}' + ('' if answer == 'RANGE' else f'/{spelled(answer, digits, signed)}')
+    return f' {second:02x}={answer}' + ('' if answer == 'RANGE' else f'/{spelled(answer, digits, signed).lower()}')
 
 
 def rows():
     for name, read, spelled, digits, signed in FORMS:
         for first in range(256):
             fields = ''.join(told(read, spelled, digits, signed, first, second) for second in range(256))
-            yield f'{name} {digits} {"signed" if signed else "unsigned"} {first:02X}:{fields}\n'
+            yield f'{name} {digits} {"signed" if signed else "unsigned"} {first:02x}:{fields}\n'
 
 
 def main():
