@@ -1,4 +1,8 @@
-use pads_value::{Boxed, Items};
+ghost use Rattle.std.specs.Prelude.{◌≡◌, IfOk};
+ghost use Rattle.pads_erase.specs.declared.skeleton.Skeleton.TheVariants as skeleton;
+
+use pads_value::{Boxed, Items, Memory};
+use std::alloc::Global;
 
 /// Skeletons in their order, as those of a struct's parts or of a union's branches.
 pub type Skeletons = Items<Skeleton>;
@@ -30,3 +34,39 @@ pub struct Keeping {
 
 /// What declarations keep, in their order.
 pub type Keepings = Items<Keeping>;
+
+impl Skeleton {
+    /// The skeleton of an array with such elements.
+    pub fn each(alloc: Global, element: Skeleton) -> Result<Skeleton, Memory>
+        ensures each { IfOk result (λ made. made ≡ skeleton.Each element) }
+    {
+        Ok(Skeleton::Each(Boxed::new(alloc, element)?))
+    }
+
+    /// A skeleton equal to this one.
+    #[cycle(copy)]
+    pub fn copy(&self, alloc: Global) -> Result<Skeleton, Memory>
+        ensures equal { IfOk result (λ copied. copied ≡ self.now) }
+    {
+        match self {
+            Skeleton::Leaf => Ok(Skeleton::Leaf),
+            Skeleton::Nothing => Ok(Skeleton::Nothing),
+            Skeleton::List(parts) => Ok(Skeleton::List(copy_each(alloc, parts.as_slice())?)),
+            Skeleton::Arms(arms) => Ok(Skeleton::Arms(copy_each(alloc, arms.as_slice())?)),
+            Skeleton::Each(element) => Skeleton::each(alloc, element.get().copy(alloc)?),
+            Skeleton::Ref(number) => Ok(Skeleton::Ref(*number)),
+        }
+    }
+}
+
+/// Skeletons equal to these.
+#[cycle(copy)]
+fn copy_each(alloc: Global, skeletons: &[Skeleton]) -> Result<Skeletons, Memory>
+    ensures equal { IfOk result (λ copied. copied ≡ skeletons.now) }
+{
+    let mut copied = Items::new(alloc);
+    for skeleton in skeletons {
+        copied.push(skeleton.copy(alloc)?)?;
+    }
+    Ok(copied)
+}

@@ -1,48 +1,14 @@
 //! What the declarations of an image keep.
 ghost use Rattle.std.specs.Prelude.{◌≡◌, map, IfOk};
 ghost use Rattle.pads_calc.specs.Rows.{kept_by};
-ghost use Rattle.pads_erase.specs.declared.skeleton.Skeleton.TheVariants as skeleton;
 ghost use Rattle.pads_image.specs.Skeletons.{all_set, erasing_in, kept_in};
 
 use crate::{Entry, Image};
-use pads_calc::{DEEPEST, Reading};
-use pads_erase::{Keeping, Keepings, Skeleton, Skeletons, erase};
-use pads_value::{Boxed, Items, Memory};
+use pads_calc::Reading;
+use pads_erase::{Keeping, Keepings};
+use pads_module::erased;
+use pads_value::{Items, Memory};
 use std::alloc::Global;
-
-/// The skeleton of an array with such elements.
-fn each(alloc: Global, element: Skeleton) -> Result<Skeleton, Memory>
-    ensures each { IfOk result (λ made. made ≡ skeleton.Each element) }
-{
-    Ok(Skeleton::Each(Boxed::new(alloc, element)?))
-}
-
-/// A skeleton equal to this one.
-#[cycle(copy)]
-fn copy(alloc: Global, skeleton: &Skeleton) -> Result<Skeleton, Memory>
-    ensures equal { IfOk result (λ copied. copied ≡ skeleton.now) }
-{
-    match skeleton {
-        Skeleton::Leaf => Ok(Skeleton::Leaf),
-        Skeleton::Nothing => Ok(Skeleton::Nothing),
-        Skeleton::List(parts) => Ok(Skeleton::List(copy_each(alloc, parts.as_slice())?)),
-        Skeleton::Arms(arms) => Ok(Skeleton::Arms(copy_each(alloc, arms.as_slice())?)),
-        Skeleton::Each(element) => each(alloc, copy(alloc, element.get())?),
-        Skeleton::Ref(number) => Ok(Skeleton::Ref(*number)),
-    }
-}
-
-/// Skeletons equal to these.
-#[cycle(copy)]
-fn copy_each(alloc: Global, skeletons: &[Skeleton]) -> Result<Skeletons, Memory>
-    ensures equal { IfOk result (λ copied. copied ≡ skeletons.now) }
-{
-    let mut copied = Items::new(alloc);
-    for skeleton in skeletons {
-        copied.push(copy(alloc, skeleton)?)?;
-    }
-    Ok(copied)
-}
 
 /// What a declaration keeps.
 fn keeping(alloc: Global, entry: &Entry) -> Result<Keeping, Memory>
@@ -50,7 +16,7 @@ fn keeping(alloc: Global, entry: &Entry) -> Result<Keeping, Memory>
 {
     Ok(Keeping {
         set: entry.set,
-        skeleton: copy(alloc, &entry.skeleton)?,
+        skeleton: entry.skeleton.copy(alloc)?,
     })
 }
 
@@ -80,20 +46,6 @@ pub(crate) fn erasing(alloc: Global, entries: &[Entry]) -> Result<Option<Keeping
         return Ok(None);
     }
     Ok(Some(keepings(alloc, entries)?))
-}
-
-/// What is left of a reading of a declaration.
-fn erased(
-    alloc: Global,
-    keepings: &[Keeping],
-    number: u16,
-    reading: Reading,
-) -> Result<Reading, Memory>
-    ensures kept { IfOk result (λ left. left ≡ kept_by keepings.now number reading) }
-{
-    let Reading { value, pd, place } = reading;
-    let value = erase(alloc, keepings, DEEPEST, number, value)?;
-    Ok(Reading { value, pd, place })
 }
 
 impl Image {

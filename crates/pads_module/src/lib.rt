@@ -9,4 +9,4 @@ mod skeleton;
 mod straight;
 
 pub use module::{IllFormed, Module};
-pub use skeleton::skeleton_of;
+pub use skeleton::{erased, skeleton_of};

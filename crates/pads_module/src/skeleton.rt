@@ -7,15 +7,8 @@ ghost use Rattle.pads_erase.specs.declared.skeleton.Skeleton.TheVariants as skel
 use crate::Module;
 use pads_calc::{Arm, Case, DEEPEST, Decl, Part, Reading, Term};
 use pads_erase::{Keeping, Keepings, Skeleton, erase};
-use pads_value::{Boxed, Items, Memory};
+use pads_value::{Items, Memory};
 use std::alloc::Global;
-
-/// The skeleton of an array with such elements.
-fn each(alloc: Global, element: Skeleton) -> Result<Skeleton, Memory>
-    ensures each { IfOk result (λ made. made ≡ skeleton.Each element) }
-{
-    Ok(Skeleton::Each(Boxed::new(alloc, element)?))
-}
 
 /// The skeleton of a term.
 #[cycle(skeleton)]
@@ -30,7 +23,7 @@ pub fn skeleton_of(alloc: Global, term: &Term) -> Result<Skeleton, Memory>
         Term::Alt(arms) => of_arms(alloc, arms.as_slice()),
         Term::Switch(_, cases) => of_cases(alloc, cases.as_slice()),
         Term::Guard(inner, _, _) => skeleton_of(alloc, inner.get()),
-        Term::Seq(seq) => each(alloc, skeleton_of(alloc, &seq.get().elem)?),
+        Term::Seq(seq) => Skeleton::each(alloc, skeleton_of(alloc, &seq.get().elem)?),
         Term::Call(number, _) => Ok(Skeleton::Ref(*number)),
         Term::Absorb(inner) => skeleton_of(alloc, inner.get()),
         Term::Scan(inner) => skeleton_of(alloc, inner.get()),
@@ -112,7 +105,7 @@ pub(crate) fn erasing(alloc: Global, decls: &[Decl]) -> Result<Option<Keepings>,
 }
 
 /// What is left of a reading of a declaration.
-fn erased(
+pub fn erased(
     alloc: Global,
     keepings: &[Keeping],
     number: u16,

@@ -1,5 +1,5 @@
 use Rattle.std.proofs.Common.{◌≡◌, take}
-use Rattle.pads_image.proofs.keeping.+copy.Given as goal
+use Rattle.pads_erase.proofs.skeleton.+copy.Given as goal
 
 abbrev pub invariant-copy_each-loop-skeleton : goal.invariant-copy_each-loop-skeleton
 invariant-copy_each-loop-skeleton l = l.copied ≡ take l.skeleton-index l.skeletons
