@@ -1,6 +1,7 @@
--- Code that grows by a part or by a declaration.
+-- Code that grows by a part, by a branch or by a declaration.
 use Rattle.std.proofs.Common.{◌≡◌, ◌∙◌, sym, ap, refl, arith, ℕ, ◌+◌, ◌<◌, ◌≤◌, true, false, List, [], ◌∷◌, ◌++◌, length, length-append, map, drop, get_or, append_assoc, Option, Some, None, is_some}
 use Rattle.pads_calc.specs.declared.decl.Decl.{Decl}
+use Rattle.pads_calc.specs.declared.term.Case.{Case}
 use Rattle.pads_calc.specs.declared.term.Part.{Part}
 use Rattle.pads_calc.specs.declared.term.Term.{Term}
 use Rattle.pads_calc.specs.Skeletons.{skeleton_of}
@@ -8,8 +9,9 @@ use Rattle.pads_calc.proofs.Lists.{drop-past'}
 use Rattle.pads_image.specs.declared.entry.Entry.{Entry}
 use Rattle.pads_image.specs.declared.op.Op.{Op}
 use Rattle.pads_image.specs.declared.op.Op.TheVariants as op
-use Rattle.pads_image.specs.Blocks.{bindings_of, named, layout, part_layout, parts_code}
+use Rattle.pads_image.specs.Blocks.{arms_code, arms_size, bindings_of, blocks, case_layout, named, layout, part_layout, parts_code, parts_size}
 use Rattle.pads_image.specs.Code.{code_from, decl_length, entries_from, length_of}
+use Rattle.pads_image.specs.Validity.{longest}
 use Rattle.pads_image.proofs.Lengths.{sized}
 use Rattle.pads_compile.proofs.Sums.{first-of}
 
@@ -57,6 +59,53 @@ pub parts-done : (parts : List Part) (whole code : List Op) (i : ℕ) → length
     → whole ≡ code ++ parts_code (map part_layout (drop i parts)) (length code) → code ≡ whole
 parts-done parts whole code i over so =
     sym (so ∙ ap (λ left. code ++ parts_code (map part_layout left) (length code)) (drop-past' parts i over) ∙ append-none code)
+
+-- there is room for the parts that are left
+pub parts-left : (parts : List Part) (i : ℕ) (code after : List Op) (part : Part) → i < length parts → part ≡ get_or parts i part
+    → length code + parts_size (map part_layout (drop i parts)) ≤ longest
+    → after ≡ (code ++ (layout part.term).code (length code)) ++ op.Part part.name ∷ []
+    → length after + parts_size (map part_layout (drop (i + 1) parts)) ≤ longest
+parts-left parts i code after part more here room is =
+    omega (arith, room, ap (λ left. parts_size (map part_layout left)) (first-of parts i part more here), ap length is ∙ grown part.term code (op.Part part.name))
+
+-- branches, each with its instruction behind it
+module _ {X : Type 0} (term_of : X → Term) where
+  abbrev pub branch_sizes : List X → ℕ
+  branch_sizes xs = arms_size (map (λ x. layout (term_of x)) xs)
+
+  module _ (behind : ℕ → Op) where
+    abbrev pub branch_code : List X → ℕ → ℕ → List Op
+    branch_code xs number p = arms_code behind (map (λ x. layout (term_of x)) xs) number p
+
+    pub branch-next : (xs : List X) (whole code after : List Op) (i : ℕ) (x : X) → i < length xs → x ≡ get_or xs i x
+        → whole ≡ code ++ branch_code (drop i xs) i (length code)
+        → after ≡ (code ++ (layout (term_of x)).code (length code)) ++ behind i ∷ []
+        → whole ≡ after ++ branch_code (drop (i + 1) xs) (i + 1) (length after)
+    branch-next xs whole code after i x more here so is =
+        let b = layout (term_of x) in
+        let rest = λ (n : ℕ). branch_code (drop (i + 1) xs) (i + 1) n in
+        let past : length code + b.size + 1 ≡ length code + (b.size + 1) = omega arith in
+        so ∙ ap (λ left. code ++ branch_code left i (length code)) (first-of xs i x more here)
+        ∙ ap (λ n. code ++ (b.code (length code) ++ behind i ∷ rest n)) past
+        ∙ appended (term_of x) code (behind i) rest
+        ∙ ap (λ code. code ++ rest (length code)) (sym is)
+
+    pub branches-left : (xs : List X) (i : ℕ) (code after : List Op) (x : X) → i < length xs → x ≡ get_or xs i x
+        → length code + branch_sizes (drop i xs) ≤ longest
+        → after ≡ (code ++ (layout (term_of x)).code (length code)) ++ behind i ∷ []
+        → length after + branch_sizes (drop (i + 1) xs) ≤ longest
+    branches-left xs i code after x more here room is =
+        omega (arith, room, ap branch_sizes (first-of xs i x more here), ap length is ∙ grown (term_of x) code (behind i))
+
+    pub branches-done : (xs : List X) (whole code : List Op) (i : ℕ) → length xs ≤ i
+        → whole ≡ code ++ branch_code (drop i xs) i (length code) → code ≡ whole
+    branches-done xs whole code i over so =
+        sym (so ∙ ap (λ left. code ++ branch_code left i (length code)) (drop-past' xs i over) ∙ append-none code)
+
+-- the cases of a switched union are branches
+pub blocks-are : (cases : List Case) → blocks (map case_layout cases) ≡ map (λ case. layout case.arm.term) cases
+blocks-are [] = refl
+blocks-are (case ∷ cases) = ap (λ rest. layout case.arm.term ∷ rest) (blocks-are cases)
 
 pub decl-next : (decls : List Decl) (whole code after : List Op) (i : ℕ) (decl : Decl) → i < length decls → decl ≡ get_or decls i decl
     → whole ≡ code ++ code_from (drop i decls) (length code)

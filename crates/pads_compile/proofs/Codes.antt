@@ -1,16 +1,17 @@
--- The code of each form that straight terms have.
+-- The code and the size of each form of term.
 use Rattle.std.proofs.Common.{◌≡◌, ap, ℕ, List, [], ◌∷◌, map}
 use Rattle.pads_dispatch.specs.declared.base.Base.{Base}
 use Rattle.pads_expr.specs.declared.expr.Expr.{Expr}
+use Rattle.pads_calc.specs.declared.term.Arm.{Arm}
+use Rattle.pads_calc.specs.declared.term.Case.{Case}
 use Rattle.pads_calc.specs.declared.term.ComputedForm.{ComputedForm}
 use Rattle.pads_calc.specs.declared.term.Part.{Part}
+use Rattle.pads_calc.specs.declared.term.Seq.{Seq}
 use Rattle.pads_calc.specs.declared.term.Term.{Term}
 use Rattle.pads_calc.specs.declared.term.Term.TheVariants as term
-use Rattle.pads_module.proofs.CountRolls.{counts-Struct, counts-Guard, counts-Absorb}
 use Rattle.pads_image.specs.declared.op.Op.TheVariants as op
-use Rattle.pads_image.specs.Blocks.{Block, followed, struct_block, layout, part_layout}
-use Rattle.pads_image.proofs.Layouts.{layout-Unit, layout-Base, layout-Lit, layout-Eor, layout-Struct, layout-Guard, layout-Call, layout-Compute, layout-Absorb}
-use Rattle.pads_module.proofs.StraightRolls.{straight-Struct, straight-Alt, straight-Switch, straight-Guard, straight-Seq, straight-Absorb, straight-Scan}
+use Rattle.pads_image.specs.Blocks.{Block, alt_block, case_layout, followed, scan_block, seq_layout, struct_block, switch_block, layout, part_layout}
+use Rattle.pads_image.proofs.Layouts.{layout-Unit, layout-Base, layout-Lit, layout-Eor, layout-Struct, layout-Alt, layout-Switch, layout-Guard, layout-Seq, layout-Call, layout-Compute, layout-Absorb, layout-Scan}
 
 pub code-Unit : (p : ℕ) → (layout term.Unit).code p ≡ op.Unit ∷ []
 code-Unit p = ap (λ (b : Block). b.code p) layout-Unit
@@ -39,24 +40,30 @@ code-Guard inner binder condition p = ap (λ (b : Block). b.code p) (layout-Guar
 pub code-Absorb : (inner : Term) (p : ℕ) → (layout (term.Absorb inner)).code p ≡ (followed (layout inner) op.Absorb).code p
 code-Absorb inner p = ap (λ (b : Block). b.code p) (layout-Absorb inner)
 
+pub code-Alt : (arms : List Arm) (p : ℕ) → (layout (term.Alt arms)).code p ≡ (alt_block (map (λ arm. layout arm.term) arms)).code p
+code-Alt arms p = ap (λ (b : Block). b.code p) (layout-Alt arms)
+
+pub code-Switch : (e : Expr) (cases : List Case) (p : ℕ) → (layout (term.Switch e cases)).code p ≡ (switch_block e (map case_layout cases)).code p
+code-Switch e cases p = ap (λ (b : Block). b.code p) (layout-Switch e cases)
+
+pub code-Seq : (s : Seq) (p : ℕ) → (layout (term.Seq s)).code p ≡ (seq_layout s).code p
+code-Seq s p = ap (λ (b : Block). b.code p) (layout-Seq s)
+
+pub code-Scan : (inner : Term) (p : ℕ) → (layout (term.Scan inner)).code p ≡ (scan_block (layout inner)).code p
+code-Scan inner p = ap (λ (b : Block). b.code p) (layout-Scan inner)
+
 pub ruleset code_rules = (
   code-Unit,
   code-Base,
   code-Lit,
   code-Eor,
+  code-Struct,
+  code-Alt,
+  code-Switch,
+  code-Guard,
+  code-Seq,
   code-Call,
   code-Compute,
-  code-Struct,
-  code-Guard,
   code-Absorb,
-  counts-Struct,
-  counts-Guard,
-  counts-Absorb,
-  straight-Struct,
-  straight-Alt,
-  straight-Switch,
-  straight-Guard,
-  straight-Seq,
-  straight-Absorb,
-  straight-Scan,
+  code-Scan,
 )

@@ -1,4 +1,4 @@
--- The image of a straight module is valid, and stands for it.
+-- The image of a module is valid, and stands for it.
 use Rattle.std.proofs.Common.{◌≡◌, sym, subst, ℕ, ◌≤◌, true, List, length}
 use Rattle.pads_calc.specs.declared.decl.Decl.{Decl}
 use Rattle.pads_calc.specs.declared.decl.Shape.{Shape}
@@ -13,22 +13,20 @@ use Rattle.pads_image.proofs.Halting.{stands-for}
 use Rattle.pads_image.proofs.ValidCode.{valid-code}
 use Rattle.pads_module.specs.Counts.{module_counts}
 use Rattle.pads_module.specs.Scopes.{module_in_scope, shape_there}
-use Rattle.pads_module.specs.Straight.{all_straight}
 
-pub stands : (decls : List Decl) (image : Image) → image.code ≡ code_of decls → image.entries ≡ entries_of decls → all_straight decls ≡ true
-    → shape_there (length decls) image.shape ≡ true → StandsFor image.code image.entries image.shape image.need decls
-stands decls image code entries straight shaped =
+pub stands : (decls : List Decl) (image : Image) → image.code ≡ code_of decls → image.entries ≡ entries_of decls → shape_there (length decls) image.shape ≡ true → StandsFor image.code image.entries image.shape image.need decls
+stands decls image code entries shaped =
     let shape = image.shape in
     let by_code : StandsFor image.code (entries_of decls) shape (stack_need image.code (entries_of decls) shape) decls =
-    subst (λ (code : List Op). StandsFor code (entries_of decls) shape (stack_need code (entries_of decls) shape) decls) (sym code) (stands-for decls shape straight shaped) in
+    subst (λ (code : List Op). StandsFor code (entries_of decls) shape (stack_need code (entries_of decls) shape) decls) (sym code) (stands-for decls shape shaped) in
     let by_entries : StandsFor image.code image.entries shape (stack_need image.code image.entries shape) decls =
     subst (λ (entries : List Entry). StandsFor image.code entries shape (stack_need image.code entries shape) decls) (sym entries) by_code in
     subst (λ (need : ℕ). StandsFor image.code image.entries shape need decls) (sym image.needed) by_entries
 
 pub valid : (decls : List Decl) (names : List (List ℕ)) (shape : Shape) (ops : List Op) (entries : List Entry) → module_counts decls ≡ true
-    → module_in_scope decls names shape ≡ true → all_straight decls ≡ true → length_of decls ≤ longest → ops ≡ code_of decls → entries ≡ entries_of decls
+    → module_in_scope decls names shape ≡ true → length_of decls ≤ longest → ops ≡ code_of decls → entries ≡ entries_of decls
     → is_valid ops entries shape ≡ true
-valid decls names shape ops entries counted scoped straight less code told =
+valid decls names shape ops entries counted scoped less code told =
     let by_code : is_valid ops (entries_of decls) shape ≡ true =
-    subst (λ (ops : List Op). is_valid ops (entries_of decls) shape ≡ true) (sym code) (valid-code decls names shape counted scoped straight less) in
+    subst (λ (ops : List Op). is_valid ops (entries_of decls) shape ≡ true) (sym code) (valid-code decls names shape counted scoped less) in
     subst (λ (entries : List Entry). is_valid ops entries shape ≡ true) (sym told) by_code

@@ -1,7 +1,6 @@
-ghost use Rattle.std.specs.Prelude.{◌≡◌, true, IfOk};
+ghost use Rattle.std.specs.Prelude.{IfOk};
 ghost use Rattle.pads_compile.specs.Compiling.{Compiles};
 ghost use Rattle.pads_image.specs.Answers.{StandsFor};
-ghost use Rattle.pads_module.specs.Straight.{all_straight};
 
 use crate::emit::{Code, emit_decls};
 use crate::size::length;
@@ -20,10 +19,9 @@ pub struct TooLarge {
     pub length: u64,
 }
 
-/// The image of a straight module. `TooLarge` exactly where it would have more than 1,048,576
-/// instructions.
+/// The image of a module. `TooLarge` exactly where it would have more than 1,048,576 instructions. Takes
+/// time linear in the module, times the depth at which unions and arrays stand in one another.
 pub fn compile(alloc: Global, rules: &Module) -> Result<Image, Refusal<TooLarge>>
-    requires straight { all_straight rules.now.decls ≡ true }
     ensures compiled { Compiles rules.now.decls rules.now.shape result }
     ensures stands { IfOk result (λ image. StandsFor image.code image.entries image.shape image.need rules.now.decls) }
 {

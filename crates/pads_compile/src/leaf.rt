@@ -2,7 +2,7 @@
 ghost use Rattle.std.specs.Prelude.{◌≡◌, ◌∷◌, ◌++◌, [], IfOk, OnOk};
 ghost use Rattle.pads_image.specs.declared.op.Op.TheVariants as op;
 
-use pads_calc::{ComputedForm, Exprs};
+use pads_calc::{ComputedForm, Exprs, Key};
 use pads_dispatch::Base;
 use pads_expr::Expr;
 use pads_image::{Op, Ops};
@@ -18,6 +18,27 @@ fn copy_exprs(alloc: Global, exprs: &[Expr]) -> Result<Exprs, Memory>
         copied.push(expr.copy(alloc)?)?;
     }
     Ok(copied)
+}
+
+/// An expression equal to this one, where there is one.
+pub(crate) fn copy_option(alloc: Global, e: &Option<Expr>) -> Result<Option<Expr>, Memory>
+    ensures equal { IfOk result (λ copied. copied ≡ e.now) }
+{
+    match e {
+        None => Ok(None),
+        Some(e) => Ok(Some(e.copy(alloc)?)),
+    }
+}
+
+/// A key equal to this one, where there is one.
+pub(crate) fn copy_key(alloc: Global, key: &Option<Key>) -> Result<Option<Key>, Memory>
+    ensures equal { IfOk result (λ copied. copied ≡ key.now) }
+{
+    match key {
+        None => Ok(None),
+        Some(Key::Num(number)) => Ok(Some(Key::Num(*number))),
+        Some(Key::Text(text)) => Ok(Some(Key::Text(Bytes::from_slice(alloc, text.as_slice())?))),
+    }
 }
 
 /// The instruction of a literal.

@@ -4,6 +4,7 @@
 mod compiling;
 mod emit;
 mod leaf;
+mod places;
 mod size;
 
 pub use compiling::{TooLarge, compile};

@@ -16,7 +16,7 @@ fn plus(a: u64, b: u64) -> u64
 /// How many instructions a term has.
 #[cycle(size)]
 #[tactic(auto, using(std::proofs::lemmas::Grind::common_steps, crate::proofs::Sums::size_rules))]
-fn size(term: &Term) -> u64
+pub(crate) fn size(term: &Term) -> u64
     ensures size { result ≡ capped (layout term.now).size }
 {
     match term {
@@ -48,7 +48,7 @@ fn parts_size(parts: &[Part]) -> u64
 }
 
 #[cycle(size)]
-fn arms_size(arms: &[Arm]) -> u64
+pub(crate) fn arms_size(arms: &[Arm]) -> u64
     ensures size { result ≡ capped (arms_length (map (λ arm. layout arm.term) arms.now)) }
 {
     let mut sum = 0;
@@ -59,7 +59,7 @@ fn arms_size(arms: &[Arm]) -> u64
 }
 
 #[cycle(size)]
-fn cases_size(cases: &[Case]) -> u64
+pub(crate) fn cases_size(cases: &[Case]) -> u64
     ensures size { result ≡ capped (arms_length (blocks (map case_layout cases.now))) }
 {
     let mut sum = 0;
@@ -70,7 +70,7 @@ fn cases_size(cases: &[Case]) -> u64
 }
 
 #[cycle(size)]
-fn stop_size(stop: &Option<Term>) -> u64
+pub(crate) fn stop_size(stop: &Option<Term>) -> u64
     ensures size { result ≡ capped (stop_length (option_map layout stop.now)) }
 {
     match stop {
@@ -80,7 +80,7 @@ fn stop_size(stop: &Option<Term>) -> u64
 }
 
 #[cycle(size)]
-fn sep_size(sep: &Option<Term>) -> u64
+pub(crate) fn sep_size(sep: &Option<Term>) -> u64
     ensures size { result ≡ capped (sep_length (option_map layout sep.now)) }
 {
     match sep {

@@ -14,7 +14,7 @@ new-requires c =
     let slice = c.as_slice-2.ensures.items in
     let less : length_of rules.decls ≤ longest = omega (arith, c.if-length-gt-LONGEST.false, c.length-length.ensures.length, ap length_of c.as_slice.ensures.items) in
     record {
-      valid = valid rules.decls rules.names rules.shape c.in_ok-ops.field-0.ops c.in_ok-ops.field-0.entries rules.counted rules.in_scope c.requires.straight less
+      valid = valid rules.decls rules.names rules.shape c.in_ok-ops.field-0.ops c.in_ok-ops.field-0.entries rules.counted rules.in_scope less
           (c.in_ok-ops.ensures.code.code_is ∙ ap code_of slice) (c.in_ok-ops.ensures.code.entries_are ∙ ap entries_of slice);
     }
 
@@ -25,4 +25,4 @@ returns-clause-stands c =
     let image = c.in_ok-new.field-0 in
     let there = (and_parts (list_all (decl_in_scope (length rules.names) (arities_of rules.decls)) rules.decls) (shape_there (length rules.decls) rules.shape) rules.in_scope).1 in
     stands rules.decls image (c.in_ok-new.ensures.code ∙ c.in_ok-ops.ensures.code.code_is ∙ ap code_of slice) (c.in_ok-new.ensures.entries ∙ c.in_ok-ops.ensures.code.entries_are ∙ ap entries_of slice)
-    c.requires.straight (subst (λ (shape : Shape). shape_there (length rules.decls) shape ≡ true) (sym c.in_ok-new.ensures.shape) there)
+    (subst (λ (shape : Shape). shape_there (length rules.decls) shape ≡ true) (sym c.in_ok-new.ensures.shape) there)
