@@ -1,7 +1,5 @@
 -- Where the code of a declaration stands, and what its need bounds.
 use Rattle.std.proofs.Common.{◌≡◌, ◌∙◌, sym, ap, refl, subst, arith, ℕ, zero, suc, ◌+◌, ◌≤◌, max, List, [], ◌∷◌, ◌++◌, length, length-append, append_assoc, map, drop, get_or, Option, Some, None, slice_get, true}
-use Rattle.std.specs.List.{list_all}
-use Rattle.std.proofs.lemmas.Bool.{and_parts}
 use Rattle.pads_calc.specs.declared.decl.Decl.{Decl}
 use Rattle.pads_module.specs.Scopes.{arities_of}
 use Rattle.pads_calc.specs.Skeletons.{skeleton_of}
@@ -11,9 +9,9 @@ use Rattle.pads_image.specs.declared.op.Op.TheVariants as op
 use Rattle.pads_image.specs.Blocks.{layout}
 use Rattle.pads_image.specs.Code.{code_from, entries_from, decl_length}
 use Rattle.pads_image.specs.Heights.{Deeper, height_after, needs_from, later_arities, next_arity}
-use Rattle.pads_module.specs.Straight.{is_straight, all_straight}
 use Rattle.pads_image.proofs.Lengths.{sized}
-use Rattle.pads_image.proofs.Levels.{AllBelow, height_behind, peak, peak-below, needs-behind, levelled}
+use Rattle.pads_image.proofs.Levels.{AllBelow, height_behind, peak, peak-below, needs-behind}
+use Rattle.pads_image.proofs.LevelledTerms.{levelled}
 use Rattle.pads_image.proofs.Needs.{needs-cons}
 use Rattle.pads_image.proofs.Places.{StandsAt}
 
@@ -34,12 +32,12 @@ module _ (deeper : Deeper) (most : ℕ) where
   abbrev pub needs_of : List Decl → ℕ → List ℕ
   needs_of decls from = needs_from deeper (later_arities (arities_of decls)) (next_arity (arities_of decls)) 0 (code_from decls from)
 
-  needs-first : (decl : Decl) (decls : List Decl) (from : ℕ) → is_straight decl.body ≡ true → needs_of (decl ∷ decls) from
+  needs-first : (decl : Decl) (decls : List Decl) (from : ℕ) → needs_of (decl ∷ decls) from
       ≡ max (peak deeper most ((layout decl.body).code from) (length decl.params) 0) (length decl.params) ∷ needs_of decls (from + decl_length decl)
-  needs-first decl decls from straight =
+  needs-first decl decls from =
       let ops = (layout decl.body).code from in
       let h = length decl.params in
-      let level = levelled deeper most decl.body straight in
+      let level = levelled deeper most decl.body in
       let rest = code_from decls (from + decl_length decl) in
       needs-behind deeper most ops (op.Return ∷ rest) (arities_of decls) h 0 (level.none from)
       ∙ ap (λ g. needs_from deeper (arities_of decls) g (peak deeper most ops h 0) (op.Return ∷ rest)) (level.level from h)
@@ -62,21 +60,20 @@ module _ (deeper : Deeper) (most : ℕ) where
     pub bounded : (below : ℕ) → below + get_or (needs_of decls from) number 0 ≤ most
         → AllBelow deeper most below (length decl.params) ((layout decl.body).code first ++ op.Return ∷ [])
 
-  first-bounded : (d : Decl) (decls : List Decl) (from : ℕ) → is_straight d.body ≡ true → (below : ℕ) → below + get_or (needs_of (d ∷ decls) from) 0 0 ≤ most
+  first-bounded : (d : Decl) (decls : List Decl) (from : ℕ) (below : ℕ) → below + get_or (needs_of (d ∷ decls) from) 0 0 ≤ most
       → AllBelow deeper most below (length d.params) ((layout d.body).code from ++ op.Return ∷ [])
-  first-bounded d decls from straight below fits =
+  first-bounded d decls from below fits =
       let ops = (layout d.body).code from in
       let h = length d.params in
-      let need : get_or (needs_of (d ∷ decls) from) 0 0 ≡ max (peak deeper most ops h 0) h = ap (λ needs. get_or needs 0 0) (needs-first d decls from straight) in
-      return-below ops below h h ((levelled deeper most d.body straight).level from h) (omega (arith, need, fits))
+      let need : get_or (needs_of (d ∷ decls) from) 0 0 ≡ max (peak deeper most ops h 0) h = ap (λ needs. get_or needs 0 0) (needs-first d decls from) in
+      return-below ops below h h ((levelled deeper most d.body).level from h) (omega (arith, need, fits))
       (peak-below deeper most ops below h 0 (omega (arith, need, fits)))
 
-  pub declared : (decls : List Decl) → all_straight decls ≡ true → (from number : ℕ) (decl : Decl) → slice_get decls number ≡ Some decl → Declared decls from number decl
-  declared [] straight from number decl there = absurd cc
-  declared (d ∷ decls) straight from zero decl there =
+  pub declared : (decls : List Decl) (from number : ℕ) (decl : Decl) → slice_get decls number ≡ Some decl → Declared decls from number decl
+  declared [] from number decl there = absurd cc
+  declared (d ∷ decls) from zero decl there =
       let same : d ≡ decl = cc in
       let P : Decl → Type 0 = λ decl. Declared (d ∷ decls) from zero decl in
-      let plain = (and_parts (is_straight d.body) (all_straight decls) straight).0 in
       subst P same (record {
         first = from;
         entry = refl;
@@ -84,11 +81,10 @@ module _ (deeper : Deeper) (most : ℕ) where
         back = code_from decls (from + decl_length d);
         code = refl;
         begins = omega arith;
-        bounded = first-bounded d decls from plain;
+        bounded = first-bounded d decls from;
       })
-  declared (d ∷ decls) straight from (suc number) decl there =
-      let both = and_parts (is_straight d.body) (all_straight decls) straight in
-      let more = declared decls both.1 (from + decl_length d) number decl there in
+  declared (d ∷ decls) from (suc number) decl there =
+      let more = declared decls (from + decl_length d) number decl there in
       let b = layout d.body in
       record {
         first = more.first;
@@ -100,7 +96,7 @@ module _ (deeper : Deeper) (most : ℕ) where
         begins = omega (arith, more.begins, length-append (b.code from) (op.Return ∷ more.front), sized d.body from);
         bounded = λ below fits.
             let next : get_or (needs_of (d ∷ decls) from) (suc number) 0 ≡ get_or (needs_of decls (from + decl_length d)) number 0 =
-            ap (λ needs. get_or needs (suc number) 0) (needs-first d decls from both.0) in
+            ap (λ needs. get_or needs (suc number) 0) (needs-first d decls from) in
             more.bounded below (omega (arith, next, fits));
       }
 

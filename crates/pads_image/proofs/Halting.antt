@@ -1,4 +1,4 @@
--- Straight modules: each record's run halts with the calculus' reading of its type, and never needs more
+-- Each record's run halts with the calculus' reading of its type, and never needs more
 -- stack entries than the need.
 use Rattle.std.proofs.Common.{◌≡◌, ◌≢◌, ◌∙◌, sym, ap, refl, subst, arith, ℕ, zero, suc, ◌+◌, ◌-◌, ◌<◌, ◌≤◌, max, Bool, cond, true, ◌&&◌, nat_lt, List, [], ◌∷◌, ◌++◌, length, length-append, map, take, drop, get_or, Option, Some, None, slice_get}
 use Rattle.pads_value.specs.Cuts.{Cut}
@@ -19,6 +19,7 @@ use Rattle.pads_calc.specs.Rows.{body_reading, deepest, kept_by, row_by, subject
 use Rattle.pads_module.specs.Scopes.{arities_of, name_there, shape_there}
 use Rattle.pads_calc.proofs.Bindings.{bound-none}
 use Rattle.pads_calc.proofs.Calls.{caller-zero, call-unargued, call-undeclared, call-found}
+use Rattle.law_calculus.proofs.SoundTerms.{sound-meaning}
 use Rattle.pads_image.specs.declared.op.Op.{Op}
 use Rattle.pads_image.specs.declared.op.Op.TheVariants as op
 use Rattle.pads_image.specs.Answers.{HaltsWith, StandsFor, first_of, start}
@@ -28,17 +29,17 @@ use Rattle.pads_image.specs.Heights.{Deeper, call_needs, inside, need_of, needs,
 use Rattle.pads_image.specs.Validity.{arities_of as arities_of_entries}
 use Rattle.pads_image.specs.States.{State, Caller, entries, floor_of, seen}
 use Rattle.pads_image.specs.Steps.{Goes, Halts, Stuck, does_there, call_step, call_in}
-use Rattle.pads_module.specs.Straight.{is_straight, all_straight}
 use Rattle.pads_image.proofs.Declared.{Declared, declared, undeclared, entry_for, needs_of, stands}
 use Rattle.pads_image.proofs.ValidCode.{arities-same, kept-same}
-use Rattle.pads_image.proofs.Levels.{AllBelow, below-left, below-right, levelled}
+use Rattle.pads_image.proofs.Levels.{AllBelow, below-left, below-right}
+use Rattle.pads_image.proofs.LevelledTerms.{levelled}
 use Rattle.pads_image.proofs.Lengths.{sized}
 use Rattle.pads_image.proofs.Places.{first-there, left-there, right-there}
 use Rattle.pads_image.proofs.Reaching.{To, once, join, to-same, seen-is, seen-behind, bound-over, bound-length, take-over, drop-over}
-use Rattle.pads_image.proofs.ReadBack.{all-there}
-use Rattle.pads_image.proofs.Running.{Ready, RunsAs, CallRuns, behind, runs}
+use Rattle.pads_image.proofs.Running.{Ready, RunsAs}
+use Rattle.pads_image.proofs.TermsRun.{CallRuns, runs}
 
-module _ (decls : List Decl) (straight : all_straight decls ≡ true) (subject : Subject) (most : ℕ) where
+module _ (decls : List Decl) (subject : Subject) (most : ℕ) where
   -- the needs one call deeper than calls at a depth
   abbrev pub deeper_at : ℕ → Deeper
   deeper_at zero = None
@@ -79,14 +80,13 @@ module _ (decls : List Decl) (straight : all_straight decls ≡ true) (subject :
         (steps-on zero p below h s r ready (omega arith) (ap (λ depth. call_step subject.origin (entries_of decls) number args depth s) ready.deep))
 
     -- a call with its arguments and its declaration: the body runs one less deep, and returns
-    module _ (depth : ℕ) (bodies : (t : Term) → is_straight t ≡ true → RunsAs (code_of decls) (entries_of decls) subject most (deeper_at depth) depth (layout t) (read subject (caller subject decls depth) t)) where
+    module _ (depth : ℕ) (bodies : (t : Term) → RunsAs (code_of decls) (entries_of decls) subject most (deeper_at depth) depth (layout t) (read subject (caller subject decls depth) t)) where
       body-runs : (found : List Arg) (decl : Decl) (p below h : ℕ) (s : State) → ReadyFor (suc depth) p below h s
           → arguments args (seen s) ≡ Some found → slice_get decls number ≡ Some decl
           → To (code_of decls) (entries_of decls) subject most s (stand s (p + 1) (meaning subject decls depth decl.body (bound_to decl.params found []) s.last.place))
       body-runs found decl p below h s ready argued there =
-          let d = declared (deeper_at depth) most decls straight 0 number decl there in
+          let d = declared (deeper_at depth) most decls 0 number decl there in
           let b = layout decl.body in
-          let plain = all-there (λ (decl : Decl). is_straight decl.body) decls number decl straight there in
           let place = s.last.place in
           let bindings = bound_to decl.params found s.bindings in
           let own = bound_to decl.params found [] in
@@ -100,7 +100,7 @@ module _ (decls : List Decl) (straight : all_straight decls ≡ true) (subject :
           let code_ = stands (deeper_at depth) most decls number decl d in
           let ends : d.first + length (b.code d.first) ≡ q = ap (λ n. d.first + n) (sized decl.body d.first) in
           let fits = d.bounded below_ (omega (arith, ready.fits.0, ap (λ found. get_or found number 0) (needs-at depth))) in
-          let level = (levelled (deeper_at depth) most decl.body plain).level d.first (length decl.params) in
+          let level = (levelled (deeper_at depth) most decl.body).level d.first (length decl.params) in
           let final = below-right (deeper_at depth) most (b.code d.first) (op.Return ∷ []) below_ (length decl.params) (length decl.params) level fits in
           let sees : seen t ≡ own = seen-is t ∙ ap (λ bs. take (length bs - length s.bindings) bs) over ∙ take-over own s.bindings in
           let back : drop (length bindings - length s.bindings) bindings ≡ s.bindings = ap (λ bs. drop (length bs - length s.bindings) bs) over ∙ drop-over own s.bindings in
@@ -120,12 +120,13 @@ module _ (decls : List Decl) (straight : all_straight decls ≡ true) (subject :
           ∙ ap (λ entry. call_in subject.origin entry (arguments args (seen s)) depth s) d.entry
           ∙ ap (λ found. call_in subject.origin (Some (entry_for decl d.first)) found depth s) argued))
           (join (code_of decls) (entries_of decls) subject most t u end
-          (bodies decl.body plain d.first below_ (length decl.params) t (record {
+          (bodies decl.body d.first below_ (length decl.params) t (record {
             at_ = refl;
             deep = refl;
             sane = omega (arith, ap length over, length-append own s.bindings);
             above = omega (arith, ready.above, ap length over, length-append own s.bindings);
             counted = counted;
+            within = ready.within;
             there = left-there (code_of decls) d.first (b.code d.first) (op.Return ∷ []) code_;
             fits = below-left (deeper_at depth) most (b.code d.first) (op.Return ∷ []) below_ (length decl.params) fits;
           }))
@@ -168,13 +169,13 @@ module _ (decls : List Decl) (straight : all_straight decls ≡ true) (subject :
   calls-run zero number args p below h s ready = deep-runs number args p below h s ready
   calls-run (suc depth) number args p below h s ready =
       called number args depth
-      (λ t plain. runs (code_of decls) (entries_of decls) subject most (deeper_at depth) depth (caller subject decls depth) (calls-run depth) t plain)
+      (λ t. runs (code_of decls) (entries_of decls) subject most (deeper_at depth) depth (caller subject decls depth) (sound-meaning subject decls depth) (calls-run depth) t)
       (arguments args (seen s)) (slice_get decls number) p below h s ready refl refl
 
   -- the run of a record's type, at the record's first byte
   module _ (number : ℕ) (decl : Decl) (there : slice_get decls number ≡ Some decl) (fits : get_or (needs (code_of decls) (arities_of decls) inside) number 0 ≤ most) where
     d : Declared (deeper_at inside) most decls 0 number decl
-    d = declared (deeper_at inside) most decls straight 0 number decl there
+    d = declared (deeper_at inside) most decls 0 number decl there
 
     abbrev first_state : ℕ → State
     first_state p = record { at_ = p; last = unit_of subject.origin 0; depth = inside; bindings = []; nodes = []; marks = []; callers = [] }
@@ -190,7 +191,6 @@ module _ (decls : List Decl) (straight : all_straight decls ≡ true) (subject :
     pub halts : HaltsWith (code_of decls) (entries_of decls) subject most (start (entries_of decls) subject number) (caller subject decls deepest number [] [] 0)
     halts =
         let b = layout decl.body in
-        let plain = all-there (λ (decl : Decl). is_straight decl.body) decls number decl straight there in
         let t = first_state d.first in
         let q = d.first + b.size in
         let r = meaning subject decls inside decl.body (seen t) 0 in
@@ -199,17 +199,18 @@ module _ (decls : List Decl) (straight : all_straight decls ≡ true) (subject :
         let ends : d.first + length (b.code d.first) ≡ q = ap (λ n. d.first + n) (sized decl.body d.first) in
         let need : get_or (needs_of (deeper_at inside) most decls 0) number 0 ≡ get_or (needs (code_of decls) (arities_of decls) inside) number 0 = ap (λ found. get_or found number 0) (sym (needs-at inside)) in
         let bounded = d.bounded 0 (omega (arith, fits, need)) in
-        let level = (levelled (deeper_at inside) most decl.body plain).level d.first (length decl.params) in
+        let level = (levelled (deeper_at inside) most decl.body).level d.first (length decl.params) in
         let final = below-right (deeper_at inside) most (b.code d.first) (op.Return ∷ []) 0 (length decl.params) (length decl.params) level bounded in
         let P : State → Type 0 = λ s. HaltsWith (code_of decls) (entries_of decls) subject most s (caller subject decls deepest number [] [] 0) in
         subst P (sym starts) (record {
           end = u;
-          reached = runs (code_of decls) (entries_of decls) subject most (deeper_at inside) inside (caller subject decls inside) (calls-run inside) decl.body plain d.first 0 (length decl.params) t (record {
+          reached = runs (code_of decls) (entries_of decls) subject most (deeper_at inside) inside (caller subject decls inside) (sound-meaning subject decls inside) (calls-run inside) decl.body d.first 0 (length decl.params) t (record {
             at_ = refl;
             deep = refl;
             sane = omega arith;
             above = omega arith;
             counted = omega arith;
+            within = omega arith;
             there = left-there (code_of decls) d.first (b.code d.first) (op.Return ∷ []) code_;
             fits = below-left (deeper_at inside) most (b.code d.first) (op.Return ∷ []) 0 (length decl.params) bounded;
           });
@@ -236,16 +237,16 @@ need-of-type found None each zero = omega arith
 need-of-type found (Some head) each zero = omega arith
 need-of-type found head each (suc number) = omega arith
 
--- the code of a straight module stands for it
-pub stands-for : (decls : List Decl) (shape : Shape) → all_straight decls ≡ true → shape_there (length decls) shape ≡ true
+-- the code of a module stands for it
+pub stands-for : (decls : List Decl) (shape : Shape) → shape_there (length decls) shape ≡ true
     → StandsFor (code_of decls) (entries_of decls) shape (stack_need (code_of decls) (entries_of decls) shape) decls
-stands-for decls shape straight shaped number cut =
+stands-for decls shape shaped number cut =
     let subject = subject_of_cut cut in
     let most = stack_need (code_of decls) (entries_of decls) shape in
     let found = declared-type decls shape.head shape.each shaped number in
     let arities : arities_of_entries (entries_of decls) ≡ arities_of decls = arities-same decls 0 in
     let small = need-of-type (needs (code_of decls) (arities_of decls) inside) shape.head shape.each number in (
       body_reading decls (type_of shape number) cut,
-      halts decls straight subject most (type_of shape number) found.0 found.1 (subst (λ (arities : List ℕ). get_or (needs (code_of decls) (arities_of decls) inside) (type_of shape number) 0 ≤ need_of (needs (code_of decls) arities inside) shape) (sym arities) small),
+      halts decls subject most (type_of shape number) found.0 found.1 (subst (λ (arities : List ℕ). get_or (needs (code_of decls) (arities_of decls) inside) (type_of shape number) 0 ≤ need_of (needs (code_of decls) arities inside) shape) (sym arities) small),
       ap (λ kept. row_by cut.mark number cut (kept_by kept (type_of shape number) (body_reading decls (type_of shape number) cut))) (sym (kept-same decls 0)),
     )

@@ -45,7 +45,7 @@ struct-sized parts h p =
     omega (arith, length-append (parts_code (map part_layout parts) (p + 1)) (end ∷ []), parts-sized parts h (p + 1))
 
 module _ (behind : ℕ → Op) where
-  arms-sized : (arms : List Arm) → EachArm SizedTerm arms → (number p : ℕ)
+  pub arms-sized : (arms : List Arm) → EachArm SizedTerm arms → (number p : ℕ)
       → length (arms_code behind (map (λ arm. layout arm.term) arms) number p) ≡ arms_size (map (λ arm. layout arm.term) arms)
   arms-sized [] h number p = refl
   arms-sized (arm ∷ arms) h number p =
@@ -58,7 +58,7 @@ module _ (behind : ℕ → Op) where
         arms-sized arms (λ n arm there. h (suc n) arm there) (number + 1) (p + b.size + 1),
       )
 
-  cases-sized : (cases : List Case) → EachCase SizedTerm cases → (number p : ℕ)
+  pub cases-sized : (cases : List Case) → EachCase SizedTerm cases → (number p : ℕ)
       → length (arms_code behind (blocks (map case_layout cases)) number p) ≡ arms_size (blocks (map case_layout cases))
   cases-sized [] h number p = refl
   cases-sized (case ∷ cases) h number p =
@@ -85,11 +85,11 @@ switch-sized e cases h p =
 scan-sized : (b : Block) → Sized b → Sized (scan_block b)
 scan-sized b h p = omega (arith, length-append (b.code (p + 1)) (op.ScanOn (p + 1) ∷ []), h (p + 1))
 
-stop-sized : (o : Option Term) → ((t : Term) → o ≡ Some t → SizedTerm t) → (shut p : ℕ) → length (stop_code (option_map layout o) shut p) ≡ stop_size (option_map layout o)
+pub stop-sized : (o : Option Term) → ((t : Term) → o ≡ Some t → SizedTerm t) → (shut p : ℕ) → length (stop_code (option_map layout o) shut p) ≡ stop_size (option_map layout o)
 stop-sized None h shut p = refl
 stop-sized (Some t) h shut p = omega (arith, length-append ((layout t).code (p + 1)) (op.Stop shut ∷ []), h t refl (p + 1))
 
-sep-sized : (o : Option Term) → ((t : Term) → o ≡ Some t → SizedTerm t) → (shut p : ℕ) → length (sep_code (option_map layout o) shut p) ≡ sep_size (option_map layout o)
+pub sep-sized : (o : Option Term) → ((t : Term) → o ≡ Some t → SizedTerm t) → (shut p : ℕ) → length (sep_code (option_map layout o) shut p) ≡ sep_size (option_map layout o)
 sep-sized None h shut p = refl
 sep-sized (Some t) h shut p = omega (arith, length-append ((layout t).code p) (op.Sep shut ∷ []), h t refl p)
 

@@ -10,7 +10,7 @@ use Rattle.pads_calc.specs.Structs.{bind}
 use Rattle.pads_image.specs.declared.entry.Entry.{Entry}
 use Rattle.pads_image.specs.declared.op.Op.{Op}
 use Rattle.pads_image.specs.Answers.{Runs, Reaches}
-use Rattle.pads_image.specs.States.{State, Node, Caller, entries, seen, base_of}
+use Rattle.pads_image.specs.States.{State, Node, Mark, Caller, entries, seen, base_of}
 use Rattle.pads_image.specs.Steps.{Step, Goes, does, does_there, step}
 
 module _ (code : List Op) (of_entries : List Entry) (subject : Subject) (most : ℕ) where
@@ -55,6 +55,10 @@ seen-behind s p r = refl
 pub seen-open : (s : State) (p : ℕ) (nodes : List Node) → seen (record s { at_ = p; nodes = nodes }) ≡ seen s
 unfolding seen
 seen-open s p nodes = refl
+
+pub seen-marked : (s : State) (p : ℕ) (r : Reading) (marks : List Mark) → seen (record s { at_ = p; last = r; marks = marks }) ≡ seen s
+unfolding seen
+seen-marked s p r marks = refl
 
 pub seen-bind : (s : State) (name : Option ℕ) (value : Val) → base_of s.callers ≤ length s.bindings →
     take (length (bind name value s.bindings) - base_of s.callers) (bind name value s.bindings) ≡ bind name value (seen s)

@@ -1,5 +1,5 @@
--- The code of a straight module is valid.
-use Rattle.std.proofs.Common.{◌≡◌, ◌∙◌, sym, ap, refl, arith, eq-eqb, ℕ, suc, ◌+◌, ◌≤◌, Bool, true, ◌&&◌, nat_eq, nat_le, List, [], ◌∷◌, length, map}
+-- The code of a module is valid.
+use Rattle.std.proofs.Common.{◌≡◌, ◌∙◌, ap, refl, ℕ, suc, ◌+◌, ◌≤◌, Bool, true, nat_eq, nat_le, List, [], ◌∷◌, length, map}
 use Rattle.std.specs.List.{list_all}
 use Rattle.std.proofs.lemmas.Bool.{and_parts, le-leb}
 use lib.Pointwise.{pointwise}
@@ -8,32 +8,23 @@ use Rattle.pads_calc.specs.declared.decl.Shape.{Shape}
 use Rattle.pads_module.specs.Counts.{few, counts_fit, decl_counts, module_counts}
 use Rattle.pads_module.specs.Scopes.{module_in_scope, decl_in_scope, shape_there}
 use Rattle.pads_module.specs.Scopes as scopes
-use Rattle.pads_calc.specs.Skeletons.{keeping_of, keepings_of, skeleton_of}
+use Rattle.pads_calc.specs.Skeletons.{keeping_of, keepings_of}
 use Rattle.pads_image.specs.Skeletons.{kept_in, same_skeleton}
-use Rattle.pads_module.specs.Straight.{all_straight}
 use Rattle.pads_image.specs.declared.entry.Entry.{Entry}
-use Rattle.pads_image.specs.Code.{code_from, entries_from, code_of, entries_of, length_of, decl_length}
-use Rattle.pads_image.specs.Opened.{Body}
+use Rattle.pads_image.specs.Code.{entries_from, code_of, entries_of, length_of, decl_length}
 use Rattle.pads_image.specs.Reads.{bodies_of}
 use Rattle.pads_image.specs.Validity.{is_valid, longest, begin_at, keep_of, params_of, arities_of, variables_stand}
 use Rattle.pads_image.specs.Variables.{code_stands, later_params, next_params}
 use Rattle.pads_image.proofs.Closed.{both}
 use Rattle.pads_image.proofs.Lengths.{length-code_from}
-use Rattle.pads_image.proofs.ReadBack.{bodies_from, bodies-back}
+use Rattle.pads_image.proofs.ReadBack.{same-number}
+use Rattle.pads_image.proofs.ReadDecls.{bodies-back, bodies-are}
 use Rattle.pads_image.proofs.SameSkeletons.{same-itself}
 use Rattle.pads_image.proofs.Standing.{params_in, decls-stand}
 
-same-number : (n : ℕ) → nat_eq n n ≡ true
-same-number n = eq-eqb n n refl
-
-firsts-same : (decls : List Decl) (p : ℕ) → pointwise nat_eq (map (λ (body : Body). body.first) (bodies_from decls p)) (map (λ (entry : Entry). entry.first) (entries_from decls p)) ≡ true
-firsts-same [] p = refl
-firsts-same (decl ∷ decls) p = both (nat_eq p p) _ (same-number p) (firsts-same decls (p + decl_length decl))
-
-skeletons-same : (decls : List Decl) (p : ℕ)
-    → pointwise same_skeleton (map (λ (body : Body). skeleton_of body.term) (bodies_from decls p)) (map (λ (entry : Entry). entry.skeleton) (entries_from decls p)) ≡ true
-skeletons-same [] p = refl
-skeletons-same (decl ∷ decls) p = both (same_skeleton (skeleton_of decl.body) (skeleton_of decl.body)) _ (same-itself (skeleton_of decl.body)) (skeletons-same decls (p + decl_length decl))
+itself : {A : Type 0} (E : A → A → Bool) → ((x : A) → E x x ≡ true) → (xs : List A) → pointwise E xs xs ≡ true
+itself E same [] = refl
+itself E same (x ∷ xs) = both (E x x) (pointwise E xs xs) (same x) (itself E same xs)
 
 pub kept-same : (decls : List Decl) (p : ℕ) → kept_in (entries_from decls p) ≡ keepings_of decls
 kept-same [] p = refl
@@ -60,7 +51,7 @@ count-same (decl ∷ decls) p = ap (λ n. suc n) (count-same decls (p + decl_len
 short : (n m : ℕ) → n ≤ m → nat_le n m ≡ true
 short n m less = le-leb n m less
 
-module _ (decls : List Decl) (names : List (List ℕ)) (shape : Shape) (counted : module_counts decls ≡ true) (scoped : module_in_scope decls names shape ≡ true) (straight : all_straight decls ≡ true) where
+module _ (decls : List Decl) (names : List (List ℕ)) (shape : Shape) (counted : module_counts decls ≡ true) (scoped : module_in_scope decls names shape ≡ true) where
   fits : list_all decl_counts decls ≡ true
   fits = (and_parts (few decls) (list_all decl_counts decls) counted).1
 
@@ -71,16 +62,22 @@ module _ (decls : List Decl) (names : List (List ℕ)) (shape : Shape) (counted 
   there = (and_parts (list_all (decl_in_scope (length names) (scopes.arities_of decls)) decls) (shape_there (length decls) shape) scoped).1
 
   begins : begin_at (bodies_of (code_of decls)) (entries_of decls) ≡ true
-  begins = ap (λ bodies. begin_at bodies (entries_of decls)) (bodies-back decls fits straight) ∙ firsts-same decls 0
+  begins =
+      ap (λ bodies. begin_at bodies (entries_of decls)) (bodies-are decls fits)
+      ∙ ap (λ firsts. pointwise nat_eq firsts (map (λ (entry : Entry). entry.first) (entries_of decls))) (bodies-back decls fits).firsts
+      ∙ itself nat_eq same-number (map (λ (entry : Entry). entry.first) (entries_of decls))
 
   keeps : keep_of (bodies_of (code_of decls)) (entries_of decls) ≡ true
-  keeps = ap (λ bodies. keep_of bodies (entries_of decls)) (bodies-back decls fits straight) ∙ skeletons-same decls 0
+  keeps =
+      ap (λ bodies. keep_of bodies (entries_of decls)) (bodies-are decls fits)
+      ∙ ap (λ kept. pointwise same_skeleton kept (map (λ (entry : Entry). entry.skeleton) (entries_of decls))) (bodies-back decls fits).skeletons
+      ∙ itself same_skeleton same-itself (map (λ (entry : Entry). entry.skeleton) (entries_of decls))
 
   variables : variables_stand (code_of decls) (entries_of decls) ≡ true
   variables =
       ap (λ arities. code_stands arities (later_params (params_of (entries_of decls))) (next_params (params_of (entries_of decls))) (code_of decls)) (arities-same decls 0)
       ∙ ap (λ params. code_stands (scopes.arities_of decls) (later_params params) (next_params params) (code_of decls)) (params-same decls 0)
-      ∙ decls-stand (length names) (scopes.arities_of decls) decls fits straight bound 0
+      ∙ decls-stand (length names) (scopes.arities_of decls) decls fits bound 0
 
   pub valid-code : length_of decls ≤ longest → is_valid (code_of decls) (entries_of decls) shape ≡ true
   valid-code less =

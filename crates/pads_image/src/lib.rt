@@ -10,5 +10,5 @@ mod op;
 
 pub use entry::{Entries, Entry};
 pub use image::Image;
-pub use laws::{straight_code_is_valid, straight_code_stands_for_its_module};
+pub use laws::{code_is_valid, code_stands_for_its_module};
 pub use op::{Op, Ops, Target, Targets};
