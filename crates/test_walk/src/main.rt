@@ -1,6 +1,7 @@
-//! Compares what is told of the rows of four tables with what must be told, which was worked out by hand:
+//! Compares what is told of the rows of five tables with what must be told, which was worked out by hand:
 //! `rows.txt` has what records read as, `modules.txt` the terms that descriptions stand for, `lines.txt` the
-//! lines of JSON of records, and `masks.txt` modules and records under masks.
+//! lines of JSON of records, `masks.txt` modules and records under masks, and `inputs.txt` the inputs of the runs of test_runs.
+//! Each record is read by the terms of its module and by their image, and must read the same by both.
 #![tactic(auto)]
 
 mod base_text;
@@ -19,5 +20,6 @@ fn main(rt: HostRuntime) -> io::Result<()> {
     table::compare(&rt, "rows.txt")?;
     table::compare(&rt, "modules.txt")?;
     table::compare(&rt, "lines.txt")?;
-    table::compare(&rt, "masks.txt")
+    table::compare(&rt, "masks.txt")?;
+    table::compare(&rt, "inputs.txt")
 }

@@ -15,6 +15,8 @@ pub(crate) enum Order<'t> {
     Mask(&'t str),
     /// `terms`: the description's module.
     Terms,
+    /// `same` and a record: whether it reads the same by the description's terms and by their image.
+    Same(Record<'t>),
     /// What a record reads as.
     Read(Record<'t>),
     /// `json` and a record: its line of JSON.
@@ -80,6 +82,10 @@ pub(crate) fn order_of(line: &str) -> Option<Order<'_>> {
     }
     if word == "nest" {
         return Some(Order::Nest(rest.parse::<u64>().ok()?));
+    }
+    if word == "same" {
+        let (number, rest) = rest.split_once(' ')?;
+        return Some(Order::Same(record_of(number, rest)?));
     }
     if word == "json" {
         let (number, rest) = rest.split_once(' ')?;

@@ -1,4 +1,5 @@
-//! Tells what the lines of a table ask for.
+//! Tells what the lines of a table ask for. Each record is read twice, by the terms of its module and by their image, and
+//! where the two rows aren't the same, that is told in their place.
 use crate::line::Line;
 use crate::masks::mask_of;
 use crate::order::{Order, Record, order_of};
@@ -6,8 +7,10 @@ use crate::row_text::put_row;
 use crate::term_text::{put_decl, put_names, put_shape};
 use hex::FromHexError;
 use pads_code::Coding;
+use pads_compile::compile;
 use pads_describe::describe;
 use pads_json::record_line;
+use pads_machine::Machine;
 use pads_mask::mask_module;
 use pads_module::Module;
 use pads_value::{Frame, Mark, Memory, Refusal, Row};
@@ -71,6 +74,28 @@ fn bytes_of(alloc: Global, word: &str) -> Result<Vec<u8>, Trouble> {
     }
 }
 
+/// The row of a record by the image of its module.
+fn read_by_image(alloc: Global, module: &Module, number: u64, frame: &Frame) -> Result<Row, Trouble> {
+    let image = match compile(alloc, module) {
+        Ok(image) => image,
+        Err(Refusal::Fault(_)) => return Err(Trouble::Line("the image is too large")),
+        Err(Refusal::Memory) => return Err(Trouble::Memory),
+    };
+    let mut machine = Machine::new(alloc, &image)?;
+    Ok(machine.read_record(alloc, &image, number, frame)?)
+}
+
+/// The row of a record, which must be the same by the module's terms and by its image.
+fn read_both(alloc: Global, module: &Module, number: u64, frame: &Frame) -> Result<Row, Trouble> {
+    let by_image = read_by_image(alloc, module, number, frame)?;
+    let row = walk(alloc, module, number, frame)?;
+    if row_told(alloc, &by_image)? == row_told(alloc, &row)? {
+        Ok(row)
+    } else {
+        Err(Trouble::Line("the image reads otherwise"))
+    }
+}
+
 /// The row of a record whose bytes are there.
 fn read(alloc: Global, module: &Module, record: &Record) -> Result<Row, Trouble> {
     let bytes = bytes_of(alloc, record.rest)?;
@@ -89,7 +114,7 @@ fn read(alloc: Global, module: &Module, record: &Record) -> Result<Row, Trouble>
         bytes: bytes.as_slice(),
         mark,
     };
-    Ok(walk(alloc, module, record.number, &frame)?)
+    read_both(alloc, module, record.number, &frame)
 }
 
 /// The row of a record whose bytes aren't kept.
@@ -111,7 +136,7 @@ fn unread(alloc: Global, module: &Module, record: &Record) -> Result<Row, Troubl
         bytes: b"",
         mark,
     };
-    Ok(walk(alloc, module, record.number, &frame)?)
+    read_both(alloc, module, record.number, &frame)
 }
 
 fn row_of(alloc: Global, module: &Module, record: &Record) -> Result<Row, Trouble> {
@@ -191,6 +216,10 @@ fn answer(alloc: Global, module: &mut Option<Module>, order: Order) -> Result<St
         }
         Order::Mask(words) => mask(alloc, module, words),
         Order::Terms => Ok(module_told(alloc, above(module)?)?),
+        Order::Same(record) => {
+            row_of(alloc, above(module)?, &record)?;
+            Ok(String::from_str(alloc, "same\n")?)
+        }
         Order::Read(record) => Ok(row_told(alloc, &row_of(alloc, above(module)?, &record)?)?),
         Order::Json(record) => {
             let module = above(module)?;
