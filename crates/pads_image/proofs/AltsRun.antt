@@ -1,10 +1,9 @@
 -- The code of a union runs as the union reads, where the code of each branch does: each is tried at the
 -- place of the mark, which the first clean one, or the end of the branches, takes away.
-use Rattle.std.proofs.Common.{◌≡◌, ◌∙◌, sym, ap, refl, arith, true, false, Bool, if◌then◌else◌, ℕ, zero, suc, ◌+◌, ◌≤◌, List, [], ◌∷◌, ◌++◌, length, map, Option, Some, None, slice_get}
+use Rattle.std.proofs.Common.{◌≡◌, ◌∙◌, ap, refl, arith, Bool, if◌then◌else◌, ℕ, suc, ◌+◌, ◌≤◌, List, [], ◌∷◌, ◌++◌, length, map, Some, slice_get}
 use Rattle.pads_value.specs.declared.cause.Cause.TheVariants as cause
 use Rattle.pads_calc.specs.declared.reading.Reading.{Reading}
 use Rattle.pads_calc.specs.declared.term.Arm.{Arm}
-use Rattle.pads_calc.specs.declared.term.Term.{Term}
 use Rattle.pads_calc.specs.Calculus.{Caller, read, arm_reader}
 use Rattle.pads_calc.specs.Choices.{branch_of, alt_from}
 use Rattle.pads_calc.specs.Readings.{Subject, fails, is_ok}

@@ -1,10 +1,10 @@
 -- Where the instructions of an array stand, and how many entries there may be at each of them.
-use Rattle.std.proofs.Common.{◌≡◌, ◌∙◌, ap, refl, subst, arith, ℕ, ◌+◌, ◌-◌, ◌≤◌, List, [], ◌∷◌, ◌++◌, length, length-append, append_assoc, Option, None, Some, option_map, slice_get}
+use Rattle.std.proofs.Common.{◌≡◌, ◌∙◌, ap, refl, subst, arith, ℕ, ◌+◌, ◌≤◌, List, [], ◌∷◌, ◌++◌, length, append_assoc, Option, Some, option_map, slice_get}
 use Rattle.pads_calc.specs.declared.term.Seq.{Seq}
 use Rattle.pads_calc.specs.declared.term.Term.{Term}
 use Rattle.pads_image.specs.declared.op.Op.{Op}
 use Rattle.pads_image.specs.declared.op.Op.TheVariants as op
-use Rattle.pads_image.specs.Blocks.{Block, stop_size, stop_code, sep_size, sep_code, edge_at, elem_at, shut_at, layout, seq_layout}
+use Rattle.pads_image.specs.Blocks.{Block, stop_code, sep_code, edge_at, elem_at, shut_at, layout, seq_layout}
 use Rattle.pads_image.specs.Heights.{Deeper, entries_at, height_after}
 use Rattle.pads_image.proofs.Lengths.{sized, stop-sized, sep-sized}
 use Rattle.pads_image.proofs.LevelledTerms.{levelled, option-levelled}
@@ -116,15 +116,15 @@ module _ (code : List Op) (deeper : Deeper) (most below : ℕ) where
         let regrouped : behind_full ≡ stops ++ behind_stop = append_assoc (stops ++ turn_part) inner final ∙ append_assoc stops turn_part (inner ++ final) in
         let at_full = rest p h (op.Size s.size (shut + 1)) behind_size (p + 1) (h + 1) refl refl spot in
         let at_stop = subst (λ (ops : List Op). Spot (p + 2) (h + 1) ops) regrouped (rest (p + 1) (h + 1) (op.Full s.last s.elts shut) behind_full (p + 2) (h + 1) (omega arith) refl at_full) in
-        let at_edge = right (p + 2) (h + 1) stops behind_stop edge (h + 1) 
+        let at_edge = right (p + 2) (h + 1) stops behind_stop edge (h + 1)
         (ap (λ n. p + 2 + n) (stop-sized s.stop (λ t there. sized t) shut (p + 2)))
         (stop-level deeper most stop (option-levelled deeper most s.stop (λ t there. levelled deeper most t)) shut (p + 2) (h + 1)) at_stop in
         let at_turn = rest edge (h + 1) (op.Edge shut) (op.Turn first ∷ behind_turn) (edge + 1) (h + 1) refl refl at_edge in
         let at_sep = rest (edge + 1) (h + 1) (op.Turn first) behind_turn (edge + 2) (h + 2) (omega arith) (omega arith) at_turn in
-        let at_elem = right (edge + 2) (h + 2) seps (inner ++ final) first (h + 2) 
+        let at_elem = right (edge + 2) (h + 2) seps (inner ++ final) first (h + 2)
         (ap (λ n. edge + 2 + n) (sep-sized s.sep (λ t there. sized t) shut (edge + 2)))
         (sep-level deeper most sep (option-levelled deeper most s.sep (λ t there. levelled deeper most t)) shut (edge + 2) (h + 2)) at_sep in
-        let at_kept = right first (h + 2) inner final (first + elem.size) (h + 2) 
+        let at_kept = right first (h + 2) inner final (first + elem.size) (h + 2)
         (ap (λ n. first + n) (sized s.elem first)) ((levelled deeper most s.elem).level first (h + 2)) at_elem in
         let at_shut = rest (first + elem.size) (h + 2) (op.Elem shut (p + 1)) (op.Shut ∷ []) shut (h + 1) refl (omega arith) at_kept in
         record {

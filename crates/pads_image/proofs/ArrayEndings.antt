@@ -1,9 +1,8 @@
 -- Before each element the machine ends the array where the calculus does, by the size, the last element, the
 -- terminator or the record's end, and with the same cause; else it comes behind Edge.
-use Rattle.std.proofs.Common.{◌≡◌, ◌∙◌, ap, refl, subst, arith, ℕ, suc, ◌+◌, ◌≤◌, Bool, cond, true, false, List, ◌∷◌, length, Option, Some, None, option_map}
+use Rattle.std.proofs.Common.{◌≡◌, ap, refl, subst, arith, ℕ, ◌+◌, ◌≤◌, Bool, cond, true, false, List, ◌∷◌, length, Option, Some, None, option_map}
 use Rattle.pads_value.specs.declared.descriptor.Pd.{Pd}
 use Rattle.pads_value.specs.declared.value.Val.{Val}
-use Rattle.pads_expr.specs.Value.{Pairs}
 use Rattle.pads_calc.specs.declared.reading.Reading.{Reading}
 use Rattle.pads_calc.specs.declared.turn.Ending.{Ending}
 use Rattle.pads_calc.specs.declared.turn.Ending.TheVariants as ending
@@ -16,7 +15,7 @@ use Rattle.pads_calc.proofs.Induction.{WhereThere}
 use Rattle.pads_image.specs.declared.op.Op.TheVariants as op
 use Rattle.pads_image.specs.Blocks.{stop_size, stop_code, layout}
 use Rattle.pads_image.specs.States.{State, Node, Mark}
-use Rattle.pads_image.specs.Steps.{Step, Goes, does, mark_at, back_to}
+use Rattle.pads_image.specs.Steps.{Goes, does, mark_at, back_to}
 use Rattle.pads_image.proofs.ArrayCode.{Spot, stop-laid}
 use Rattle.pads_image.proofs.ArrayStates.{Array, Given, Term_runs, read_of, reader, To_in, Reached, full, edge, shut, env, holds, running, seen-running, stay, steps, term-runs, and-then}
 use Rattle.pads_image.proofs.Reaching.{join, to-same}

@@ -1,5 +1,5 @@
 -- The code of an array runs as the array reads, where its element, its terminator and its separator do.
-use Rattle.std.proofs.Common.{◌≡◌, ◌∙◌, sym, ap, refl, subst, arith, ℕ, zero, suc, ◌+◌, ◌-◌, ◌<◌, ◌≤◌, Bool, true, false, List, [], ◌∷◌, ◌++◌, length, append_assoc, Option, Some, None}
+use Rattle.std.proofs.Common.{◌≡◌, ap, refl, subst, arith, ℕ, zero, suc, ◌+◌, ◌≤◌, List, [], ◌∷◌, ◌++◌, length, append_assoc, Option, Some, None}
 use Rattle.pads_value.specs.declared.cause.Cause.{Cause}
 use Rattle.pads_value.specs.declared.cause.Cause.TheVariants as cause
 use Rattle.pads_value.specs.declared.descriptor.Pd.{Pd}
@@ -30,7 +30,7 @@ use Rattle.pads_image.specs.States.{State, seen}
 use Rattle.pads_image.specs.Steps.{Goes, does}
 use Rattle.pads_image.proofs.ArrayCode.{laid}
 use Rattle.pads_image.proofs.ArrayEndings.{Ends_as, ends}
-use Rattle.pads_image.proofs.ArrayStates.{Array, Given, Term_runs, reader, To_in, Reached, full, edge, shut, env, holds, running, stay, steps, and-then}
+use Rattle.pads_image.proofs.ArrayStates.{Array, Given, reader, To_in, Reached, full, edge, shut, env, holds, running, steps, and-then}
 use Rattle.pads_image.proofs.ArrayTurns.{Turns_as, turns}
 use Rattle.pads_image.proofs.Reaching.{To, join, to-same}
 use Rattle.pads_image.proofs.Running.{Ready, RunsAs, behind}

@@ -1,6 +1,6 @@
 -- The states of an array that runs: a node over those that there were, with what is read of it so far. What
 -- was read last counts by its place alone.
-use Rattle.std.proofs.Common.{◌≡◌, ◌∙◌, sym, ap, refl, subst, arith, ℕ, suc, ◌+◌, ◌-◌, ◌≤◌, List, [], ◌∷◌, length, take, Option, Some, None, option_map}
+use Rattle.std.proofs.Common.{◌≡◌, ap, refl, arith, ℕ, ◌+◌, ◌≤◌, List, ◌∷◌, length, Option, None, option_map}
 use Rattle.pads_value.specs.declared.cause.Cause.{Cause}
 use Rattle.pads_value.specs.declared.descriptor.Pd.{Pd}
 use Rattle.pads_value.specs.declared.value.Val.{Val}
@@ -21,7 +21,7 @@ use Rattle.pads_image.specs.States.{State, Node, Mark, entries, base_of, seen}
 use Rattle.pads_image.specs.Steps.{Goes, does}
 use Rattle.pads_image.proofs.ArrayCode.{Spot, One, Laid}
 use Rattle.pads_image.proofs.Reaching.{To, here, once, join, to-same}
-use Rattle.pads_image.proofs.Running.{Ready, RunsAs, behind}
+use Rattle.pads_image.proofs.Running.{RunsAs, behind}
 
 -- an array, and where it runs
 pub record Array : Type 0 where
@@ -78,9 +78,6 @@ module _ (a : Array) where
   abbrev pub shut : ℕ
   shut = shut_at (option_map layout a.seq.stop) (option_map layout a.seq.sep) (layout a.seq.elem) a.first
 
-  pub stay : (s : State) → To_in s s
-  stay s = here a.code a.of_entries a.subject a.most s
-
   abbrev pub env : Pairs
   env = seen a.start
 
@@ -94,6 +91,9 @@ module _ (a : Array) where
   pub seen-running : (q : ℕ) (r : Reading) (n : Node) (marks : List Mark) → seen (running q r n marks) ≡ env
   unfolding seen
   seen-running q r n marks = refl
+
+  pub stay : (s : State) → To_in s s
+  stay s = here a.code a.of_entries a.subject a.most s
 
   -- from a state to an address, at a place
   pub record Reached (s : State) (q : ℕ) (n : Node) (marks : List Mark) (j : ℕ) : Type 0 where

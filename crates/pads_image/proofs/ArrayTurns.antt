@@ -1,11 +1,9 @@
 -- A turn of an array's code reads the element that the calculus does, behind the separator, and keeps it; or
 -- the turn is undone, the place is where it began, and the array has the same cause.
-use Rattle.std.proofs.Common.{◌≡◌, ◌∙◌, sym, ap, refl, subst, arith, ℕ, suc, ◌+◌, ◌-◌, ◌≤◌, Bool, cond, if◌then◌else◌, true, false, not, ◌&&◌, nat_eq, List, [], ◌∷◌, ◌++◌, length, Option, Some, None, option_map}
+use Rattle.std.proofs.Common.{◌≡◌, ap, refl, arith, ℕ, ◌+◌, ◌≤◌, Bool, cond, if◌then◌else◌, true, false, not, ◌&&◌, nat_eq, List, [], ◌∷◌, ◌++◌, length, Option, Some, None, option_map}
 use Rattle.std.proofs.Math.Dec.{eqb-suc-zero}
-use Rattle.pads_value.specs.declared.cause.Cause.{Cause}
 use Rattle.pads_value.specs.declared.cause.Cause.TheVariants as cause
 use Rattle.pads_value.specs.declared.descriptor.Pd.{Pd, out-Pd}
-use Rattle.pads_value.specs.declared.descriptor.Span.{Span}
 use Rattle.pads_value.specs.declared.value.Val.{Val}
 use Rattle.pads_calc.specs.declared.reading.Reading.{Reading}
 use Rattle.pads_calc.specs.declared.turn.Turn.{Turn}
@@ -20,11 +18,12 @@ use Rattle.pads_calc.proofs.Induction.{WhereThere}
 use Rattle.pads_calc.proofs.Turns.{turn-within}
 use Rattle.pads_image.specs.declared.op.Op.TheVariants as op
 use Rattle.pads_image.specs.Blocks.{sep_size, sep_code, layout}
-use Rattle.pads_image.specs.States.{State, Node, Mark}
+use Rattle.pads_image.specs.States.{State, Node}
 use Rattle.pads_image.specs.Steps.{Goes, does, mark_at, back_to, began}
 use Rattle.pads_image.proofs.ArrayCode.{Spot, sep-laid}
 use Rattle.pads_image.proofs.ArrayStates.{Array, Given, Term_runs, read_of, reader, To_in, Reached, full, edge, elem_first, shut, env, holds, running, steps, term-runs}
 use Rattle.pads_image.proofs.Reaching.{join, to-same}
+use Rattle.pads_image.proofs.SwitchesRun.{began-sound}
 
 first-is : (vs : List Val) → nat_eq (length vs) 0 ≡ is_empty vs
 first-is [] = refl
@@ -66,28 +65,25 @@ module _ (a : Array) (g : Given a) (vs : List Val) (ks : List Pd) where
   sep-undone q j r ok = rw ok refl
 
   -- what Elem does with an element
-  module _ (q j begin : ℕ) (r : Reading) (starts : (out-Pd r.pd).span.begin ≡ a.subject.origin + begin) where
+  module _ (q j begin : ℕ) (r : Reading) (starts : began a.subject.origin r ≡ begin) where
     abbrev fallen : Bool
     fallen = is_fail_class (out-Pd r.pd).class && nat_eq r.place begin
 
     abbrev stalled : Bool
     stalled = not (is_empty vs) && nat_eq r.place j
 
-    began-is : began a.subject.origin r ≡ begin
-    began-is = omega (arith, starts)
-
     elem-fallen : fallen ≡ true
         → does a.of_entries a.subject (op.Elem (shut a) (full a)) (turning q r j) ≡ Goes (running a (shut a) (back_to j r) (holds a vs ks (Some cause.ArrayElem)) a.start.marks)
-    elem-fallen fell = rw (began-is, fell) refl
+    elem-fallen fell = rw (starts, fell) refl
 
     elem-stalled : fallen ≡ false → stalled ≡ true
         → does a.of_entries a.subject (op.Elem (shut a) (full a)) (turning q r j) ≡ Goes (running a (shut a) (back_to j r) (holds a vs ks (Some cause.ArrayStall)) a.start.marks)
-    elem-stalled fell stall = rw (began-is, fell, first-is vs, stall) refl
+    elem-stalled fell stall = rw (starts, fell, first-is vs, stall) refl
 
     elem-kept : fallen ≡ false → stalled ≡ false
         → does a.of_entries a.subject (op.Elem (shut a) (full a)) (turning q r j)
         ≡ Goes (running a (full a) (unit_of a.subject.origin r.place) (holds a (vs ++ r.value ∷ []) (ks ++ r.pd ∷ []) None) a.start.marks)
-    elem-kept fell stall = rw (began-is, fell, first-is vs, stall) refl
+    elem-kept fell stall = rw (starts, fell, first-is vs, stall) refl
 
   -- from Turn on
   module _ (r : Reading) (within : r.place ≤ length a.subject.bytes) where
@@ -155,7 +151,7 @@ module _ (a : Array) (g : Given a) (vs : List Val) (ks : List Pd) where
         (is_ok parted) refl
 
   -- from the element on
-  elem-by : (s : State) (q j begin : ℕ) (r : Reading) → (out-Pd r.pd).span.begin ≡ a.subject.origin + begin → EndsWithin a.subject.bytes j r
+  elem-by : (s : State) (q j begin : ℕ) (r : Reading) → began a.subject.origin r ≡ begin → EndsWithin a.subject.bytes j r
       → ((t : State) → does a.of_entries a.subject (op.Elem (shut a) (full a)) (turning q r j) ≡ Goes t → To_in a s t)
       → (fell stall : Bool) → (is_fail_class (out-Pd r.pd).class && nat_eq r.place begin) ≡ fell → (not (is_empty vs) && nat_eq r.place j) ≡ stall
       → Turns_as s j (if fell then turn.Undone cause.ArrayElem else if stall then turn.Undone cause.ArrayStall else turn.Kept r)
@@ -189,7 +185,7 @@ module _ (a : Array) (g : Given a) (vs : List Val) (ks : List Pd) where
       let to : To_in a before read = to-same a.code a.of_entries a.subject a.most before (turning behind (at got.reached.last.place) j) read (ap (λ r. turning behind r j) same)
       (term-runs a g a.seq.elem g.runs.elem q (a.height + 2) got.reached.last vs ks (mark_at j ∷ a.start.marks) g.laid.inner
       (omega (arith, got.reached.place, got.within)) (omega (arith, g.counted))) in
-      elem-by s behind j begin r (ap (λ (s : Span). s.begin) sound.span) (omega (arith, got.forth, sound.forth), sound.within got.within)
+      elem-by s behind j begin r (began-sound a.subject begin r sound) (omega (arith, got.forth, sound.forth), sound.within got.within)
       (λ u does. join a.code a.of_entries a.subject a.most s before u got.reached.run
       (join a.code a.of_entries a.subject a.most before read u to
       (steps a g read u behind (a.height + 2) (op.Elem (shut a) (full a)) g.laid.kept refl (omega arith) (omega (arith, g.counted)) does)))

@@ -1,5 +1,5 @@
 -- Where the code of a declaration stands, and what its need bounds.
-use Rattle.std.proofs.Common.{◌≡◌, ◌∙◌, sym, ap, refl, subst, arith, ℕ, zero, suc, ◌+◌, ◌≤◌, max, List, [], ◌∷◌, ◌++◌, length, length-append, append_assoc, map, drop, get_or, Option, Some, None, slice_get, true}
+use Rattle.std.proofs.Common.{◌≡◌, ◌∙◌, sym, ap, refl, subst, arith, ℕ, zero, suc, ◌+◌, ◌≤◌, max, List, [], ◌∷◌, ◌++◌, length, length-append, append_assoc, drop, get_or, Some, None, slice_get}
 use Rattle.pads_calc.specs.declared.decl.Decl.{Decl}
 use Rattle.pads_module.specs.Scopes.{arities_of}
 use Rattle.pads_calc.specs.Skeletons.{skeleton_of}

@@ -1,7 +1,6 @@
 -- Each record's run halts with the calculus' reading of its type, and never needs more
 -- stack entries than the need.
-use Rattle.std.proofs.Common.{◌≡◌, ◌≢◌, ◌∙◌, sym, ap, refl, subst, arith, ℕ, zero, suc, ◌+◌, ◌-◌, ◌<◌, ◌≤◌, max, Bool, cond, true, ◌&&◌, nat_lt, List, [], ◌∷◌, ◌++◌, length, length-append, map, take, drop, get_or, Option, Some, None, slice_get}
-use Rattle.pads_value.specs.Cuts.{Cut}
+use Rattle.std.proofs.Common.{◌≡◌, ◌∙◌, sym, ap, refl, subst, arith, ℕ, zero, suc, ◌+◌, ◌-◌, ◌<◌, ◌≤◌, Bool, cond, true, ◌&&◌, nat_lt, List, [], ◌∷◌, ◌++◌, length, length-append, take, drop, get_or, Option, Some, None, slice_get}
 use Rattle.pads_value.specs.declared.cause.Cause.TheVariants as cause
 use Rattle.pads_expr.specs.declared.expr.Expr.{Expr}
 use Rattle.pads_expr.specs.Value.{Pairs}
@@ -28,14 +27,14 @@ use Rattle.pads_image.specs.Code.{code_of, entries_of}
 use Rattle.pads_image.specs.Heights.{Deeper, call_needs, inside, need_of, needs, stack_need}
 use Rattle.pads_image.specs.Validity.{arities_of as arities_of_entries}
 use Rattle.pads_image.specs.States.{State, Caller, entries, floor_of, seen}
-use Rattle.pads_image.specs.Steps.{Goes, Halts, Stuck, does_there, call_step, call_in}
+use Rattle.pads_image.specs.Steps.{Goes, Stuck, does_there, call_step, call_in}
 use Rattle.pads_image.proofs.Declared.{Declared, declared, undeclared, entry_for, needs_of, stands}
 use Rattle.pads_image.proofs.ValidCode.{arities-same, kept-same}
-use Rattle.pads_image.proofs.Levels.{AllBelow, below-left, below-right}
+use Rattle.pads_image.proofs.Levels.{below-left, below-right}
 use Rattle.pads_image.proofs.LevelledTerms.{levelled}
 use Rattle.pads_image.proofs.Lengths.{sized}
 use Rattle.pads_image.proofs.Places.{first-there, left-there, right-there}
-use Rattle.pads_image.proofs.Reaching.{To, once, join, to-same, seen-is, seen-behind, bound-over, bound-length, take-over, drop-over}
+use Rattle.pads_image.proofs.Reaching.{To, once, join, to-same, seen-is, bound-over, bound-length, take-over, drop-over}
 use Rattle.pads_image.proofs.Running.{Ready, RunsAs}
 use Rattle.pads_image.proofs.TermsRun.{CallRuns, runs}
 

@@ -1,5 +1,5 @@
 -- The layout of a term has as many instructions as its size says, wherever it begins.
-use Rattle.std.proofs.Common.{◌≡◌, ◌∙◌, sym, ap, refl, subst, arith, ℕ, zero, suc, ◌+◌, ◌<◌, ◌≤◌, List, [], ◌∷◌, ◌++◌, length, length-append, map, Option, None, Some, option_map, slice_get}
+use Rattle.std.proofs.Common.{◌≡◌, sym, refl, subst, arith, ℕ, suc, ◌+◌, List, [], ◌∷◌, ◌++◌, length, length-append, map, Option, None, Some, option_map}
 use Rattle.pads_expr.specs.declared.expr.Expr.{Expr}
 use Rattle.pads_calc.specs.declared.decl.Decl.{Decl}
 use Rattle.pads_calc.specs.declared.term.Arm.{Arm}
@@ -7,12 +7,11 @@ use Rattle.pads_calc.specs.declared.term.Case.{Case}
 use Rattle.pads_calc.specs.declared.term.Part.{Part}
 use Rattle.pads_calc.specs.declared.term.Seq.{Seq}
 use Rattle.pads_calc.specs.declared.term.Term.{Term}
-use Rattle.pads_calc.specs.declared.term.Term.TheVariants as term
 use Rattle.pads_calc.proofs.Induction.{EachPart, EachArm, EachCase, EachForm, InSeq, each-term}
 use Rattle.pads_image.specs.declared.op.Op.{Op}
 use Rattle.pads_image.specs.declared.op.Op.TheVariants as op
-use Rattle.pads_image.specs.Blocks.{Block, single, followed, named, parts_size, parts_code, struct_block, arms_size, arms_code, alt_block, blocks, switch_block, scan_block, stop_size, stop_code, sep_size, sep_code, edge_at, elem_at, shut_at, seq_code, layout, part_layout, case_layout, seq_layout}
-use Rattle.pads_image.specs.Code.{code_from, length_of, code_of}
+use Rattle.pads_image.specs.Blocks.{Block, followed, named, parts_size, parts_code, struct_block, arms_size, arms_code, alt_block, blocks, switch_block, scan_block, stop_size, stop_code, sep_size, sep_code, edge_at, elem_at, shut_at, layout, part_layout, case_layout, seq_layout}
+use Rattle.pads_image.specs.Code.{code_from, length_of}
 use Rattle.pads_image.proofs.Layouts.{layout-Unit, layout-Base, layout-Lit, layout-Eor, layout-Struct, layout-Alt, layout-Switch, layout-Guard, layout-Seq, layout-Call, layout-Compute, layout-Absorb, layout-Scan}
 
 abbrev pub Sized : Block → Type 0

@@ -1,5 +1,5 @@
 -- The code of each term leaves the height as it was.
-use Rattle.std.proofs.Common.{◌≡◌, sym, refl, subst, ℕ, zero, suc, List, [], ◌∷◌, map, Option, None, Some, option_map, slice_get}
+use Rattle.std.proofs.Common.{◌≡◌, sym, refl, subst, ℕ, suc, List, [], ◌∷◌, map, Option, None, Some, option_map}
 use Rattle.pads_calc.specs.declared.term.Arm.{Arm}
 use Rattle.pads_calc.specs.declared.term.Case.{Case}
 use Rattle.pads_calc.specs.declared.term.Seq.{Seq}

@@ -1,6 +1,6 @@
 -- Heights and needs over code: what a need over it bounds at each of its instructions. Where the code of the
 -- terms in a form leaves the height as it was, the form's does.
-use Rattle.std.proofs.Common.{◌≡◌, ◌∙◌, sym, ap, refl, subst, arith, ℕ, zero, suc, ◌+◌, ◌-◌, ◌≤◌, max, Bool, true, false, if◌then◌else◌, List, [], ◌∷◌, ◌++◌, length, append_assoc, map, Option, Some, None, slice_get}
+use Rattle.std.proofs.Common.{◌≡◌, ◌∙◌, ap, refl, subst, arith, ℕ, suc, ◌+◌, ◌-◌, ◌≤◌, max, Bool, false, if◌then◌else◌, List, [], ◌∷◌, ◌++◌, map, Option, Some, None, slice_get}
 use Rattle.std.specs.Prelude.{⊤}
 use Rattle.pads_expr.specs.declared.expr.Expr.{Expr}
 use Rattle.pads_calc.specs.declared.term.Part.{Part}

@@ -1,5 +1,5 @@
 -- Runs one behind another, and what a state sees.
-use Rattle.std.proofs.Common.{◌≡◌, ◌∙◌, sym, ap, refl, subst, arith, ℕ, zero, suc, ◌+◌, ◌-◌, ◌≤◌, List, [], ◌∷◌, ◌++◌, length, length-append, append_assoc, take, drop, Option, Some, None, slice_get}
+use Rattle.std.proofs.Common.{◌≡◌, ◌∙◌, sym, ap, refl, subst, arith, ℕ, zero, suc, ◌+◌, ◌-◌, ◌≤◌, List, [], ◌∷◌, ◌++◌, length, length-append, take, drop, Option, Some, None, slice_get}
 use Rattle.pads_value.specs.declared.value.Val.{Val}
 use Rattle.pads_expr.specs.Value.{Pairs}
 use Rattle.pads_dispatch.specs.declared.base.Arg.{Arg}
@@ -10,8 +10,8 @@ use Rattle.pads_calc.specs.Structs.{bind}
 use Rattle.pads_image.specs.declared.entry.Entry.{Entry}
 use Rattle.pads_image.specs.declared.op.Op.{Op}
 use Rattle.pads_image.specs.Answers.{Runs, Reaches}
-use Rattle.pads_image.specs.States.{State, Node, Mark, Caller, entries, seen, base_of}
-use Rattle.pads_image.specs.Steps.{Step, Goes, does, does_there, step}
+use Rattle.pads_image.specs.States.{State, Node, Mark, entries, seen, base_of}
+use Rattle.pads_image.specs.Steps.{Goes, does, does_there, step}
 
 module _ (code : List Op) (of_entries : List Entry) (subject : Subject) (most : ℕ) where
   abbrev pub To : State → State → Type 0

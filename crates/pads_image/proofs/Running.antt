@@ -1,9 +1,8 @@
 -- Code runs as it reads: from a state at the first instruction of a block to the one behind its last, where
 -- what was read last is what the block reads as, and all else is as before.
-use Rattle.std.proofs.Common.{◌≡◌, ◌∙◌, sym, ap, refl, subst, arith, ℕ, ◌+◌, ◌-◌, ◌≤◌, List, [], ◌∷◌, length}
+use Rattle.std.proofs.Common.{◌≡◌, ◌∙◌, sym, ap, refl, subst, arith, ℕ, ◌+◌, ◌≤◌, List, [], ◌∷◌, length}
 use Rattle.pads_expr.specs.Value.{Pairs}
 use Rattle.pads_calc.specs.declared.reading.Reading.{Reading}
-use Rattle.pads_calc.specs.Leaves.{base_of}
 use Rattle.pads_calc.specs.Readings.{Subject, Reader}
 use Rattle.pads_image.specs.declared.entry.Entry.{Entry}
 use Rattle.pads_image.specs.declared.op.Op.{Op}
@@ -12,7 +11,6 @@ use Rattle.pads_image.specs.Heights.{Deeper, entries_at}
 use Rattle.pads_image.specs.States.{State, entries, floor_of, seen}
 use Rattle.pads_image.specs.States as states
 use Rattle.pads_image.specs.Steps.{Goes, does}
-use Rattle.pads_image.proofs.Lengths.{sized}
 use Rattle.pads_image.proofs.Levels.{AllBelow, height_behind, below-left, below-right}
 use Rattle.pads_image.proofs.Places.{StandsAt, first-there, left-there, right-there}
 use Rattle.pads_image.proofs.Reaching.{To, once, join, to-same, seen-behind}

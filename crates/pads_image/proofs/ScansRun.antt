@@ -1,12 +1,12 @@
 -- The code of a search runs as the search reads, where the code of the term in it does: place by place, up
 -- to the first clean reading or the record's end, with the cause of the first try in the mark.
-use Rattle.std.proofs.Common.{◌≡◌, ◌∙◌, sym, ap, refl, arith, true, false, not, nat_lt, Bool, if◌then◌else◌, ℕ, zero, suc, ◌+◌, ◌-◌, ◌≤◌, List, [], ◌∷◌, ◌++◌, length, Option, Some, None}
+use Rattle.std.proofs.Common.{◌≡◌, ◌∙◌, sym, ap, refl, arith, true, false, nat_lt, if◌then◌else◌, ℕ, zero, suc, ◌+◌, ◌-◌, ◌≤◌, List, [], ◌∷◌, ◌++◌, length, Option, Some, None}
 use Rattle.pads_value.specs.declared.cause.Cause.{Cause}
 use Rattle.pads_calc.specs.declared.reading.Reading.{Reading}
 use Rattle.pads_calc.specs.declared.term.Term.{Term}
 use Rattle.pads_calc.specs.Calculus.{Caller, read}
 use Rattle.pads_calc.specs.Leaves.{at_end}
-use Rattle.pads_calc.specs.Readings.{Subject, Reader, fails, is_ok, blame}
+use Rattle.pads_calc.specs.Readings.{Subject, fails, is_ok, blame}
 use Rattle.pads_calc.specs.Wrappers.{found_at, scan, scan_from}
 use Rattle.pads_calc.proofs.Cases.{pick}
 use Rattle.pads_calc.proofs.Scans.{scan-none, scan-step}
@@ -16,8 +16,8 @@ use Rattle.pads_image.specs.declared.op.Op.{Op}
 use Rattle.pads_image.specs.declared.op.Op.TheVariants as op
 use Rattle.pads_image.specs.Blocks.{Block, scan_block, layout}
 use Rattle.pads_image.specs.Heights.{Deeper}
-use Rattle.pads_image.specs.States.{State, Mark, entries, seen}
-use Rattle.pads_image.specs.Steps.{Step, Goes, back_to, began, cause_or}
+use Rattle.pads_image.specs.States.{State, Mark, seen}
+use Rattle.pads_image.specs.Steps.{Step, Goes, back_to, cause_or}
 use Rattle.pads_image.proofs.LevelledTerms.{levelled}
 use Rattle.pads_image.proofs.Lengths.{sized}
 use Rattle.pads_image.proofs.Levels.{below-left, below-right}

@@ -1,5 +1,5 @@
 -- The code of a struct runs as the struct reads, where the code of each part does.
-use Rattle.std.proofs.Common.{◌≡◌, ◌∙◌, sym, ap, refl, arith, true, Bool, cond, eqb, ℕ, suc, ◌+◌, ◌-◌, ◌≤◌, List, [], ◌∷◌, ◌++◌, length, append_assoc, map, drop, Option, Some, None, slice_get}
+use Rattle.std.proofs.Common.{◌≡◌, ◌∙◌, sym, ap, refl, arith, true, Bool, cond, eqb, ℕ, suc, ◌+◌, ◌≤◌, List, [], ◌∷◌, ◌++◌, length, append_assoc, map, drop, Option, Some, None}
 use Rattle.std.proofs.lemmas.Bool.{eq-eqb}
 use Rattle.pads_value.specs.declared.descriptor.Pd.{Pd}
 use Rattle.pads_value.specs.declared.value.Val.{Val}

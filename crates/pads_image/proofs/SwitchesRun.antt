@@ -1,6 +1,6 @@
 -- The code of a switched union runs as the union reads, where the code of each case does: the first
 -- instruction goes to the chosen case, and the one behind the case to the end.
-use Rattle.std.proofs.Common.{◌≡◌, ◌∙◌, sym, ap, refl, subst, arith, ℕ, zero, suc, ◌+◌, ◌-◌, ◌≤◌, List, [], ◌∷◌, ◌++◌, length, append_assoc, map, Option, Some, None, slice_get}
+use Rattle.std.proofs.Common.{◌≡◌, ◌∙◌, sym, ap, refl, subst, arith, ℕ, zero, suc, ◌+◌, List, [], ◌∷◌, ◌++◌, length, append_assoc, map, Option, Some, None, slice_get}
 use Rattle.pads_value.specs.declared.cause.Cause.TheVariants as cause
 use Rattle.pads_value.specs.declared.descriptor.Span.{Span}
 use Rattle.pads_expr.specs.declared.expr.Expr.{Expr}
@@ -11,7 +11,7 @@ use Rattle.pads_calc.specs.declared.term.Term.{Term}
 use Rattle.pads_calc.specs.Arguments.{argument}
 use Rattle.pads_calc.specs.Calculus.{Caller, read, case_reader}
 use Rattle.pads_calc.specs.Choices.{branch_of, chosen, switch_of}
-use Rattle.pads_calc.specs.Readings.{Subject, Reader, fails}
+use Rattle.pads_calc.specs.Readings.{Subject, fails}
 use Rattle.pads_calc.proofs.Choices.{switch-found, switch-past}
 use Rattle.pads_calc.proofs.Induction.{EachCase}
 use Rattle.law_calculus.proofs.SoundReadings.{Sound, SoundReader}
@@ -19,7 +19,7 @@ use Rattle.pads_image.specs.declared.entry.Entry.{Entry}
 use Rattle.pads_image.specs.declared.op.Op.{Op}
 use Rattle.pads_image.specs.declared.op.Op.TheVariants as op
 use Rattle.pads_image.specs.declared.op.Target.{Target}
-use Rattle.pads_image.specs.Blocks.{Block, arms_code, arms_size, blocks, targets, switch_block, layout, case_layout}
+use Rattle.pads_image.specs.Blocks.{arms_code, arms_size, blocks, targets, switch_block, layout, case_layout}
 use Rattle.pads_image.specs.Heights.{Deeper}
 use Rattle.pads_image.specs.States.{State, seen}
 use Rattle.pads_image.specs.Steps.{Goes, began, goes_to, switch_step}

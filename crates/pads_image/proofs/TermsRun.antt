@@ -1,5 +1,5 @@
 -- The code of each term runs as the calculus reads the term, where calls run as they read.
-use Rattle.std.proofs.Common.{◌≡◌, ◌∙◌, sym, refl, arith, true, ℕ, ◌-◌, List}
+use Rattle.std.proofs.Common.{◌≡◌, refl, arith, ℕ, List}
 use Rattle.pads_expr.specs.declared.expr.Expr.{Expr}
 use Rattle.pads_expr.specs.Value.{Pairs, value}
 use Rattle.pads_expr.specs.Worth.{worth_or_none}

@@ -71,7 +71,7 @@ module _ (image : Image) where
         subst (λ need. StandsFor image.code image.entries image.shape need decls) (sym image.needed)
         (subst (λ (es : List Entry). StandsFor image.code es image.shape (stack_need image.code es image.shape) decls) (sym is.entries_are)
         (subst (λ (code : List Op). StandsFor code (entries_of decls) image.shape (stack_need code (entries_of decls) image.shape) decls) (sym is.code_is)
-        (stands-for decls image.shape is.straight shaped)))
+        (stands-for decls image.shape shaped)))
 
     -- the row of what the run halts with is the calculus' row
     pub row-of : (number : ℕ) (cut : Cut) (body left : Reading) (row : Row)
