@@ -10,7 +10,7 @@ ghost use Rattle.pads_image.specs.Validity.{longest};
 ghost use Rattle.pads_image.specs.declared.op.Op.TheVariants as op;
 
 use crate::leaf::{copy_option, emit_base, emit_call, emit_computed, emit_literal};
-use crate::places::{alt_end, seq_places, switch_end, targets_from, SeqPlaces};
+use crate::places::{SeqPlaces, alt_end, seq_places, switch_end, targets_from};
 use pads_calc::{Arm, Case, Decl, Part, Seq, Term};
 use pads_expr::Expr;
 use pads_image::{Entries, Entry, Op, Ops};
@@ -163,12 +163,7 @@ fn emit_arms(alloc: Global, arms: &[Arm], end: u32, code: &mut Ops) -> Result<()
 /// The code of a switched union: where each case begins, then the cases, each of which goes on at the
 /// union's end.
 #[cycle(emit)]
-fn emit_switch(
-    alloc: Global,
-    e: &Expr,
-    cases: &[Case],
-    code: &mut Ops,
-) -> Result<(), Memory>
+fn emit_switch(alloc: Global, e: &Expr, cases: &[Case], code: &mut Ops) -> Result<(), Memory>
     requires few { few cases.now ≡ true }
     requires counts { list_all (λ case. counts_fit case.arm.term) cases.now ≡ true }
     requires short { length code.old + arms_length (blocks (map case_layout cases.now)) + 1 ≤ longest }
@@ -264,12 +259,7 @@ fn emit_elem(
 
 /// The code of an array's terminator, where there is one.
 #[cycle(emit)]
-fn emit_stop(
-    alloc: Global,
-    stop: &Option<Term>,
-    shut: u32,
-    code: &mut Ops,
-) -> Result<(), Memory>
+fn emit_stop(alloc: Global, stop: &Option<Term>, shut: u32, code: &mut Ops) -> Result<(), Memory>
     requires counts { option_counts stop.now ≡ true }
     requires short { length code.old + stop_length (option_map layout stop.now) ≤ longest }
     ensures code { OnOk result (code.new ≡ code.old ++ stop_code (option_map layout stop.now) shut (length code.old)) }
@@ -284,12 +274,7 @@ fn emit_stop(
 
 /// The code of an array's separator, where there is one.
 #[cycle(emit)]
-fn emit_sep(
-    alloc: Global,
-    sep: &Option<Term>,
-    shut: u32,
-    code: &mut Ops,
-) -> Result<(), Memory>
+fn emit_sep(alloc: Global, sep: &Option<Term>, shut: u32, code: &mut Ops) -> Result<(), Memory>
     requires counts { option_counts sep.now ≡ true }
     requires short { length code.old + sep_length (option_map layout sep.now) ≤ longest }
     ensures code { OnOk result (code.new ≡ code.old ++ sep_code (option_map layout sep.now) shut (length code.old)) }
