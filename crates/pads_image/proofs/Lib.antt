@@ -1,4 +1,5 @@
 pub mod AltsRun
+pub mod Answering
 pub mod ArrayCode
 pub mod ArrayEndings
 pub mod ArrayRuns
@@ -24,10 +25,16 @@ pub mod Rows
 pub mod Running
 pub mod SameSkeletons
 pub mod ScansRun
+pub mod Shown
+pub mod ShownLists
 pub mod Standing
 pub mod StandingBlocks
 pub mod StructsRun
 pub mod SwitchesRun
 pub mod Tables
 pub mod TermsRun
+pub mod ToldArrays
+pub mod ToldCode
+pub mod ToldDecls
+pub mod ToldForms
 pub mod ValidCode

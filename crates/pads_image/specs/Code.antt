@@ -1,5 +1,5 @@
 -- The image of a module: the code of its declarations in their order, each ended by a Return.
-use Rattle.std.specs.Prelude.{ℕ, ◌+◌, List, [], ◌∷◌, ◌++◌}
+use Rattle.std.specs.Prelude.{◌≡◌, ℕ, ◌+◌, List, [], ◌∷◌, ◌++◌}
 use Rattle.pads_calc.specs.declared.decl.Decl.{Decl}
 use Rattle.pads_calc.specs.Skeletons.{skeleton_of}
 use Rattle.pads_image.specs.declared.entry.Entry.{Entry}
@@ -29,3 +29,8 @@ code_of decls = code_from decls 0
 
 abbrev pub entries_of : List Decl → List Entry
 entries_of decls = entries_from decls 0
+
+-- this is the code of the declarations, with their entries
+pub record IsCodeOf (decls : List Decl) (code : List Op) (entries : List Entry) : Type 0 where
+  pub code_is : code ≡ code_of decls
+  pub entries_are : entries ≡ entries_of decls
