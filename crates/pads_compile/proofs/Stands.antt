@@ -9,8 +9,8 @@ use Rattle.pads_image.specs.Answers.{StandsFor}
 use Rattle.pads_image.specs.Code.{code_of, entries_of, length_of}
 use Rattle.pads_image.specs.Heights.{stack_need}
 use Rattle.pads_image.specs.Validity.{is_valid, longest}
-use Rattle.pads_image.proofs.Halting.{stands-for}
-use Rattle.pads_image.proofs.ValidCode.{valid-code}
+use Rattle.law_images.proofs.Halting.{stands-for}
+use Rattle.law_images.proofs.ValidCode.{valid-code}
 use Rattle.pads_module.specs.Counts.{module_counts}
 use Rattle.pads_module.specs.Scopes.{module_in_scope, shape_there}
 

@@ -1,5 +1,5 @@
 -- What is looked up where values are erased, and what is left where all are kept.
-use Rattle.std.proofs.Common.{◌≡◌, ◌∙◌, ap, refl, ℕ, Bool, true, false, List, Option, Some, None, if◌then◌else◌}
+use Rattle.std.proofs.Common.{◌≡◌, ◌∙◌, ap, refl, ℕ, Bool, true, false, List, Some, None, if◌then◌else◌}
 use Rattle.std.proofs.lemmas.List.Folds.{list_all-map}
 use Rattle.pads_value.specs.declared.value.Val.{Val}
 use Rattle.pads_erase.specs.declared.skeleton.Keeping.{Keeping}

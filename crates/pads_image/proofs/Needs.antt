@@ -1,12 +1,7 @@
 -- Needs, instruction by instruction.
-use Rattle.std.proofs.Common.{◌≡◌, ◌∙◌, sym, ap, refl, arith, ℕ, zero, suc, ◌+◌, ◌-◌, ◌*◌, ◌<◌, ◌≤◌, max, nat_le, Bool, true, false, if◌then◌else◌, List, [], ◌∷◌, ◌++◌, length, map, drop, get_or, append_assoc, Option, Some, None}
-use Rattle.std.specs.List.{list_all}
-use Rattle.std.proofs.lemmas.Grind.{common_steps}
-use Rattle.pads_module.specs.Counts.{few}
+use Rattle.std.proofs.Common.{◌≡◌, ◌∙◌, sym, ap, refl, arith, ℕ, zero, suc, ◌+◌, ◌<◌, max, Bool, true, false, if◌then◌else◌, List, [], ◌∷◌, ◌++◌, length, drop, get_or, append_assoc, Some}
 use Rattle.pads_calc.proofs.Lists.{drop-next, drop-past'}
-use Rattle.pads_image.specs.declared.entry.Entry.{Entry}
 use Rattle.pads_image.specs.declared.op.Op.{Op}
-use Rattle.pads_image.specs.Bounds.{AreBelow}
 use Rattle.pads_image.specs.Heights.{Deeper, needs_from, needs_over, needs, later_arities, next_arity, height_after, entries_at}
 use Rattle.pads_image.specs.Variables.{is_return}
 

@@ -1,5 +1,5 @@
 -- Rows computed on the definitions: how many instructions two structs have as code, and what they need.
-use Rattle.std.proofs.Common.{◌≡◌, refl, true, ℕ, List, [], ◌∷◌, length, Some, None}
+use Rattle.std.proofs.Common.{◌≡◌, refl, true, List, [], ◌∷◌, length, Some, None}
 use Rattle.pads_dispatch.specs.declared.base.Base.{Base}
 use Rattle.pads_erase.specs.declared.skeleton.Skeleton.TheVariants as skeleton
 use Rattle.pads_calc.specs.declared.decl.Shape.{Shape}

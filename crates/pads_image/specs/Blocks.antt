@@ -1,8 +1,8 @@
 -- The layout of a term: the instructions that stand for it, by the address where they begin. Addresses
 -- are absolute, and "the end" of a term is the address behind it.
-use Rattle.std.specs.Prelude.{ℕ, zero, suc, ◌+◌, List, [], ◌∷◌, ◌++◌, Option, Some, None, option_map}
+use Rattle.std.specs.Prelude.{ℕ, ◌+◌, List, [], ◌∷◌, ◌++◌, Option, Some, None, option_map}
 use Rattle.pads_expr.specs.declared.expr.Expr.{Expr}
-use Rattle.pads_calc.specs.declared.term.Arm.{Arm, Arm-F}
+use Rattle.pads_calc.specs.declared.term.Arm.{Arm-F}
 use Rattle.pads_calc.specs.declared.term.Case.{Case, Case-F}
 use Rattle.pads_calc.specs.declared.term.Key.{Key}
 use Rattle.pads_calc.specs.declared.term.Part.{Part, Part-F}

@@ -1,6 +1,6 @@
 -- States of the machine: an address, what was read last, how deep calls may still be nested, and four
 -- stacks, the latest entry first.
-use Rattle.std.specs.Prelude.{ℕ, ◌+◌, ◌-◌, List, [], ◌∷◌, length, take, Option, Some, None}
+use Rattle.std.specs.Prelude.{ℕ, ◌+◌, ◌-◌, List, [], ◌∷◌, length, take, Option}
 use Rattle.pads_value.specs.declared.cause.Cause.{Cause}
 use Rattle.pads_value.specs.declared.descriptor.Pd.{Pd}
 use Rattle.pads_value.specs.declared.value.Val.{Val}

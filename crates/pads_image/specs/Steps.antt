@@ -1,16 +1,15 @@
 -- Steps of the machine. Each is made of the calculus' own functions of readings.
-use Rattle.std.specs.Prelude.{ℕ, zero, suc, ◌+◌, ◌-◌, Bool, true, false, not, ◌&&◌, nat_eq, nat_le, nat_lt, List, [], ◌∷◌, ◌++◌, drop, length, map, Option, Some, None, slice_get, if◌then◌else◌}
+use Rattle.std.specs.Prelude.{ℕ, zero, suc, ◌+◌, ◌-◌, Bool, not, ◌&&◌, nat_eq, nat_le, nat_lt, List, [], ◌∷◌, ◌++◌, drop, length, map, Option, Some, None, slice_get, if◌then◌else◌}
 use Rattle.pads_value.specs.declared.cause.Cause.{Cause}
 use Rattle.pads_value.specs.declared.cause.Cause.TheVariants as cause
-use Rattle.pads_value.specs.declared.descriptor.Pd.{Pd, out-Pd}
+use Rattle.pads_value.specs.declared.descriptor.Pd.{out-Pd}
 use Rattle.pads_value.specs.declared.value.Val.TheVariants as val
 use Rattle.pads_value.specs.Header.{with_cause}
 use Rattle.pads_expr.specs.declared.expr.Expr.{Expr}
-use Rattle.pads_expr.specs.Value.{Pairs, value}
+use Rattle.pads_expr.specs.Value.{value}
 use Rattle.pads_expr.specs.Worth.{worth_or_none}
 use Rattle.pads_dispatch.specs.declared.base.Arg.{Arg}
 use Rattle.pads_calc.specs.declared.reading.Reading.{Reading}
-use Rattle.pads_calc.specs.declared.term.Key.{Key}
 use Rattle.pads_calc.specs.Arguments.{argument, arguments, bound_to}
 use Rattle.pads_calc.specs.Arrays.{size_at, is_full, is_last, is_fail_class, below_size, soft}
 use Rattle.pads_calc.specs.Choices.{branch_of, chosen}

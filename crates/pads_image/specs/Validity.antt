@@ -1,5 +1,5 @@
 -- Whether code, entries and shape make an image: a test that reads the code once, from the left.
-use Rattle.std.specs.Prelude.{ℕ, Bool, true, false, ◌&&◌, nat_eq, nat_le, List, map, length, Option, Some, None}
+use Rattle.std.specs.Prelude.{ℕ, Bool, false, ◌&&◌, nat_eq, nat_le, List, map, length, Option, Some, None}
 use Rattle.std.specs.List.{list_all}
 use lib.Pointwise.{pointwise}
 use Rattle.pads_calc.specs.declared.decl.Shape.{Shape}

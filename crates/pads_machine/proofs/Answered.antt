@@ -20,8 +20,8 @@ use Rattle.pads_image.specs.Reads.{bodies_of}
 use Rattle.pads_image.specs.Skeletons.{kept_in}
 use Rattle.pads_image.specs.Validity.{is_valid, arities_of, begin_at, keep_of, longest, params_of, variables_stand}
 use Rattle.pads_image.specs.Variables.{later_params, next_params}
-use Rattle.pads_image.proofs.Halting.{stands-for}
-use Rattle.pads_image.proofs.ValidCode.{count-same}
+use Rattle.law_images.proofs.Halting.{stands-for}
+use Rattle.law_images.proofs.ValidCode.{count-same}
 use Rattle.pads_machine.specs.Image.{IsOf, IsStraight}
 use Rattle.pads_machine.specs.Ran.{Halting, is_plain, labels_stand}
 use Rattle.pads_machine.proofs.Plain.{labels-code, plain-code}

@@ -14,7 +14,7 @@ use Rattle.pads_image.specs.Blocks.{Block, layout, part_layout, parts_code}
 use Rattle.pads_image.specs.Code.{code_from, decl_length}
 use Rattle.pads_image.specs.Variables.{all_closed, code_stands, is_return, later_params, next_params, op_stands, scope_after}
 use Rattle.pads_image.proofs.Layouts.{layout-Unit, layout-Base, layout-Lit, layout-Eor, layout-Struct, layout-Guard, layout-Call, layout-Compute, layout-Absorb}
-use Rattle.pads_image.proofs.ReadBack.{all-there, never}
+use Rattle.law_images.proofs.ReadBack.{all-there, never}
 use Rattle.pads_machine.specs.Ran.{is_plain, labels_stand}
 use Rattle.pads_module.specs.Straight.{is_straight, all_straight}
 use Rattle.pads_module.proofs.StraightRolls.{straight-Struct, straight-Alt, straight-Switch, straight-Guard, straight-Seq, straight-Absorb, straight-Scan}

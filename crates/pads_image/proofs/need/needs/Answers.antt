@@ -1,4 +1,4 @@
-use Rattle.std.proofs.Common.{◌≡◌, ◌∙◌, sym, ap, arith, get_or, ◌≤◌, ◌<◌, length, Some}
+use Rattle.std.proofs.Common.{◌∙◌, sym, ap, arith, get_or, ◌<◌, length, Some}
 use Rattle.std.proofs.lemmas.Bool.{leb-true}
 use Rattle.pads_image.specs.Heights.{needs, needs_over}
 use Rattle.pads_image.specs.Validity.{arities_of, longest}

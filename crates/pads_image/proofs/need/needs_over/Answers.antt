@@ -1,7 +1,7 @@
-use Rattle.std.proofs.Common.{◌≡◌, ◌∙◌, sym, ap, arith, ◌+◌, ◌≤◌, ◌++◌, ◌∷◌, [], true, false, length, max, drop}
+use Rattle.std.proofs.Common.{◌≡◌, ◌∙◌, sym, arith, ◌+◌, true, false, length}
 use Rattle.std.proofs.lemmas.Grind.{common_steps}
 use Rattle.std.specs.Option.{option_copied}
-use Rattle.pads_image.specs.Heights.{entries_at, height_after, needs_over}
+use Rattle.pads_image.specs.Heights.{needs_over}
 use Rattle.pads_image.specs.Validity.{arities_of}
 use Rattle.pads_image.specs.Variables.{is_return}
 use Rattle.pads_image.proofs.Needs.{needs-end, needs-on, needs-return}

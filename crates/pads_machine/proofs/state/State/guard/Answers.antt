@@ -5,7 +5,7 @@ use Rattle.pads_calc.specs.Leaves.{unit_of}
 use Rattle.pads_calc.specs.Wrappers.{guard_of}
 use Rattle.pads_image.specs.States.{seen}
 use Rattle.pads_image.specs.Steps.{reads}
-use Rattle.pads_image.proofs.Reaching.{seen-behind}
+use Rattle.law_images.proofs.Reaching.{seen-behind}
 use Rattle.pads_machine.specs.declared.state.State.{State}
 use Rattle.pads_machine.specs.Shown.{shown}
 use Rattle.pads_machine.proofs.state.State.guard.Goals as goal

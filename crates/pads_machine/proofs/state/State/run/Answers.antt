@@ -1,7 +1,7 @@
 use Rattle.std.proofs.Common.{◌≡◌, ◌∙◌, sym, subst, arith, ℕ, Some, None, slice_get, length}
 use Rattle.pads_image.specs.States as states
 use Rattle.pads_image.specs.Steps.{Goes, Step, does, step}
-use Rattle.pads_image.proofs.ReadBack.{all-there}
+use Rattle.law_images.proofs.ReadBack.{all-there}
 use Rattle.pads_steps.specs.Records.{subject_of}
 use Rattle.pads_machine.specs.declared.step.Next.{Next}
 use Rattle.pads_machine.specs.Held.{Roomy}

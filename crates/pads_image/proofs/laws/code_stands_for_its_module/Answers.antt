@@ -1,5 +1,0 @@
-use Rattle.pads_image.proofs.Halting.{stands-for}
-use Rattle.pads_image.proofs.laws.code_stands_for_its_module.Goals as goal
-
-pub returns : goal.returns
-returns c = record { stands = λ decls shape shaped. stands-for decls shape shaped }

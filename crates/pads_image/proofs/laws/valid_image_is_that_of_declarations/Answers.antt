@@ -1,5 +1,0 @@
-use Rattle.pads_image.proofs.ToldDecls.{decls-of}
-use Rattle.pads_image.proofs.laws.valid_image_is_that_of_declarations.Goals as goal
-
-pub returns : goal.returns
-returns c = record { declared = λ code entries shape valid. decls-of code entries shape valid }
