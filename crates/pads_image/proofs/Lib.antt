@@ -1,4 +1,5 @@
 pub mod Bounded
+pub mod Crossing
 pub mod KeptReadings
 pub mod Layouts
 pub mod Lengths

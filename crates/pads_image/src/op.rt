@@ -1,5 +1,6 @@
 use pads_calc::{Base, ComputedForm, Exprs, Key};
 use pads_expr::Expr;
+use pads_steps::Keyed;
 use pads_value::{Bytes, Items};
 
 /// Instructions in their order.
@@ -73,4 +74,12 @@ pub enum Op {
 pub struct Target {
     pub key: Option<Key>,
     pub to: u32,
+}
+
+impl Keyed for Target {
+    ghost key_of = { λ target. target.key };
+
+    fn key(&self) -> Option<&Key> {
+        self.key.as_ref()
+    }
 }

@@ -1,15 +1,13 @@
 -- Values at their homes: what a struct shows while its parts are bound.
-use Rattle.std.proofs.Common.{◌≡◌, ◌∙◌, sym, ap, refl, subst, arith, ℕ, zero, suc, ◌+◌, ◌-◌, ◌<◌, ◌≤◌, List, [], ◌∷◌, ◌++◌, length, length-append, length-drop, take, drop, reverse, set, Option, Some, None, ⊎_elim}
+use Rattle.std.proofs.Common.{◌≡◌, ◌∙◌, sym, ap, refl, subst, arith, ℕ, zero, suc, ◌+◌, ◌-◌, ◌≤◌, List, [], ◌∷◌, ◌++◌, length, length-drop, take, drop, reverse, Option, Some, None, ⊎_elim}
 use Rattle.std.proofs.lemmas.Bool.{cases_lt}
 use Rattle.std.proofs.lemmas.List.{length-set, set-append_left, reverse-append}
 use Rattle.std.proofs.Math.Seq.{set-append_seam}
 use Rattle.pads_value.specs.declared.value.Val.{Val}
 use Rattle.pads_expr.specs.Value.{Pairs}
 use Rattle.pads_calc.specs.Structs.{bind}
-use Rattle.pads_image.specs.States as states
-use Rattle.pads_machine.specs.declared.node.Node.{Node}
-use Rattle.pads_machine.specs.Held.{AreHomes, AreSound}
-use Rattle.pads_machine.specs.Shown.{Homes, above, below, home_of, put_home, put_back, stand_in, node_shown, nodes_shown}
+use Rattle.pads_machine.specs.Held.{AreHomes}
+use Rattle.pads_machine.specs.Shown.{Homes, above, below, home_of, put_home, put_back, stand_in}
 
 pub reverse-push : {A : Type 0} (xs : List A) (x : A) → reverse (xs ++ x ∷ []) ≡ x ∷ reverse xs
 reverse-push xs x = reverse-append xs (x ∷ [])

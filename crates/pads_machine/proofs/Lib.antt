@@ -1,9 +1,11 @@
 pub mod Answered
 pub mod Bound
+pub mod Endings
 pub mod Halts
 pub mod Homes
+pub mod Labels
+pub mod Leaps
 pub mod Nodes
-pub mod Plain
 pub mod Shows
 pub mod Taking
-pub mod Work
+pub mod Tops

@@ -1,7 +1,7 @@
 -- What the machine shows behind an instruction, by what it showed before. Stacks here have their latest
 -- entry first.
-use Rattle.std.proofs.Common.{◌≡◌, ◌∙◌, sym, ap, refl, subst, arith, cond, eqb, leb, true, false, Bool, ℕ, suc, ◌+◌, ◌-◌, ◌<◌, ◌≤◌, ◌^◌, min, List, [], ◌∷◌, ◌++◌, length, length-drop, take, drop, map, reverse, get_or, Option, Some, None}
-use Rattle.std.proofs.lemmas.Bool.{eqb-true, le-leb}
+use Rattle.std.proofs.Common.{◌≡◌, ◌∙◌, sym, ap, refl, subst, arith, cond, eqb, true, false, Bool, ℕ, suc, ◌+◌, ◌-◌, ◌<◌, ◌≤◌, ◌^◌, List, [], ◌∷◌, ◌++◌, length, length-drop, drop, map, reverse, get_or, Option, Some, None}
+use Rattle.std.proofs.lemmas.Bool.{eqb-true}
 use Rattle.std.proofs.lemmas.List.{length-reverse, get_or-reverse}
 use Rattle.pads_value.specs.declared.value.Val.{Val}
 use Rattle.pads_value.specs.declared.value.Val.TheVariants as val
@@ -16,16 +16,17 @@ use Rattle.pads_image.specs.declared.entry.Entry.{Entry}
 use Rattle.pads_image.specs.Blocks.{bindings_of}
 use Rattle.pads_image.specs.States as states
 use Rattle.pads_image.specs.States.{base_of, floor_of}
-use Rattle.pads_image.specs.Steps.{Step, Goes, Stuck, close_step, entered, open_step, part_step}
+use Rattle.pads_image.specs.Steps.{Goes, Stuck, close_step, entered, new_node, part_step}
 use Rattle.pads_machine.specs.declared.node.Caller.{Caller}
+use Rattle.pads_machine.specs.declared.node.Mark.{Mark}
 use Rattle.pads_machine.specs.declared.node.Node.{Node}
 use Rattle.pads_machine.specs.declared.state.State.{State}
 use Rattle.pads_machine.specs.Held.{AreSound, Roomy}
-use Rattle.pads_machine.specs.Ran.{GoesWithin}
-use Rattle.pads_machine.specs.Shown.{Homes, above, below, caller_shown, home_of, homeless, put_back, shows, stand_in, node_shown, nodes_shown}
+use Rattle.pads_machine.specs.Ran.{GoesWithin, opens}
+use Rattle.pads_machine.specs.Shown.{Homes, above, below, caller_shown, mark_shown, home_of, homeless, put_back, shows, stand_in, nodes_shown}
 use Rattle.pads_machine.proofs.Bound.{bound-count, bound-shown, bound-sound, homeless-count}
-use Rattle.pads_machine.proofs.Homes.{below-length, home-length}
-use Rattle.pads_machine.proofs.Nodes.{open-shown, open-sound, part-shown, part-sound, leave-shown, leave-sound}
+use Rattle.pads_machine.proofs.Homes.{home-length}
+use Rattle.pads_machine.proofs.Nodes.{IsFilled, open-shown, open-sound, part-shown, part-sound, leave-shown, leave-sound}
 
 pub own-room : (room : ℕ) (m : State) → Roomy room m → Roomy m.room m
 own-room room m h = record {
@@ -33,6 +34,7 @@ own-room room m h = record {
   bindings = omega (arith, h.room_is, h.bindings);
   homes = omega (arith, h.room_is, h.homes);
   nodes = omega (arith, h.room_is, h.nodes);
+  marks = omega (arith, h.room_is, h.marks);
   callers = omega (arith, h.room_is, h.callers);
 }
 
@@ -65,40 +67,40 @@ pub where-so : (room : ℕ) (b : Bool) (t : states.State) → GoesWithin room (c
 where-so room true t within = refl
 where-so room false t within = absurd within
 
-module _ (address depth : ℕ) (last : Reading) (bs : Pairs) (hs : Homes) (ns : List Node) (cs : List Caller) (sound : AreSound ns hs) (each : length hs ≡ length bs) where
-  pub open-shows : (n : Node) (ns' : List Node) → ns' ≡ n ∷ ns → n.values.items ≡ [] → n.pds.items ≡ [] → n.base ≡ length bs → n.begin ≡ last.place
-      → open_step (shows address last depth bs hs ns cs) ≡ Goes (shows (address + 1) last depth bs hs ns' cs)
-  open-shows n ns' more values pds base begin =
-      let s = shows (address + 1) last depth bs hs ns cs in
-      sym (ap (λ nodes. Goes (shows (address + 1) last depth bs hs nodes cs)) more
-      ∙ ap (λ nodes. Goes (record s { nodes = nodes })) (open-shown n ns hs bs values pds base each)
-      ∙ ap (λ begin. Goes (record s { nodes = record { begin = begin; base = length bs; size = None; values = []; pds = []; own = None } ∷ nodes_shown ns hs bs })) begin)
+module _ (ms : List Mark) (address depth : ℕ) (last : Reading) (bs : Pairs) (hs : Homes) (ns : List Node) (cs : List Caller) (sound : AreSound ns hs) (each : length hs ≡ length bs) where
+  pub open-shows : (n : Node) (ns' : List Node) → ns' ≡ n ∷ ns → n.values.items ≡ [] → n.pds.items ≡ [] → n.base ≡ length bs → n.begin ≡ last.place → n.own ≡ None
+      → opens n.size (shows ms address last depth bs hs ns cs) ≡ Goes (shows ms (address + 1) last depth bs hs ns' cs)
+  open-shows n ns' more values pds base begin own =
+      let s = shows ms (address + 1) last depth bs hs ns cs in
+      sym (ap (λ nodes. Goes (shows ms (address + 1) last depth bs hs nodes cs)) more
+      ∙ ap (λ nodes. Goes (record s { nodes = nodes })) (open-shown n ns hs bs values pds base own each)
+      ∙ ap (λ begin. Goes (record s { nodes = new_node begin (length bs) n.size ∷ nodes_shown ns hs bs })) begin)
 
   pub open-held : (n : Node) (ns' : List Node) → ns' ≡ n ∷ ns → n.base ≡ length bs → n.begin ≤ 2 ^ 62 → AreSound ns' hs
   open-held n ns' more base begin = subst (λ nodes. AreSound nodes hs) (sym more) (open-sound n ns hs (base ∙ sym each) begin sound)
 
-module _ (origin address depth : ℕ) (last : Reading) (bs : Pairs) (hs : Homes) (n : Node) (ns : List Node) (cs : List Caller)
+module _ (ms : List Mark) (origin address depth : ℕ) (last : Reading) (bs : Pairs) (hs : Homes) (n : Node) (ns : List Node) (cs : List Caller)
     (sound : AreSound (n ∷ ns) hs) (each : length hs ≡ length bs) where
-  module _ (name : Option ℕ) (m : Node) (begin : m.begin ≡ n.begin) (base : m.base ≡ n.base) (values : m.values.items ≡ n.values.items ++ stand_in name last.value ∷ []) where
+  module _ (name : Option ℕ) (m : Node) (same : IsFilled n m) (values : m.values.items ≡ n.values.items ++ stand_in name last.value ∷ []) where
     pub part-shows : (bs' : Pairs) (hs' : Homes) (ns' : List Node) → m.pds.items ≡ n.pds.items ++ last.pd ∷ []
         → bs' ≡ bind name last.value bs → hs' ≡ home_of name (length n.values.items) hs → ns' ≡ m ∷ ns
-        → part_step origin name (shows address last depth bs hs (n ∷ ns) cs) (nodes_shown (n ∷ ns) hs bs) ≡ Goes (shows (address + 1) (unit_of origin last.place) depth bs' hs' ns' cs)
+        → part_step origin name (shows ms address last depth bs hs (n ∷ ns) cs) (nodes_shown (n ∷ ns) hs bs) ≡ Goes (shows ms (address + 1) (unit_of origin last.place) depth bs' hs' ns' cs)
     part-shows bs' hs' ns' pds bs_are hs_are ns_are =
         let unit = unit_of origin last.place in
-        let s = shows (address + 1) unit depth (bind name last.value bs) (home_of name (length n.values.items) hs) (m ∷ ns) cs in
-        sym (ap (λ bs. Goes (shows (address + 1) unit depth bs hs' ns' cs)) bs_are
-        ∙ ap (λ hs. Goes (shows (address + 1) unit depth (bind name last.value bs) hs ns' cs)) hs_are
-        ∙ ap (λ ns. Goes (shows (address + 1) unit depth (bind name last.value bs) (home_of name (length n.values.items) hs) ns cs)) ns_are
-        ∙ ap (λ nodes. Goes (record s { nodes = nodes })) (part-shown n m ns hs bs name last begin base values sound each pds))
+        let s = shows ms (address + 1) unit depth (bind name last.value bs) (home_of name (length n.values.items) hs) (m ∷ ns) cs in
+        sym (ap (λ bs. Goes (shows ms (address + 1) unit depth bs hs' ns' cs)) bs_are
+        ∙ ap (λ hs. Goes (shows ms (address + 1) unit depth (bind name last.value bs) hs ns' cs)) hs_are
+        ∙ ap (λ ns. Goes (shows ms (address + 1) unit depth (bind name last.value bs) (home_of name (length n.values.items) hs) ns cs)) ns_are
+        ∙ ap (λ nodes. Goes (record s { nodes = nodes })) (part-shown n m ns hs bs name last same values sound each pds))
 
     pub part-held : (hs' : Homes) (ns' : List Node) → hs' ≡ home_of name (length n.values.items) hs → ns' ≡ m ∷ ns → AreSound ns' hs'
     part-held hs' ns' hs_are ns_are =
-        subst (λ ns. AreSound ns hs') (sym ns_are) (subst (λ hs. AreSound (m ∷ ns) hs) (sym hs_are) (part-sound n m ns hs bs name last begin base values sound each))
+        subst (λ ns. AreSound ns hs') (sym ns_are) (subst (λ hs. AreSound (m ∷ ns) hs) (sym hs_are) (part-sound n m ns hs bs name last same values sound each))
 
     pub part-each : (bs' : Pairs) (hs' : Homes) → bs' ≡ bind name last.value bs → hs' ≡ home_of name (length n.values.items) hs → length hs' ≡ length bs'
     part-each bs' hs' bs_are hs_are = ap length hs_are ∙ home-length name (length n.values.items) last.value hs bs each ∙ sym (ap length bs_are)
 
-  module _ (room count : ℕ) (within : GoesWithin room (close_step origin count (shows address last depth bs hs (n ∷ ns) cs) (nodes_shown (n ∷ ns) hs bs))) where
+  module _ (room count : ℕ) (within : GoesWithin room (close_step origin count (shows ms address last depth bs hs (n ∷ ns) cs) (nodes_shown (n ∷ ns) hs bs))) where
     own : eqb (length bs) (n.base + count) ≡ true
     own = where-so room (eqb (length bs) (n.base + count)) _ within
 
@@ -108,10 +110,10 @@ module _ (origin address depth : ℕ) (last : Reading) (bs : Pairs) (hs : Homes)
 
     pub close-shows : (bs' : Pairs) (hs' : Homes) (values : List Val) (r : Reading) → bs' ≡ below n.base bs → hs' ≡ below n.base hs → values ≡ put_back (above n.base hs) (above n.base bs) n.values.items
         → r ≡ node origin None (val.Tuple values) n.begin last.place n.pds.items
-        → close_step origin count (shows address last depth bs hs (n ∷ ns) cs) (nodes_shown (n ∷ ns) hs bs) ≡ Goes (shows (address + 1) r depth bs' hs' ns cs)
+        → close_step origin count (shows ms address last depth bs hs (n ∷ ns) cs) (nodes_shown (n ∷ ns) hs bs) ≡ Goes (shows ms (address + 1) r depth bs' hs' ns cs)
     close-shows bs' hs' values r bs_are hs_are values_are r_is =
         let whole = put_back (above n.base hs) (above n.base bs) n.values.items in
-        let closed : Reading → Pairs → List states.Node → states.State = λ r bs nodes. record { at_ = address + 1; last = r; depth = depth; bindings = bs; nodes = nodes; marks = []; callers = map caller_shown cs } in
+        let closed : Reading → Pairs → List states.Node → states.State = λ r bs nodes. record { at_ = address + 1; last = r; depth = depth; bindings = bs; nodes = nodes; marks = map mark_shown ms; callers = map caller_shown cs } in
         let nodes = nodes_shown ns (below n.base hs) (below n.base bs) in
         ap (λ (b : Bool). cond b (Goes (closed (node origin None (val.Tuple whole) n.begin last.place n.pds.items) (drop count bs) nodes)) Stuck) own
         ∙ ap (λ vs. Goes (closed (node origin None (val.Tuple vs) n.begin last.place n.pds.items) (drop count bs) nodes)) (sym values_are)
@@ -127,34 +129,34 @@ module _ (origin address depth : ℕ) (last : Reading) (bs : Pairs) (hs : Homes)
   begins = sound.1
 
 -- bindings above the first so many are taken back
-module _ (address depth : ℕ) (last : Reading) (bs : Pairs) (hs : Homes) (cs : List Caller) (low : ℕ) (bs' : Pairs) (hs' : Homes) (bs_are : bs' ≡ below low bs) (hs_are : hs' ≡ below low hs) where
-  pub cut-none-shows : shows address last depth bs' hs' [] cs ≡ record (shows address last depth bs hs [] cs) { bindings = below low bs }
-  cut-none-shows = ap (λ bs. shows address last depth bs hs' [] cs) bs_are
+module _ (ms : List Mark) (address depth : ℕ) (last : Reading) (bs : Pairs) (hs : Homes) (cs : List Caller) (low : ℕ) (bs' : Pairs) (hs' : Homes) (bs_are : bs' ≡ below low bs) (hs_are : hs' ≡ below low hs) where
+  pub cut-none-shows : shows ms address last depth bs' hs' [] cs ≡ record (shows ms address last depth bs hs [] cs) { bindings = below low bs }
+  cut-none-shows = ap (λ bs. shows ms address last depth bs hs' [] cs) bs_are
 
-  module _ (n m : Node) (ns ns' : List Node) (begin : m.begin ≡ n.begin) (base : m.base ≡ n.base) (values : m.values.items ≡ put_back (above low hs) (above low bs) n.values.items)
+  module _ (n m : Node) (ns ns' : List Node) (same : IsFilled n m) (values : m.values.items ≡ put_back (above low hs) (above low bs) n.values.items)
       (less : n.base ≤ low) (each : length hs ≡ length bs) (ns_are : ns' ≡ m ∷ ns) where
-    pub cut-shows : m.pds.items ≡ n.pds.items → shows address last depth bs' hs' ns' cs ≡ record (shows address last depth bs hs (n ∷ ns) cs) { bindings = below low bs }
+    pub cut-shows : m.pds.items ≡ n.pds.items → shows ms address last depth bs' hs' ns' cs ≡ record (shows ms address last depth bs hs (n ∷ ns) cs) { bindings = below low bs }
     cut-shows pds =
-        let s = shows address last depth (below low bs) hs (n ∷ ns) cs in
-        ap (λ bs'. shows address last depth bs' hs' ns' cs) bs_are
-        ∙ ap (λ hs'. shows address last depth (below low bs) hs' ns' cs) hs_are
-        ∙ ap (λ ns'. shows address last depth (below low bs) (below low hs) ns' cs) ns_are
-        ∙ ap (λ nodes. record s { nodes = nodes }) (leave-shown n m ns hs bs low begin base values less each pds)
+        let s = shows ms address last depth (below low bs) hs (n ∷ ns) cs in
+        ap (λ bs'. shows ms address last depth bs' hs' ns' cs) bs_are
+        ∙ ap (λ hs'. shows ms address last depth (below low bs) hs' ns' cs) hs_are
+        ∙ ap (λ ns'. shows ms address last depth (below low bs) (below low hs) ns' cs) ns_are
+        ∙ ap (λ nodes. record s { nodes = nodes }) (leave-shown n m ns hs bs low same values less each pds)
 
     pub cut-held : AreSound (n ∷ ns) hs → AreSound ns' hs'
     cut-held sound =
-        subst (λ ns. AreSound ns hs') (sym ns_are) (subst (λ hs. AreSound (m ∷ ns) hs) (sym hs_are) (leave-sound n m ns hs bs low begin base values less each sound))
+        subst (λ ns. AreSound ns hs') (sym ns_are) (subst (λ hs. AreSound (m ∷ ns) hs) (sym hs_are) (leave-sound n m ns hs bs low same values less each sound))
 
 pub cut-each : {A B : Type 0} (low : ℕ) (xs : List A) (ys : List B) → length xs ≡ length ys → length (below low xs) ≡ length (below low ys)
 cut-each low xs ys each = omega (arith, each, length-drop (length xs - low) xs, length-drop (length ys - low) ys)
 
 -- a call begins
-module _ (entry : Entry) (args : List Arg) (address depth depth' : ℕ) (last : Reading) (bs : Pairs) (hs : Homes) (ns : List Node) (cs : List Caller)
+module _ (ms : List Mark) (entry : Entry) (args : List Arg) (address depth depth' : ℕ) (last : Reading) (bs : Pairs) (hs : Homes) (ns : List Node) (cs : List Caller)
     (bs' : Pairs) (hs' : Homes) (bs_are : bs' ≡ bound_to entry.params args bs) (hs_are : hs' ≡ homeless entry.params args hs) (sound : AreSound ns hs) (each : length hs ≡ length bs) where
   pub enter-shows : (c : Caller) (cs' : List Caller) → cs' ≡ c ∷ cs → c.back ≡ address + 1 → c.base ≡ length bs
-      → shows entry.first last depth' bs' hs' ns cs' ≡ entered entry args depth' (shows address last depth bs hs ns cs)
+      → shows ms entry.first last depth' bs' hs' ns cs' ≡ entered entry args depth' (shows ms address last depth bs hs ns cs)
   enter-shows c cs' cs_are back base =
-      let to : Pairs → List states.Node → List states.Caller → states.State = λ bs nodes callers. record { at_ = entry.first; last = last; depth = depth'; bindings = bs; nodes = nodes; marks = []; callers = callers } in
+      let to : Pairs → List states.Node → List states.Caller → states.State = λ bs nodes callers. record { at_ = entry.first; last = last; depth = depth'; bindings = bs; nodes = nodes; marks = map mark_shown ms; callers = callers } in
       let bound = bound_to entry.params args bs in
       ap (λ bs'. to bs' (nodes_shown ns hs' bs') (map caller_shown cs')) bs_are
       ∙ ap (λ hs'. to bound (nodes_shown ns hs' bound) (map caller_shown cs')) hs_are

@@ -1,9 +1,9 @@
 -- Bindings that are taken back one by one, the latest first.
-use Rattle.std.proofs.Common.{◌≡◌, ◌∙◌, sym, ap, refl, arith, ℕ, ◌+◌, ◌-◌, ◌<◌, ◌≤◌, List, [], ◌∷◌, ◌++◌, length, take, drop, reverse, length-drop}
+use Rattle.std.proofs.Common.{◌≡◌, ◌∙◌, sym, ap, refl, arith, ℕ, ◌+◌, ◌-◌, ◌<◌, ◌≤◌, List, ◌∷◌, ◌++◌, length, take, drop, reverse, length-drop}
 use Rattle.std.proofs.lemmas.List.{length_push, length-reverse, reverse-append, take-append-drop, take_at}
 use Rattle.pads_value.specs.declared.value.Val.{Val}
 use Rattle.pads_expr.specs.Value.{Pairs}
-use Rattle.pads_machine.specs.Shown.{Homes, TakenOne, above, below, put_back, put_home}
+use Rattle.pads_machine.specs.Shown.{Homes, TakenOne, above, below, put_back}
 use Rattle.pads_machine.proofs.Homes.{above-next, below-next, above-all, below-all, reverse-push}
 
 -- what is left to take back gives the values that all of them give

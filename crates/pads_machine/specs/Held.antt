@@ -1,5 +1,6 @@
 -- What the machine keeps in each of its states: room on its stacks, and homes that are there.
 use Rattle.std.specs.Prelude.{◌≡◌, ℕ, ◌+◌, ◌<◌, ◌≤◌, ◌^◌, List, [], ◌∷◌, length, reverse, Some, None, vec_capacity}
+use Rattle.pads_machine.specs.declared.node.Mark.{Mark}
 use Rattle.pads_machine.specs.declared.node.Node.{Node}
 use Rattle.pads_machine.specs.declared.state.State.{State}
 use Rattle.pads_machine.specs.Shown.{Homes, above, below}
@@ -23,6 +24,7 @@ pub record Roomy (room : ℕ) (m : State) : Type 0 where
   pub bindings : room ≤ vec_capacity m.bindings
   pub homes : room ≤ vec_capacity m.homes
   pub nodes : room ≤ vec_capacity m.nodes
+  pub marks : room ≤ vec_capacity m.marks
   pub callers : room ≤ vec_capacity m.callers
 
 pub record Held (m : State) : Type 0 where
@@ -30,3 +32,13 @@ pub record Held (m : State) : Type 0 where
   pub sound : AreSound (reverse m.nodes.items) (reverse m.homes.items)
   -- calls come back to where they were made
   pub deep : m.depth + length m.callers.items ≤ 255
+
+-- each mark is at one of so many places
+abbrev pub AreWithin : ℕ → List Mark → Type 0
+AreWithin most [] = Unit {0}
+AreWithin most (mark ∷ marks) = (mark.place ≤ most) × AreWithin most marks
+
+-- in a record of so many bytes: each place where reading goes on is one of its places
+pub record Placed (most : ℕ) (m : State) : Type 0 where
+  pub last : m.last.place ≤ most
+  pub marks : AreWithin most (reverse m.marks.items)

@@ -1,4 +1,3 @@
 pub mod Held
-pub mod Image
 pub mod Ran
 pub mod Shown

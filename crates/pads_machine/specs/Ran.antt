@@ -1,5 +1,9 @@
--- What comes of an instruction, as the code tells it; what straight code is made of.
-use Rattle.std.specs.Prelude.{◌≡◌, ℕ, ◌≤◌, Bool, true, false, List}
+-- What comes of an instruction, as the code tells it.
+use Rattle.std.specs.Prelude.{◌≡◌, ℕ, ◌+◌, ◌≤◌, ◌⊎◌, Bool, true, false, not, ◌&&◌, nat_eq, List, ◌∷◌, length, Option, Some, None, slice_get, if◌then◌else◌}
+use Rattle.pads_value.specs.declared.cause.Cause.{Cause}
+use Rattle.pads_value.specs.declared.cause.Cause.TheVariants as cause
+use Rattle.pads_value.specs.declared.descriptor.Pd.{out-Pd}
+use Rattle.pads_calc.specs.Arrays.{is_fail_class}
 use Rattle.pads_dispatch.specs.Labels.{labels_fit}
 use Rattle.pads_calc.specs.declared.reading.Reading.{Reading}
 use Rattle.pads_calc.specs.Readings.{Subject}
@@ -8,9 +12,11 @@ use Rattle.pads_image.specs.declared.op.Op.{Op}
 use Rattle.pads_image.specs.declared.op.Op.TheVariants as op
 use Rattle.pads_image.specs.Answers.{HaltsWith}
 use Rattle.pads_image.specs.States.{State, entries}
-use Rattle.pads_image.specs.Steps.{Step, Goes, Halts, Stuck}
+use Rattle.pads_image.specs.Steps.{Step, Goes, Halts, Stuck, began, new_node}
 use Rattle.pads_machine.specs.declared.step.Next.{Next}
 use Rattle.pads_machine.specs.declared.step.Next.TheVariants as next
+use Rattle.pads_machine.specs.declared.state.State.{State as Machine}
+use Rattle.pads_machine.specs.Held.{Placed}
 
 -- there is a step, and the next state has at most so many stack entries
 abbrev pub GoesWithin : ℕ → Step → Type 0
@@ -22,29 +28,59 @@ GoesWithin room Stuck = ⊥
 -- is as it was
 abbrev pub Tells : Next → Step → State → State → Type 0
 Tells next.Goes step s t = step ≡ Goes t
+Tells next.Searches step s t = step ≡ Goes t
 Tells next.Halts step s t = (step ≡ Halts) × (t.last ≡ s.last)
 
--- the instructions of straight code
-abbrev pub is_plain : Op → Bool
-is_plain op.Unit = true
-is_plain (op.Lit literal) = true
-is_plain op.Eor = true
-is_plain (op.Base base args) = true
-is_plain (op.Compute e form) = true
-is_plain op.Absorb = true
-is_plain (op.Guard binder condition) = true
-is_plain op.Open = true
-is_plain (op.Part name) = true
-is_plain (op.Close count) = true
-is_plain (op.Call number args) = true
-is_plain op.Return = true
-is_plain _ = false
+-- the instructions of terms without a term in them, or around one
+abbrev pub is_leaf : Op → Bool
+is_leaf op.Unit = true
+is_leaf (op.Lit literal) = true
+is_leaf op.Eor = true
+is_leaf (op.Base base args) = true
+is_leaf (op.Compute e form) = true
+is_leaf op.Absorb = true
+is_leaf (op.Guard binder condition) = true
+is_leaf _ = false
+
+-- and those of arrays
+abbrev pub is_of_array : Op → Bool
+is_of_array (op.Size size to) = true
+is_of_array (op.Full last elts to) = true
+is_of_array (op.Stop to) = true
+is_of_array (op.Edge to) = true
+is_of_array (op.Turn to) = true
+is_of_array (op.Sep to) = true
+is_of_array (op.Elem to again) = true
+is_of_array op.Shut = true
+is_of_array _ = false
 
 -- 16 bits count the labels of an enum
 abbrev pub labels_stand : Op → Bool
 labels_stand (op.Base base args) = labels_fit base
 labels_stand _ = true
 
--- a run from a state halts, over stacks that never have more entries than `most`
-abbrev pub Halting : List Op → List Entry → Subject → ℕ → State → Type 0
-Halting code of_entries subject most s = (r : Reading) × HaltsWith code of_entries subject most s r
+-- a run from a state halts after so many steps at most, over stacks that never have more entries than `most`
+abbrev pub Halting : List Op → List Entry → Subject → ℕ → ℕ → State → Type 0
+Halting code of_entries subject most steps s = (r : Reading) × (h : HaltsWith code of_entries subject most s r) × (h.reached.steps ≤ steps)
+
+-- a struct, or an array of a size, begins
+abbrev pub opens : Option ℕ → State → Step
+opens size s = Goes (record s { at_ = s.at_ + 1; nodes = new_node s.last.place (length s.bindings) size ∷ s.nodes })
+
+-- places stay places of the record
+abbrev pub StaysPlaced : Machine → Machine → Type 0
+StaysPlaced old new = (most : ℕ) → Placed most old → Placed most new
+
+-- why a turn is undone that began at a place and has read so
+abbrev pub undone_by : ℕ → Reading → Bool → ℕ → Option Cause
+undone_by origin r is_first place =
+    if is_fail_class (out-Pd r.pd).class && nat_eq r.place (began origin r) then Some cause.ArrayElem
+    else if not is_first && nat_eq r.place place then Some cause.ArrayStall
+    else None
+
+-- a search of a literal from an address on, its value kept or not
+abbrev pub IsSearch : List Op → ℕ → List ℕ → Type 0
+IsSearch code address literal =
+    (slice_get code address ≡ Some (op.Lit literal))
+    × ((slice_get code (address + 1) ≡ Some (op.ScanOn address))
+    ⊎ ((slice_get code (address + 1) ≡ Some op.Absorb) × (slice_get code (address + 2) ≡ Some (op.ScanOn address))))

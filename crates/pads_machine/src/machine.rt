@@ -1,12 +1,10 @@
-ghost use Rattle.std.specs.Prelude.{◌≡◌, ◌≤◌, List, length, slice_get, IfOk};
+ghost use Rattle.std.specs.Prelude.{◌≡◌, ℕ, ◌≤◌, List, length, slice_get, IfOk};
 ghost use Rattle.pads_calc.specs.declared.decl.Decl.{Decl};
 ghost use Rattle.pads_calc.specs.declared.reading.Reading.{Reading};
-ghost use Rattle.pads_calc.specs.Rows.{row_of};
-ghost use Rattle.pads_image.specs.Answers.{Answers, HaltsWith, first_of, start};
+ghost use Rattle.pads_calc.specs.Rows.{row_of, subject_of_cut, type_of};
+ghost use Rattle.pads_image.specs.Answers.{Answers, HaltsWith, StandsFor, first_of, start};
 ghost use Rattle.pads_machine.specs.Held.{Roomy};
-ghost use Rattle.pads_machine.specs.Image.{IsOf, IsStraight};
 ghost use Rattle.pads_machine.specs.Ran.{Halting};
-ghost use Rattle.pads_steps.specs.Records.{subject_of};
 ghost use Rattle.pads_value.specs.Cuts.{cut_of_frame};
 
 use crate::state::State;
@@ -54,35 +52,35 @@ fn first(entries: &[Entry], number: u16) -> usize
     }
 }
 
-/// What a declaration reads as at a record's first byte.
-fn read_body(
+/// What a record's type reads as at its first byte.
+fn read_body<'x>(
     alloc: Global,
     state: &mut State,
-    image: &Image,
-    number: u16,
-    from: Record,
+    image: &'x Image,
+    record_no: u64,
+    frame: &'x Frame<'x>,
 ) -> Result<Reading, Memory>
+    ghost steps: { ℕ }
     requires room { image.now.need ≤ state.old.room }
     requires roomy { Roomy state.old.room state.old }
-    requires straight { IsStraight image.now }
-    requires halts { Halting image.now.code image.now.entries (subject_of from) image.now.need (start image.now.entries (subject_of from) number) }
-    ensures body { IfOk result (λ body. (r : Reading) → HaltsWith image.now.code image.now.entries (subject_of from.entry) image.now.need (start image.now.entries (subject_of from.entry) number) r → body ≡ r) }
-    ensures within { IfOk result (λ body. body.place ≤ length from.entry.bytes.now) }
+    requires halts { Halting image.now.code image.now.entries (subject_of_cut (cut_of_frame frame.now)) image.now.need steps (start image.now.entries (subject_of_cut (cut_of_frame frame.now)) (type_of image.now.shape record_no)) }
+    ensures body { IfOk result (λ body. (r : Reading) → HaltsWith image.now.code image.now.entries (subject_of_cut (cut_of_frame frame.now)) image.now.need (start image.now.entries (subject_of_cut (cut_of_frame frame.now)) (type_of image.now.shape record_no)) r → body ≡ r) }
+    ensures within { IfOk result (λ body. body.place ≤ length frame.now.bytes.now) }
     ensures roomy { Roomy state.old.room state.new }
 {
-    state.start(
-        alloc,
-        from.origin,
-        first(image.entries.as_slice(), number),
-        INSIDE,
-    );
+    let number = image.shape.type_of(record_no);
+    let address = first(image.entries.as_slice(), number);
+    state.start(alloc, frame.first, address, INSIDE);
     let program = Program {
         code: image.code.as_slice(),
         entries: image.entries.as_slice(),
-        record: from,
+        record: Record {
+            origin: frame.first,
+            bytes: frame.bytes,
+        },
     };
     state.run(alloc, &program)?;
-    Ok(state.take_last(alloc, from.origin))
+    Ok(state.take_last(alloc, frame.first))
 }
 
 impl Machine {
@@ -102,7 +100,7 @@ impl Machine {
         self.state.room as u64
     }
 
-    /// The row of a record by the image of straight declarations: its value, its descriptor and where its
+    /// The row of a record by an image: its value, its descriptor and where its
     /// reading ended. A frame without its bytes isn't read, and its row has the cause of its mark. After
     /// either answer the machine is ready for the next record.
     pub fn read_record(
@@ -113,20 +111,15 @@ impl Machine {
         frame: &Frame,
     ) -> Result<Row, Memory>
         requires room { image.now.need ≤ self.old }
-        requires straight { IsStraight image.now }
         ensures answer { IfOk result (λ row. Answers image.now.code image.now.entries image.now.shape image.now.need record_no (cut_of_frame frame.now) row) }
-        ensures row { IfOk result (λ row. (decls : List Decl) → IsOf decls image.now → row ≡ row_of decls image.now.shape record_no (cut_of_frame frame.now)) }
+        ensures row { IfOk result (λ row. (decls : List Decl) → StandsFor image.now.code image.now.entries image.now.shape image.now.need decls → row ≡ row_of decls image.now.shape record_no (cut_of_frame frame.now)) }
         ensures room { self.new ≡ self.old }
     {
         if let Some(row) = row_without(alloc, record_no, frame) {
             return Ok(row);
         }
-        let record = Record {
-            origin: frame.first,
-            bytes: frame.bytes,
-        };
+        let body = read_body(alloc, &mut self.state, image, record_no, frame)?;
         let number = image.shape.type_of(record_no);
-        let body = read_body(alloc, &mut self.state, image, number, record)?;
         let left = image.kept(alloc, number, body)?;
         row_over(alloc, record_no, frame, left)
     }

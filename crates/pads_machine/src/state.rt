@@ -1,14 +1,14 @@
 //! Where the machine stands: an address, what was read last, and its stacks.
-ghost use Rattle.std.specs.Prelude.{◌≡◌, ◌+◌, ◌-◌, ◌<◌, ◌≤◌, ◌^◌, [], length, reverse, vec_len, IfOk, OnOk};
+ghost use Rattle.std.specs.Prelude.{◌≡◌, ℕ, ◌+◌, ◌-◌, ◌<◌, ◌≤◌, ◌^◌, [], length, reverse, vec_len, IfOk, OnOk};
 ghost use Rattle.pads_calc.specs.Leaves.{unit_of};
 ghost use Rattle.pads_image.specs.States.{base_of, entries, floor_of, seen as seen_of};
-ghost use Rattle.pads_image.specs.Steps.{Goes, close_step, entered, open_step, part_step, reads, returned};
-ghost use Rattle.pads_machine.specs.Held.{Held, Roomy};
-ghost use Rattle.pads_machine.specs.Ran.{GoesWithin};
+ghost use Rattle.pads_image.specs.Steps.{Goes, close_step, entered, part_step, reads, returned};
+ghost use Rattle.pads_machine.specs.Held.{Held, Placed, Roomy};
+ghost use Rattle.pads_machine.specs.Ran.{GoesWithin, opens};
 ghost use Rattle.pads_machine.specs.Shown.{below, caller_shown, shown};
 
 use crate::bindings::{bind, hold, take_back};
-use crate::node::{Caller, Node};
+use crate::node::{Caller, Mark, Node};
 use pads_calc::Reading;
 use pads_dispatch::Args;
 use pads_expr::Binding;
@@ -32,6 +32,7 @@ pub(crate) struct State {
     /// For each binding the part of the latest struct at which its value is at home, if it has one.
     pub(crate) homes: Vec<Option<usize>>,
     pub(crate) nodes: Vec<Node>,
+    pub(crate) marks: Vec<Mark>,
     pub(crate) callers: Vec<Caller>,
 }
 
@@ -48,6 +49,7 @@ impl State {
             bindings: Vec::with_capacity(alloc, room)?,
             homes: Vec::with_capacity(alloc, room)?,
             nodes: Vec::with_capacity(alloc, room)?,
+            marks: Vec::with_capacity(alloc, room)?,
             callers: Vec::with_capacity(alloc, room)?,
         })
     }
@@ -56,6 +58,7 @@ impl State {
     pub(crate) fn start(&mut self, alloc: Global, origin: u64, address: usize, depth: u8)
         requires origin { origin ≤ 2 ^ 62 }
         requires roomy { Roomy self.old.room self.old }
+        ensures placed { (most : ℕ) → Placed most self.new }
         ensures start { shown self.new ≡ record { at_ = address; last = unit_of origin 0; depth = depth; bindings = []; nodes = []; marks = []; callers = [] } }
         ensures held { Held self.new }
         ensures roomy { Roomy self.old.room self.new }
@@ -66,6 +69,7 @@ impl State {
         self.bindings.clear();
         self.homes.clear();
         self.nodes.clear();
+        self.marks.clear();
         self.callers.clear();
     }
 
@@ -99,6 +103,7 @@ impl State {
         requires held { Held self.old }
         ensures read { reads reading (shown self.old) ≡ Goes (shown self.new) }
         ensures last { self.new.last ≡ reading }
+        ensures marks { self.new.marks ≡ self.old.marks }
         ensures held { Held self.new }
         ensures roomy { Roomy self.old.room self.new }
     {
@@ -120,23 +125,26 @@ impl State {
         )
     }
 
-    /// Begins a struct.
-    pub(crate) fn open(&mut self, alloc: Global)
+    /// Begins a struct, or an array that is to have so many elements.
+    pub(crate) fn open(&mut self, alloc: Global, size: Option<u128>)
         requires address { self.old.address < 2 ^ 32 }
         requires place { self.old.last.place ≤ 2 ^ 62 }
-        requires within { GoesWithin self.old.room (open_step (shown self.old)) }
+        requires within { GoesWithin self.old.room (opens size (shown self.old)) }
         requires roomy { Roomy self.old.room self.old }
         requires held { Held self.old }
-        ensures open { open_step (shown self.old) ≡ Goes (shown self.new) }
+        ensures open { opens size (shown self.old) ≡ Goes (shown self.new) }
         ensures place { self.new.last.place ≡ self.old.last.place }
+        ensures marks { self.new.marks ≡ self.old.marks }
         ensures held { Held self.new }
         ensures roomy { Roomy self.old.room self.new }
     {
         self.nodes.push_reserved(Node {
             begin: self.last.place,
             base: self.bindings.len(),
+            size,
             values: Vec::new(alloc),
             pds: Vec::new(alloc),
+            own: None,
         });
         self.address += 1;
     }
@@ -156,6 +164,7 @@ impl State {
         requires held { Held self.old }
         ensures part { OnOk result (part_step origin name (shown self.old) (shown self.old).nodes ≡ Goes (shown self.new)) }
         ensures place { OnOk result (self.new.last.place ≡ self.old.last.place) }
+        ensures marks { OnOk result (self.new.marks ≡ self.old.marks) }
         ensures held { OnOk result (Held self.new) }
         ensures roomy { Roomy self.old.room self.new }
     {
@@ -185,6 +194,7 @@ impl State {
         requires held { Held self.old }
         ensures close { close_step origin count (shown self.old) (shown self.old).nodes ≡ Goes (shown self.new) }
         ensures place { self.new.last.place ≡ self.old.last.place }
+        ensures marks { self.new.marks ≡ self.old.marks }
         ensures held { Held self.new }
         ensures roomy { Roomy self.old.room self.new }
     {
@@ -194,8 +204,10 @@ impl State {
         let Node {
             begin,
             base,
+            size: _,
             mut values,
             pds,
+            own: _,
         } = node;
         take_back(&mut self.bindings, &mut self.homes, base, &mut values);
         let value = Val::Tuple(Items::from_vec(values));
@@ -212,6 +224,8 @@ impl State {
         requires roomy { Roomy self.old.room self.old }
         requires held { Held self.old }
         ensures enter { shown self.new ≡ entered entry.now args (self.old.depth - 1) (shown self.old) }
+        ensures last { self.new.last ≡ self.old.last }
+        ensures marks { self.new.marks ≡ self.old.marks }
         ensures held { Held self.new }
         ensures roomy { Roomy self.old.room self.new }
     {
@@ -237,6 +251,8 @@ impl State {
         requires held { Held self.old }
         ensures cut { shown self.new ≡ record (shown self.old) { bindings = below base (shown self.old).bindings } }
         ensures depth { self.new.depth ≡ self.old.depth }
+        ensures last { self.new.last ≡ self.old.last }
+        ensures marks { self.new.marks ≡ self.old.marks }
         ensures callers { self.new.callers ≡ self.old.callers }
         ensures held { Held self.new }
         ensures roomy { Roomy self.old.room self.new }
@@ -260,6 +276,8 @@ impl State {
         requires roomy { Roomy self.old.room self.old }
         requires held { Held self.old }
         ensures leave { shown self.new ≡ returned (caller_shown caller) (shown self.old).callers (shown self.old) }
+        ensures last { self.new.last ≡ self.old.last }
+        ensures marks { self.new.marks ≡ self.old.marks }
         ensures held { Held self.new }
         ensures roomy { Roomy self.old.room self.new }
     {

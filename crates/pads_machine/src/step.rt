@@ -1,5 +1,5 @@
 //! Instructions, one after another.
-ghost use Rattle.std.specs.Prelude.{◌≡◌, ◌<◌, ◌≤◌, ◌^◌, true, length, slice_get, IfOk, OnOk};
+ghost use Rattle.std.specs.Prelude.{◌≡◌, ℕ, ◌<◌, ◌≤◌, ◌^◌, true, [], length, slice_get, IfOk, OnOk};
 ghost use Rattle.std.specs.Option.{option_copied};
 ghost use Rattle.std.specs.List.{list_all};
 ghost use Rattle.pads_calc.specs.declared.reading.Reading.{Reading};
@@ -14,8 +14,8 @@ ghost use Rattle.pads_expr.specs.Value.{value};
 ghost use Rattle.pads_expr.specs.Worth.{worth_or_none};
 ghost use Rattle.pads_image.specs.States.{seen};
 ghost use Rattle.pads_image.specs.Steps.{Goes, call_step, does, reads, return_step};
-ghost use Rattle.pads_machine.specs.Held.{Held, Roomy};
-ghost use Rattle.pads_machine.specs.Ran.{GoesWithin, Halting, Tells, is_plain, labels_stand};
+ghost use Rattle.pads_machine.specs.Held.{Held, Placed, Roomy};
+ghost use Rattle.pads_machine.specs.Ran.{GoesWithin, Halting, StaysPlaced, Tells, is_leaf, is_of_array, labels_stand};
 ghost use Rattle.pads_machine.specs.Shown.{shown};
 
 use crate::state::State;
@@ -30,6 +30,8 @@ use std::alloc::Global;
 #[derive(Clone, Copy, PartialEq, Eq)]
 pub(crate) enum Next {
     Goes,
+    /// It goes on with a search, one byte further.
+    Searches,
     Halts,
 }
 
@@ -42,7 +44,7 @@ pub(crate) struct Program<'a> {
 }
 
 /// The instruction at an address.
-fn at(code: &[Op], address: usize) -> Option<&Op>
+pub(crate) fn at(code: &[Op], address: usize) -> Option<&Op>
     ensures op { option_copied result ≡ slice_get code.now address }
 {
     code.get(address)
@@ -57,7 +59,7 @@ impl State {
         requires roomy { Roomy self.old.room self.old }
         requires held { Held self.old }
         ensures fail { reads (fails origin cause self.old.last.place) (shown self.old) ≡ Goes (shown self.new) }
-        ensures place { self.new.last.place ≡ self.old.last.place }
+        ensures placed { StaysPlaced self.old self.new }
         ensures held { Held self.new }
         ensures roomy { Roomy self.old.room self.new }
     {
@@ -80,6 +82,7 @@ impl State {
         requires held { Held self.old }
         ensures read { OnOk result (reads (base_of (subject_of from.now) base.now (arguments_of args.now (seen (shown self.old))) self.old.last.place) (shown self.old) ≡ Goes (shown self.new)) }
         ensures place { OnOk result (self.new.last.place ≤ length from.now.bytes.now) }
+        ensures marks { OnOk result (self.new.marks ≡ self.old.marks) }
         ensures held { OnOk result (Held self.new) }
         ensures roomy { Roomy self.old.room self.new }
     {
@@ -103,6 +106,7 @@ impl State {
         requires held { Held self.old }
         ensures read { OnOk result (reads (compute_of from.now.origin form.now (worth_or_none (value e.now (seen (shown self.old)))) self.old.last.place) (shown self.old) ≡ Goes (shown self.new)) }
         ensures place { OnOk result (self.new.last.place ≤ length from.now.bytes.now) }
+        ensures marks { OnOk result (self.new.marks ≡ self.old.marks) }
         ensures held { OnOk result (Held self.new) }
         ensures roomy { Roomy self.old.room self.new }
     {
@@ -120,7 +124,7 @@ impl State {
         requires roomy { Roomy self.old.room self.old }
         requires held { Held self.old }
         ensures absorb { reads (absorb_of self.old.last) (shown self.old) ≡ Goes (shown self.new) }
-        ensures place { self.new.last.place ≡ self.old.last.place }
+        ensures placed { StaysPlaced self.old self.new }
         ensures held { Held self.new }
         ensures roomy { Roomy self.old.room self.new }
     {
@@ -136,7 +140,7 @@ impl State {
         requires roomy { Roomy self.old.room self.old }
         requires held { Held self.old }
         ensures guard { reads (guard_of binder condition.now (seen (shown self.old)) self.old.last) (shown self.old) ≡ Goes (shown self.new) }
-        ensures place { self.new.last.place ≡ self.old.last.place }
+        ensures placed { StaysPlaced self.old self.new }
         ensures held { Held self.new }
         ensures roomy { Roomy self.old.room self.new }
     {
@@ -161,7 +165,7 @@ impl State {
         requires roomy { Roomy self.old.room self.old }
         requires held { Held self.old }
         ensures call { OnOk result (call_step origin entries.now number args.now self.old.depth (shown self.old) ≡ Goes (shown self.new)) }
-        ensures place { OnOk result (self.new.last.place ≡ self.old.last.place) }
+        ensures placed { OnOk result (StaysPlaced self.old self.new) }
         ensures held { OnOk result (Held self.new) }
         ensures roomy { Roomy self.old.room self.new }
     {
@@ -189,6 +193,7 @@ impl State {
         requires held { Held self.old }
         ensures end { Tells result (return_step (shown self.old) (shown self.old).callers) (shown self.old) (shown self.new) }
         ensures last { self.new.last ≡ self.old.last }
+        ensures placed { StaysPlaced self.old self.new }
         ensures held { Held self.new }
         ensures roomy { Roomy self.old.room self.new }
     {
@@ -201,80 +206,111 @@ impl State {
         }
     }
 
-    /// One instruction.
-    fn step(&mut self, alloc: Global, program: &Program, op: &Op) -> Result<Next, Memory>
-        requires plain { is_plain op.now ≡ true }
+    /// An instruction of a term without a term in it, or around one.
+    fn leaf(&mut self, alloc: Global, from: &Record, op: &Op) -> Result<(), Memory>
+        requires leaf { is_leaf op.now ≡ true }
         requires labels { labels_stand op.now ≡ true }
         requires address { self.old.address < 2 ^ 32 }
-        requires place { self.old.last.place ≤ length program.now.record.bytes.now }
+        requires placed { Placed (length from.now.bytes.now) self.old }
+        requires roomy { Roomy self.old.room self.old }
+        requires held { Held self.old }
+        ensures leaf { OnOk result (does [] (subject_of from.now) op.now (shown self.old) ≡ Goes (shown self.new)) }
+        ensures placed { OnOk result (Placed (length from.now.bytes.now) self.new) }
+        ensures held { OnOk result (Held self.new) }
+        ensures roomy { Roomy self.old.room self.new }
+    {
+        let place = self.last.place;
+        match op {
+            Op::Unit => self.read(from.unit(alloc, place)),
+            Op::Lit(literal) => self.read(from.literal(alloc, literal.as_slice(), place)),
+            Op::Eor => self.read(from.end(alloc, place)),
+            Op::Base(base, args) => self.base_type(alloc, from, base, args.as_slice())?,
+            Op::Compute(e, form) => self.compute(alloc, from, e, form)?,
+            Op::Absorb => self.absorb(alloc, from.origin),
+            Op::Guard(binder, condition) => self.guard(alloc, from.origin, *binder, condition),
+            _ => unreachable!(),
+        }
+        Ok(())
+    }
+
+    /// An instruction of an array.
+    fn array_step(&mut self, alloc: Global, from: &Record, op: &Op) -> Result<(), Memory>
+        requires array { is_of_array op.now ≡ true }
+        requires address { self.old.address < 2 ^ 32 }
+        requires placed { Placed (length from.now.bytes.now) self.old }
+        requires within { GoesWithin self.old.room (does [] (subject_of from.now) op.now (shown self.old)) }
+        requires roomy { Roomy self.old.room self.old }
+        requires held { Held self.old }
+        ensures array { OnOk result (does [] (subject_of from.now) op.now (shown self.old) ≡ Goes (shown self.new)) }
+        ensures placed { OnOk result (Placed (length from.now.bytes.now) self.new) }
+        ensures held { OnOk result (Held self.new) }
+        ensures roomy { Roomy self.old.room self.new }
+    {
+        let origin = from.origin;
+        match op {
+            Op::Size(size, to) => self.array(alloc, origin, size.as_ref(), *to),
+            Op::Full(last, name, to) => self.full(alloc, last.as_ref(), *name, *to)?,
+            Op::Stop(to) => self.stop(*to),
+            Op::Edge(to) => self.edge(from, *to),
+            Op::Turn(to) => self.turn(*to),
+            Op::Sep(to) => self.separate(*to),
+            Op::Elem(to, again) => self.element(alloc, origin, *to, *again)?,
+            Op::Shut => self.shut(origin)?,
+            _ => unreachable!(),
+        }
+        Ok(())
+    }
+
+    /// One instruction.
+    fn step(&mut self, alloc: Global, program: &Program, op: &Op) -> Result<Next, Memory>
+        requires labels { labels_stand op.now ≡ true }
+        requires address { self.old.address < 2 ^ 32 }
+        requires placed { Placed (length program.now.record.bytes.now) self.old }
         requires within { GoesWithin self.old.room (does program.now.entries.now (subject_of program.now.record) op.now (shown self.old)) }
         requires roomy { Roomy self.old.room self.old }
         requires held { Held self.old }
         ensures step { IfOk result (λ next. Tells next (does program.now.entries.now (subject_of program.now.record) op.now (shown self.old)) (shown self.old) (shown self.new)) }
-        ensures place { OnOk result (self.new.last.place ≤ length program.now.record.bytes.now) }
+        ensures placed { OnOk result (Placed (length program.now.record.bytes.now) self.new) }
         ensures held { OnOk result (Held self.new) }
         ensures roomy { Roomy self.old.room self.new }
     {
-        let record = &program.record;
-        let origin = record.origin;
-        let place = self.last.place;
+        let origin = program.record.origin;
         match op {
-            Op::Unit => {
-                self.read(record.unit(alloc, place));
-                Ok(Next::Goes)
+            Op::Open => self.open(alloc, None),
+            Op::Part(name) => self.part(alloc, origin, *name)?,
+            Op::Close(count) => self.close(origin, *count),
+            Op::Mark | Op::ScanFrom => self.note(),
+            Op::Try(number, to) => self.branch(alloc, &program.record, *number, *to)?,
+            Op::NoArm => self.no_branch(alloc, origin),
+            Op::Switch(e, targets, to) => {
+                self.switch(alloc, origin, e, targets.as_slice(), *to)?
             }
-            Op::Lit(literal) => {
-                self.read(record.literal(alloc, literal.as_slice(), place));
-                Ok(Next::Goes)
-            }
-            Op::Eor => {
-                self.read(record.end(alloc, place));
-                Ok(Next::Goes)
-            }
-            Op::Base(base, args) => {
-                self.base_type(alloc, record, base, args.as_slice())?;
-                Ok(Next::Goes)
-            }
-            Op::Compute(e, form) => {
-                self.compute(alloc, record, e, form)?;
-                Ok(Next::Goes)
-            }
-            Op::Absorb => {
-                self.absorb(alloc, origin);
-                Ok(Next::Goes)
-            }
-            Op::Guard(binder, condition) => {
-                self.guard(alloc, origin, *binder, condition);
-                Ok(Next::Goes)
-            }
-            Op::Open => {
-                self.open(alloc);
-                Ok(Next::Goes)
-            }
-            Op::Part(name) => {
-                self.part(alloc, origin, *name)?;
-                Ok(Next::Goes)
-            }
-            Op::Close(count) => {
-                self.close(origin, *count);
-                Ok(Next::Goes)
-            }
+            Op::Arm(number, to) => self.case(alloc, origin, *number, *to)?,
+            Op::ScanOn(to) => return Ok(self.scan(alloc, &program.record, *to)),
             Op::Call(number, args) => {
-                self.call(alloc, origin, program.entries, *number, args.as_slice())?;
-                Ok(Next::Goes)
+                self.call(alloc, origin, program.entries, *number, args.as_slice())?
             }
-            Op::Return => Ok(self.end()),
-            _ => unreachable!(),
+            Op::Return => return Ok(self.end()),
+            Op::Size(_, _)
+            | Op::Full(_, _, _)
+            | Op::Stop(_)
+            | Op::Edge(_)
+            | Op::Turn(_)
+            | Op::Sep(_)
+            | Op::Elem(_, _)
+            | Op::Shut => self.array_step(alloc, &program.record, op)?,
+            _ => self.leaf(alloc, &program.record, op)?,
         }
+        Ok(Next::Goes)
     }
 
     /// Runs until it halts.
     pub(crate) fn run(&mut self, alloc: Global, program: &Program) -> Result<(), Memory>
+        ghost steps: { ℕ }
         requires short { length program.now.code.now < 2 ^ 32 }
-        requires plain { list_all is_plain program.now.code.now ≡ true }
         requires labels { list_all labels_stand program.now.code.now ≡ true }
-        requires place { self.old.last.place ≤ length program.now.record.bytes.now }
-        requires halts { Halting program.now.code.now program.now.entries.now (subject_of program.now.record) self.old.room (shown self.old) }
+        requires placed { Placed (length program.now.record.bytes.now) self.old }
+        requires halts { Halting program.now.code.now program.now.entries.now (subject_of program.now.record) self.old.room steps (shown self.old) }
         requires roomy { Roomy self.old.room self.old }
         requires held { Held self.old }
         ensures ran { OnOk result ((r : Reading) → HaltsWith program.now.code.now program.now.entries.now (subject_of program.now.record) self.old.room (shown self.old) r → self.new.last ≡ r) }
@@ -282,8 +318,10 @@ impl State {
         ensures roomy { Roomy self.old.room self.new }
     {
         'run: while let Some(op) = at(program.code, self.address) {
-            if let Next::Halts = self.step(alloc, program, op)? {
-                return Ok(());
+            match self.step(alloc, program, op)? {
+                Next::Goes => {}
+                Next::Searches => self.leap(alloc, program),
+                Next::Halts => return Ok(()),
             }
         }
         unreachable!()

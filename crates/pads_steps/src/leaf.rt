@@ -21,7 +21,7 @@ use std::alloc::Global;
 
 impl<'a> Record<'a> {
     /// The bytes from a place on.
-    fn rest(&self, place: u64) -> &'a [u8]
+    pub(crate) fn rest(&self, place: u64) -> &'a [u8]
         requires { place ≤ length self.now.bytes.now }
         ensures rest { result.now ≡ drop place self.now.bytes.now }
     {

@@ -1,7 +1,7 @@
-ghost use Rattle.std.specs.Prelude.{◌≡◌, ◌≤◌, ◌^◌, [], ◌∷◌, ◌++◌, None, reverse, OnOk};
+ghost use Rattle.std.specs.Prelude.{◌≡◌, ◌≤◌, ◌^◌, [], ◌∷◌, ◌++◌, None, Some, reverse, OnOk};
 ghost use Rattle.std.specs.Option.{option_copied};
 ghost use Rattle.pads_calc.specs.Arguments.{is_true};
-ghost use Rattle.pads_calc.specs.Arrays.{soft, is_empty as has_no_element, is_last as is_last_of};
+ghost use Rattle.pads_calc.specs.Arrays.{soft, is_empty as has_no_element, is_last as is_last_by};
 ghost use Rattle.pads_calc.specs.Readings.{node};
 ghost use Rattle.pads_value.specs.declared.value.Val.TheVariants as val;
 
@@ -86,20 +86,14 @@ impl Run {
         elements_name: u16,
         bindings: &[Binding],
     ) -> bool
-        ensures last { result ≡ is_last_of (option_copied last.entry) elements_name self.old.values (reverse bindings.now) }
+        ensures last { result ≡ is_last_by (option_copied last.entry) elements_name self.old.values (reverse bindings.now) }
         ensures kept { self.new ≡ self.old }
     {
         let Some(condition) = last else {
             return false;
         };
-        if self.is_empty() {
-            return false;
-        }
         let elements = mem::replace(&mut self.values, Items::new(alloc));
-        let (truth, value) = asked(condition, elements_name, Val::Array(elements), bindings);
-        let Val::Array(elements) = value else {
-            unreachable!()
-        };
+        let (truth, elements) = is_last_of(condition, elements_name, elements, bindings);
         self.values = elements;
         truth
     }
@@ -112,7 +106,7 @@ impl Run {
         elements_name: u16,
         env: &Env,
     ) -> bool
-        ensures last { result ≡ is_last_of (option_copied last.entry) elements_name self.old.values env.now.pairs }
+        ensures last { result ≡ is_last_by (option_copied last.entry) elements_name self.old.values env.now.pairs }
         ensures kept { self.new ≡ self.old }
     {
         self.is_last_in(alloc, last, elements_name, env.as_slice())
@@ -126,4 +120,25 @@ fn asked(condition: &Expr, name: u16, value: Val, bindings: &[Binding]) -> (bool
 {
     let truth = is_true_of(condition, name, &value, bindings);
     (truth, value)
+}
+
+/// Whether the latest of these elements is the last one, by a condition over them by their name and over
+/// bindings of which the last counts. Gives the elements back.
+pub fn is_last_of(
+    condition: &Expr,
+    elements_name: u16,
+    elements: Vals,
+    bindings: &[Binding],
+) -> (bool, Vals)
+    ensures last { result.0 ≡ is_last_by (Some condition.now) elements_name elements (reverse bindings.now) }
+    ensures elements { result.1 ≡ elements }
+{
+    if let [] = elements.as_slice() {
+        return (false, elements);
+    }
+    let (truth, value) = asked(condition, elements_name, Val::Array(elements), bindings);
+    let Val::Array(elements) = value else {
+        unreachable!()
+    };
+    (truth, elements)
 }

@@ -1,9 +1,8 @@
 ghost use Rattle.pads_calc.specs.declared.term.Term.TheVariants as term_of;
-ghost use Rattle.std.specs.Prelude.{◌≡◌, ◌≤◌, drop, length, IfSome};
+ghost use Rattle.std.specs.Prelude.{◌≡◌, ◌≤◌, length, IfSome};
 ghost use Rattle.pads_calc.specs.Places.{EndsWithin};
 ghost use Rattle.pads_walk.specs.Literals.{IsLiteral, IsFound};
 
-use memchr::memmem;
 use pads_calc::{Reading, Term};
 use pads_steps::Record;
 use pads_value::Cause;
@@ -31,14 +30,6 @@ fn plain(term: &Term) -> Option<&[u8]>
     }
 }
 
-/// The bytes from a place on.
-fn rest<'a>(from: &Record<'a>, place: u64) -> &'a [u8]
-    requires within { place ≤ length from.now.bytes.now }
-    ensures rest { result.now ≡ drop place from.now.bytes.now }
-{
-    &from.bytes[place as usize..]
-}
-
 /// A literal at the first place from here to the record's end where its bytes stand. Mostly that is here,
 /// which is looked at before a search is set up.
 pub(crate) fn find_from(alloc: Global, from: &Record, literal: &[u8], place: u64) -> Reading
@@ -61,12 +52,10 @@ fn find(alloc: Global, from: &Record, literal: &[u8], place: u64) -> Reading
     ensures found { IsFound from.now literal.now place result }
     ensures within { EndsWithin from.now.bytes.now place result }
 {
-    match memmem::find(rest(from, place), literal) {
-        Some(skipped) => {
-            let at = place + skipped as u64;
-            from.literal(alloc, literal, at)
-                .found(from.origin, place, at)
-        }
+    match from.first_place(literal, place) {
+        Some(at) => from
+            .literal(alloc, literal, at)
+            .found(from.origin, place, at),
         None => Reading::fails(alloc, from.origin, Cause::MissingLiteral, place),
     }
 }

@@ -1,7 +1,7 @@
 use Rattle.std.proofs.Common.{◌≡◌, ◌∙◌, sym, ap, arith, ◌+◌, ◌<◌, ◌≤◌, ◌∷◌, length, min, drop, reverse, get_or, Some, slice_get}
 use Rattle.std.proofs.lemmas.List.{drop-set-lt}
 use Rattle.pads_value.specs.declared.value.Val.{Val}
-use Rattle.pads_calc.specs.Arguments.{bound_to, value_of_arg}
+use Rattle.pads_calc.specs.Arguments.{bound_to}
 use Rattle.pads_calc.proofs.Bindings.{bound-next}
 use Rattle.pads_machine.specs.Shown.{homeless}
 use Rattle.pads_machine.proofs.Bound.{bound-end, homeless-end, homeless-next, left-next, left-same}

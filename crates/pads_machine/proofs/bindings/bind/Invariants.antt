@@ -1,4 +1,4 @@
-use Rattle.std.proofs.Common.{◌≡◌, ◌+◌, length, min, drop, reverse, vec_len, vec_capacity}
+use Rattle.std.proofs.Common.{◌≡◌, ◌+◌, length, drop, reverse, vec_len, vec_capacity}
 use Rattle.pads_calc.specs.Arguments.{bound_to}
 use Rattle.pads_machine.specs.Shown.{homeless}
 use Rattle.pads_machine.proofs.bindings.bind.Given as goal

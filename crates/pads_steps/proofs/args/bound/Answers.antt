@@ -1,6 +1,4 @@
-use Rattle.std.proofs.Common.{◌≡◌, ◌∷◌, ◌∙◌, sym, length, get_or, Some, None, slice_get}
-use Rattle.pads_expr.specs.Value.{Pairs}
-use Rattle.pads_calc.specs.Arguments.{value_of_arg}
+use Rattle.std.proofs.Common.{◌≡◌, ◌∷◌, ◌∙◌, sym, get_or, Some, None, slice_get}
 use Rattle.pads_calc.proofs.Bindings.{bound-next, bound-past}
 use Rattle.pads_steps.proofs.args.bound.Goals as goal
 

@@ -24,9 +24,9 @@ returns-in-None-clause-cut c =
     ap reverse c.truncate.ensures.items ∙ reverse-take base m.bindings.items ∙ ap (λ n. drop (n - base) bs) (sym (length-reverse m.bindings.items)) in
     let hs_are : hs' ≡ below base hs =
     ap reverse c.truncate-in-None.ensures.items ∙ reverse-take base m.homes.items ∙ ap (λ n. drop (n - base) hs) (sym (length-reverse m.homes.items)) in
-    ap (λ (ns : List Node). shows m.address m.last m.depth bs' hs' (reverse ns) cs) now
-    ∙ cut-none-shows m.address m.depth m.last bs hs cs base bs' hs' bs_are hs_are
-    ∙ ap (λ (ns : List Node). record (shows m.address m.last m.depth bs hs (reverse ns) cs) { bindings = below base bs }) (sym old)
+    ap (λ (ns : List Node). shows (reverse m.marks.items) m.address m.last m.depth bs' hs' (reverse ns) cs) now
+    ∙ cut-none-shows (reverse m.marks.items) m.address m.depth m.last bs hs cs base bs' hs' bs_are hs_are
+    ∙ ap (λ (ns : List Node). record (shows (reverse m.marks.items) m.address m.last m.depth bs hs (reverse ns) cs) { bindings = below base bs }) (sym old)
 
 pub returns-in-Some-clause-cut : goal.returns-in-Some-clause-cut
 returns-in-Some-clause-cut c =
@@ -45,8 +45,8 @@ returns-in-Some-clause-cut c =
     let each : length hs ≡ length bs = omega (arith, length-reverse m.homes.items, length-reverse m.bindings.items, c.requires.held.each_home) in
     let less : n.base ≤ base = subst (λ (ns : List Node). floor_of (nodes_shown ns hs bs) ≤ base) old c.requires.base in
     let ns_are : ns' ≡ k ∷ rest = ap reverse c.push_reserved.ensures.items ∙ reverse-push c.pop.new.self.items k in
-    cut-shows m.address m.depth m.last bs hs cs base bs' hs' c.take_back.ensures.bindings c.take_back.ensures.homes n k rest ns' refl refl c.take_back.ensures.values less each ns_are refl
-    ∙ ap (λ (ns : List Node). record (shows m.address m.last m.depth bs hs ns cs) { bindings = below base bs }) (sym old)
+    cut-shows (reverse m.marks.items) m.address m.depth m.last bs hs cs base bs' hs' c.take_back.ensures.bindings c.take_back.ensures.homes n k rest ns' refl c.take_back.ensures.values less each ns_are refl
+    ∙ ap (λ (ns : List Node). record (shows (reverse m.marks.items) m.address m.last m.depth bs hs ns cs) { bindings = below base bs }) (sym old)
 
 pub returns-in-Some-clause-held : goal.returns-in-Some-clause-held
 returns-in-Some-clause-held c =
@@ -69,6 +69,6 @@ returns-in-Some-clause-held c =
     let each' : length (below base hs) ≡ length (below base bs) = cut-each base hs bs each in
     record {
       each_home = omega (arith, each', ap length c.take_back.ensures.homes, ap length c.take_back.ensures.bindings, length-reverse c.take_back.new.homes.items, length-reverse c.take_back.new.bindings.items);
-      sound = cut-held m.address m.depth m.last bs hs cs base bs' hs' c.take_back.ensures.bindings c.take_back.ensures.homes n k rest ns' refl refl c.take_back.ensures.values less each ns_are sound;
+      sound = cut-held (reverse m.marks.items) m.address m.depth m.last bs hs cs base bs' hs' c.take_back.ensures.bindings c.take_back.ensures.homes n k rest ns' refl c.take_back.ensures.values less each ns_are sound;
       deep = c.requires.held.deep;
     }

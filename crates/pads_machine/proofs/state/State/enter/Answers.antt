@@ -1,4 +1,4 @@
-use Rattle.std.proofs.Common.{◌≡◌, ◌∙◌, ap, refl, arith, ℕ, ◌+◌, ◌-◌, ◌≤◌, List, ◌∷◌, length, reverse}
+use Rattle.std.proofs.Common.{◌≡◌, ◌∙◌, ap, refl, arith, ℕ, ◌+◌, ◌-◌, List, length, reverse}
 use Rattle.std.proofs.lemmas.List.{length-reverse, length_push}
 use Rattle.pads_calc.specs.Arguments.{bound_to}
 use Rattle.pads_machine.specs.declared.node.Caller.{Caller}
@@ -52,7 +52,7 @@ returns-clause-enter c =
     let base : c.len.result ≡ length bs = omega (arith, c.len.ensures, length-reverse m.bindings.items, m.bindings.ok.0) in
     let bs_are : bs' ≡ bound_to entry.params args bs = c.bind.ensures.bindings ∙ ap (λ (params : List ℕ). bound_to params args bs) c.as_slice.ensures.items in
     let hs_are : hs' ≡ homeless entry.params args hs = c.bind.ensures.homes ∙ ap (λ (params : List ℕ). homeless params args hs) c.as_slice.ensures.items in
-    enter-shows entry args m.address m.depth (m.depth - 1) m.last bs hs ns cs bs' hs' bs_are hs_are c.requires.held.sound each k cs'
+    enter-shows (reverse m.marks.items) entry args m.address m.depth (m.depth - 1) m.last bs hs ns cs bs' hs' bs_are hs_are c.requires.held.sound each k cs'
     (ap reverse c.push_reserved.ensures.items ∙ reverse-push m.callers.items k) refl base
 
 pub returns-clause-held : goal.returns-clause-held
@@ -70,9 +70,9 @@ returns-clause-held c =
     let each : length hs ≡ length bs = omega (arith, length-reverse m.homes.items, length-reverse m.bindings.items, c.requires.held.each_home) in
     let bs_are : bs' ≡ bound_to entry.params args bs = c.bind.ensures.bindings ∙ ap (λ (params : List ℕ). bound_to params args bs) c.as_slice.ensures.items in
     let hs_are : hs' ≡ homeless entry.params args hs = c.bind.ensures.homes ∙ ap (λ (params : List ℕ). homeless params args hs) c.as_slice.ensures.items in
-    let each' : length hs' ≡ length bs' = enter-each entry args m.address m.depth (m.depth - 1) m.last bs hs ns cs bs' hs' bs_are hs_are c.requires.held.sound each in
+    let each' : length hs' ≡ length bs' = enter-each (reverse m.marks.items) entry args m.address m.depth (m.depth - 1) m.last bs hs ns cs bs' hs' bs_are hs_are c.requires.held.sound each in
     record {
       each_home = omega (arith, each', length-reverse c.bind.new.homes.items, length-reverse c.bind.new.bindings.items);
-      sound = enter-held entry args m.address m.depth (m.depth - 1) m.last bs hs ns cs bs' hs' bs_are hs_are c.requires.held.sound each;
+      sound = enter-held (reverse m.marks.items) entry args m.address m.depth (m.depth - 1) m.last bs hs ns cs bs' hs' bs_are hs_are c.requires.held.sound each;
       deep = omega (arith, c.requires.held.deep, c.requires.depth, ap length c.push_reserved.ensures.items, length_push m.callers.items k);
     }

@@ -1,6 +1,5 @@
-use Rattle.std.proofs.Common.{arith, ◌+◌, ◌≤◌, length, reverse}
+use Rattle.std.proofs.Common.{arith, reverse}
 use Rattle.std.proofs.lemmas.List.{length-reverse}
-use Rattle.pads_image.specs.States.{entries}
 use Rattle.pads_machine.proofs.Shows.{nodes-count}
 use Rattle.pads_machine.proofs.state.State.open.Goals as goal
 

@@ -41,9 +41,9 @@ returns-clause-part c =
     let hs_are : hs' ≡ home_of name (length n.values.items) hs =
     c.hold-held.ensures.homes ∙ ap (λ (t : State). home_of name c.len-part.result (reverse t.homes.items)) left ∙ ap (λ part. home_of name part hs) size in
     let ns_are : ns' ≡ k ∷ rest = ap reverse c.push_reserved.ensures.items ∙ reverse-push t.nodes.items k ∙ ap (λ (t : State). k ∷ reverse t.nodes.items) left in
-    ap (λ (ns : List Node). part_step c.args.origin name (shows m.address m.last m.depth bs hs ns cs) (nodes_shown ns hs bs)) old
-    ∙ part-shows c.args.origin m.address m.depth m.last bs hs n rest cs sound each name k c.in_ok-node.ensures.begin c.in_ok-node.ensures.base values bs' hs' ns' pds bs_are hs_are ns_are
-    ∙ ap (λ (t : State). Goes (shows (t.address + 1) t.last t.depth bs' hs' ns' (reverse t.callers.items))) (sym left)
+    ap (λ (ns : List Node). part_step c.args.origin name (shows (reverse m.marks.items) m.address m.last m.depth bs hs ns cs) (nodes_shown ns hs bs)) old
+    ∙ part-shows (reverse m.marks.items) c.args.origin m.address m.depth m.last bs hs n rest cs sound each name k c.in_ok-node.ensures.filled values bs' hs' ns' pds bs_are hs_are ns_are
+    ∙ ap (λ (t : State). Goes (shows (reverse t.marks.items) (t.address + 1) t.last t.depth bs' hs' ns' (reverse t.callers.items))) (sym left)
 
 pub returns-clause-held : goal.returns-clause-held
 returns-clause-held c =
@@ -74,9 +74,9 @@ returns-clause-held c =
     c.hold-held.ensures.homes ∙ ap (λ (t : State). home_of name c.len-part.result (reverse t.homes.items)) left ∙ ap (λ part. home_of name part hs) size in
     let ns_are : ns' ≡ k ∷ rest = ap reverse c.push_reserved.ensures.items ∙ reverse-push t.nodes.items k ∙ ap (λ (t : State). k ∷ reverse t.nodes.items) left in
     let each' : length hs' ≡ length bs' =
-    part-each c.args.origin m.address m.depth m.last bs hs n rest cs sound each name k c.in_ok-node.ensures.begin c.in_ok-node.ensures.base values bs' hs' bs_are hs_are in
+    part-each (reverse m.marks.items) c.args.origin m.address m.depth m.last bs hs n rest cs sound each name k c.in_ok-node.ensures.filled values bs' hs' bs_are hs_are in
     record {
       each_home = omega (arith, each', length-reverse c.hold-held.new.homes.items, length-reverse c.hold-held.new.bindings.items);
-      sound = part-held c.args.origin m.address m.depth m.last bs hs n rest cs sound each name k c.in_ok-node.ensures.begin c.in_ok-node.ensures.base values hs' ns' hs_are ns_are;
+      sound = part-held (reverse m.marks.items) c.args.origin m.address m.depth m.last bs hs n rest cs sound each name k c.in_ok-node.ensures.filled values hs' ns' hs_are ns_are;
       deep = subst (λ (t : State). t.depth + length t.callers.items ≤ 255) (sym left) c.requires.held.deep;
     }

@@ -1,33 +1,27 @@
-use Rattle.std.proofs.Common.{◌≡◌, ◌∙◌, sym, subst, arith, ℕ, Some, None, slice_get, length}
-use Rattle.pads_image.specs.States as states
+use Rattle.std.proofs.Common.{◌≡◌, ◌∙◌, sym, subst, arith, Some, None, slice_get}
+use Rattle.pads_image.specs.Answers.{Reaches}
 use Rattle.pads_image.specs.Steps.{Goes, Step, does, step}
 use Rattle.law_images.proofs.ReadBack.{all-there}
 use Rattle.pads_steps.specs.Records.{subject_of}
 use Rattle.pads_machine.specs.declared.step.Next.{Next}
 use Rattle.pads_machine.specs.Held.{Roomy}
-use Rattle.pads_machine.specs.Ran.{GoesWithin, Tells, is_plain, labels_stand}
+use Rattle.pads_machine.specs.Ran.{GoesWithin, Tells, labels_stand}
 use Rattle.pads_machine.specs.Shown.{shown}
-use Rattle.pads_machine.proofs.Halts.{at-op, goes-within, halted, moved, never-past, some-below, told-goes}
-use Rattle.pads_machine.proofs.Work.{less-left}
+use Rattle.pads_machine.proofs.Halts.{address-there, at-op, counted-there, fewer-left, fits-here, goes-within, halted, moved-there, never-past, no-more, some-below}
 use Rattle.pads_machine.proofs.state.State.run.Goals as goal
 
-pub step-requires-clause-plain : goal.step-requires-clause-plain
-step-requires-clause-plain c =
-    let there : slice_get c.args.program.now.code.now c.run.self.address ≡ Some c.in-Some.op.now = sym c.in-Some.ensures.op in
-    all-there is_plain c.args.program.now.code.now c.run.self.address c.in-Some.op.now c.requires.plain there
-
 pub step-requires-clause-labels : goal.step-requires-clause-labels
-step-requires-clause-labels c =
+step-requires-clause-labels g c =
     let there : slice_get c.args.program.now.code.now c.run.self.address ≡ Some c.in-Some.op.now = sym c.in-Some.ensures.op in
-    all-there labels_stand c.args.program.now.code.now c.run.self.address c.in-Some.op.now c.requires.labels there
+    all-there labels_stand c.args.program.now.code.now c.run.self.address c.in-Some.op.now c.requires.1.0 there
 
 pub step-requires-clause-address : goal.step-requires-clause-address
-step-requires-clause-address c =
+step-requires-clause-address g c =
     let there : slice_get c.args.program.now.code.now c.run.self.address ≡ Some c.in-Some.op.now = sym c.in-Some.ensures.op in
-    omega (arith, some-below c.args.program.now.code.now c.run.self.address c.in-Some.op.now there, c.requires.short)
+    omega (arith, some-below c.args.program.now.code.now c.run.self.address c.in-Some.op.now there, c.requires.0)
 
 pub step-requires-clause-within : goal.step-requires-clause-within
-step-requires-clause-within c =
+step-requires-clause-within g c =
     let code = c.args.program.now.code.now in
     let entries = c.args.program.now.entries.now in
     let subject = subject_of c.args.program.now.record in
@@ -35,13 +29,41 @@ step-requires-clause-within c =
     let s = shown c.run.self in
     let op = c.in-Some.op.now in
     let there : slice_get code s.at_ ≡ Some op = sym c.in-Some.ensures.op in
-    let start = c.requires.halts in
-    let h = c.run.invariant.halts start.0 start.1 in
+    let counted = c.run.invariant.counted in
     subst (λ room. GoesWithin room (does entries subject op s)) (sym c.run.invariant.roomy.room_is)
-    (subst (λ (x : Step). GoesWithin room x) (at-op code entries subject room s op there) (goes-within code entries subject room s start.0 h))
+    (subst (λ (x : Step). GoesWithin room x) (at-op code entries subject room s op there) (goes-within code entries subject room s counted.0 counted.1))
+
+pub leap-requires-clause-address : goal.leap-requires-clause-address
+leap-requires-clause-address g c =
+    let code = c.args.program.now.code.now in
+    let entries = c.args.program.now.entries.now in
+    let subject = subject_of c.args.program.now.record in
+    let room = c.args.self.now.room in
+    let s = shown c.run.self in
+    let t = shown c.step.new.self in
+    let op = c.in-Some.op.now in
+    let there : slice_get code s.at_ ≡ Some op = sym c.in-Some.ensures.op in
+    let told = subst (λ (n : Next). Tells n (does entries subject op s) s t) c.in-Searches.is c.in_ok-step.ensures.step in
+    let goes : step entries subject code s ≡ Goes t = at-op code entries subject room s op there ∙ told in
+    omega (arith, address-there code entries subject room g.steps t (counted-there code entries subject room g.steps s t t goes (no-more code entries subject room t) c.run.invariant.counted), c.requires.0)
+
+pub leap-requires-clause-within : goal.leap-requires-clause-within
+leap-requires-clause-within g c =
+    let code = c.args.program.now.code.now in
+    let entries = c.args.program.now.entries.now in
+    let subject = subject_of c.args.program.now.record in
+    let room = c.args.self.now.room in
+    let s = shown c.run.self in
+    let t = shown c.step.new.self in
+    let op = c.in-Some.op.now in
+    let there : slice_get code s.at_ ≡ Some op = sym c.in-Some.ensures.op in
+    let told = subst (λ (n : Next). Tells n (does entries subject op s) s t) c.in-Searches.is c.in_ok-step.ensures.step in
+    let goes : step entries subject code s ≡ Goes t = at-op code entries subject room s op there ∙ told in
+    omega (arith, fits-here code entries subject room g.steps t (counted-there code entries subject room g.steps s t t goes (no-more code entries subject room t) c.run.invariant.counted),
+    c.step.ensures.roomy.room_is, c.run.invariant.roomy.room_is)
 
 pub returns-in-Halts-clause-ran : goal.returns-in-Halts-clause-ran
-returns-in-Halts-clause-ran c r from =
+returns-in-Halts-clause-ran g c r from =
     let code = c.args.program.now.code.now in
     let entries = c.args.program.now.entries.now in
     let subject = subject_of c.args.program.now.record in
@@ -53,20 +75,8 @@ returns-in-Halts-clause-ran c r from =
     let told = subst (λ (n : Next). Tells n (does entries subject op s) s t) c.in-Halts.is c.in_ok-step.ensures.step in
     told.1 ∙ halted code entries subject room s r (at-op code entries subject room s op there ∙ told.0) (c.run.invariant.halts r from)
 
-pub run-smaller : goal.run-smaller
-run-smaller c =
-    let code = c.args.program.now.code.now in
-    let entries = c.args.program.now.entries.now in
-    let subject = subject_of c.args.program.now.record in
-    let s = shown c.run.self in
-    let t = shown c.step.new.self in
-    let op = c.in-Some.op.now in
-    let there : slice_get code s.at_ ≡ Some op = sym c.in-Some.ensures.op in
-    let goes = told-goes c.in_ok-step.field-0 (does entries subject op s) s t c.in_default-2.not-Halts c.in_ok-step.ensures.step in
-    less-left (length code) entries subject op s t (all-there is_plain code s.at_ op c.requires.plain there) goes (some-below code s.at_ op there)
-
-pub run-preserved : goal.run-preserved
-run-preserved c =
+pub run-smaller-in-Goes : goal.run-smaller-in-Goes
+run-smaller-in-Goes g c =
     let code = c.args.program.now.code.now in
     let entries = c.args.program.now.entries.now in
     let subject = subject_of c.args.program.now.record in
@@ -75,21 +85,73 @@ run-preserved c =
     let t = shown c.step.new.self in
     let op = c.in-Some.op.now in
     let there : slice_get code s.at_ ≡ Some op = sym c.in-Some.ensures.op in
-    let goes = told-goes c.in_ok-step.field-0 (does entries subject op s) s t c.in_default-2.not-Halts c.in_ok-step.ensures.step in
+    let told = subst (λ (n : Next). Tells n (does entries subject op s) s t) c.in-Goes.is c.in_ok-step.ensures.step in
+    let goes : step entries subject code s ≡ Goes t = at-op code entries subject room s op there ∙ told in
+    fewer-left code entries subject room g.steps s t t goes (no-more code entries subject room t) c.run.invariant.counted
+
+pub run-preserved-in-Goes : goal.run-preserved-in-Goes
+run-preserved-in-Goes g c =
+    let code = c.args.program.now.code.now in
+    let entries = c.args.program.now.entries.now in
+    let subject = subject_of c.args.program.now.record in
+    let room = c.args.self.now.room in
+    let s = shown c.run.self in
+    let t = shown c.step.new.self in
+    let op = c.in-Some.op.now in
+    let there : slice_get code s.at_ ≡ Some op = sym c.in-Some.ensures.op in
+    let told = subst (λ (n : Next). Tells n (does entries subject op s) s t) c.in-Goes.is c.in_ok-step.ensures.step in
+    let goes : step entries subject code s ≡ Goes t = at-op code entries subject room s op there ∙ told in
+    let more = (no-more code entries subject room t) in
     record {
-      place = c.in_ok-step.ensures.place;
-      halts = λ r from. moved code entries subject room s t r (at-op code entries subject room s op there ∙ goes) (c.run.invariant.halts r from);
+      placed = c.in_ok-step.ensures.placed;
+      counted = counted-there code entries subject room g.steps s t t goes more c.run.invariant.counted;
+      halts = λ r from. moved-there code entries subject room g.steps s t t goes more c.run.invariant.counted r (c.run.invariant.halts r from);
       held = c.in_ok-step.ensures.held;
       roomy = subst (λ room. Roomy room c.step.new.self) c.run.invariant.roomy.room_is c.step.ensures.roomy;
     }
 
+pub run-smaller : goal.run-smaller
+run-smaller g c =
+    let code = c.args.program.now.code.now in
+    let entries = c.args.program.now.entries.now in
+    let subject = subject_of c.args.program.now.record in
+    let room = c.args.self.now.room in
+    let s = shown c.run.self in
+    let t = shown c.step.new.self in
+    let op = c.in-Some.op.now in
+    let there : slice_get code s.at_ ≡ Some op = sym c.in-Some.ensures.op in
+    let told = subst (λ (n : Next). Tells n (does entries subject op s) s t) c.in-Searches.is c.in_ok-step.ensures.step in
+    let goes : step entries subject code s ≡ Goes t = at-op code entries subject room s op there ∙ told in
+    fewer-left code entries subject room g.steps s t (shown c.leap.new.self) goes (subst (λ room. Reaches code entries subject room t (shown c.leap.new.self)) (c.step.ensures.roomy.room_is ∙ c.run.invariant.roomy.room_is) c.leap.ensures.leap) c.run.invariant.counted
+
+pub run-preserved : goal.run-preserved
+run-preserved g c =
+    let code = c.args.program.now.code.now in
+    let entries = c.args.program.now.entries.now in
+    let subject = subject_of c.args.program.now.record in
+    let room = c.args.self.now.room in
+    let s = shown c.run.self in
+    let t = shown c.step.new.self in
+    let op = c.in-Some.op.now in
+    let there : slice_get code s.at_ ≡ Some op = sym c.in-Some.ensures.op in
+    let told = subst (λ (n : Next). Tells n (does entries subject op s) s t) c.in-Searches.is c.in_ok-step.ensures.step in
+    let goes : step entries subject code s ≡ Goes t = at-op code entries subject room s op there ∙ told in
+    let more = (subst (λ room. Reaches code entries subject room t (shown c.leap.new.self)) (c.step.ensures.roomy.room_is ∙ c.run.invariant.roomy.room_is) c.leap.ensures.leap) in
+    record {
+      placed = c.leap.ensures.placed;
+      counted = counted-there code entries subject room g.steps s t (shown c.leap.new.self) goes more c.run.invariant.counted;
+      halts = λ r from. moved-there code entries subject room g.steps s t (shown c.leap.new.self) goes more c.run.invariant.counted r (c.run.invariant.halts r from);
+      held = c.leap.ensures.held;
+      roomy = subst (λ room. Roomy room c.leap.new.self) (c.step.ensures.roomy.room_is ∙ c.run.invariant.roomy.room_is) c.leap.ensures.roomy;
+    }
+
 pub unreachable-requires : goal.unreachable-requires
-unreachable-requires c =
+unreachable-requires g c =
     let code = c.args.program.now.code.now in
     let entries = c.args.program.now.entries.now in
     let subject = subject_of c.args.program.now.record in
     let room = c.args.self.now.room in
     let s = shown c.run.self in
     let none : slice_get code s.at_ ≡ None = sym c.in_default.ensures.op in
-    let start = c.requires.halts in
-    never-past code entries subject room s start.0 none (c.run.invariant.halts start.0 start.1) {A = ⊥}
+    let counted = c.run.invariant.counted in
+    never-past code entries subject room s counted.0 none counted.1 {A = ⊥}

@@ -1,4 +1,4 @@
-use Rattle.std.proofs.Common.{◌≡◌, ◌∙◌, sym, ap, arith, ◌-◌, length, take, drop, reverse}
+use Rattle.std.proofs.Common.{◌≡◌, ◌∙◌, sym, ap, arith, ◌-◌, length, take, reverse}
 use Rattle.std.proofs.lemmas.List.{length-reverse, take_rest}
 use Rattle.pads_expr.specs.Value.{Pairs}
 use Rattle.pads_image.specs.States.{base_of, seen}

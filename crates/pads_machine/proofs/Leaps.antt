@@ -1,0 +1,132 @@
+-- A search of a literal where it doesn't stand: the steps that find so at each place lead to a place further on.
+use Rattle.std.proofs.Common.{◌≡◌, ◌∙◌, sym, ap, arith, ℕ, zero, suc, ◌+◌, ◌-◌, ◌<◌, ◌≤◌, Bool, true, false, if◌then◌else◌, nat_lt, List, ◌∷◌, length, ⊎_elim, Some, slice_get}
+use Rattle.pads_value.specs.declared.cause.Cause.{Cause}
+use Rattle.pads_value.specs.declared.cause.Cause.TheVariants as cause
+use Rattle.pads_value.specs.declared.descriptor.Pd.{out-Pd, out-roll-Pd}
+use Rattle.pads_value.specs.declared.value.Val.TheVariants as val
+use Rattle.pads_value.specs.Header.{with_cause}
+use Rattle.pads_calc.specs.declared.reading.Reading.{Reading}
+use Rattle.pads_calc.specs.Leaves.{at_end}
+use Rattle.pads_calc.specs.Readings.{Subject, blame, fails, is_ok}
+use Rattle.pads_calc.specs.Wrappers.{absorb_of}
+use Rattle.pads_image.specs.declared.entry.Entry.{Entry}
+use Rattle.pads_image.specs.declared.op.Op.{Op}
+use Rattle.pads_image.specs.declared.op.Op.TheVariants as op
+use Rattle.pads_image.specs.Answers.{Reaches}
+use Rattle.pads_image.specs.States.{Mark, State, entries}
+use Rattle.pads_image.specs.Steps.{Goes, back_to, began, cause_or, does_there, scan_step, step}
+use Rattle.pads_machine.specs.Ran.{IsSearch}
+use Rattle.pads_steps.specs.Searches.{StandsNowhere, stands_at}
+use Rattle.pads_steps.proofs.Searches.{misses-there}
+
+module _ (origin i : ℕ) (c : Cause) where
+  fails-bad : is_ok (fails origin c i) ≡ false
+  fails-bad = simp out-roll-Pd
+
+  fails-began : began origin (fails origin c i) ≡ i
+  fails-began = let out : (out-Pd (fails origin c i).pd).span.begin ≡ origin + i = simp out-roll-Pd in omega (arith, out)
+
+  fails-absorbed : absorb_of (fails origin c i) ≡ fails origin c i
+  fails-absorbed = ap (λ (b : Bool). record (fails origin c i) { value = if b then val.Unit else val.Missing }) fails-bad
+
+-- a search that goes on
+pub scan-on : (subject : Subject) (to : ℕ) (s : State) (m : Mark) (marks : List Mark) → is_ok s.last ≡ false → at_end subject.bytes (began subject.origin s.last) ≡ false
+    → scan_step subject to s (m ∷ marks)
+    ≡ Goes (record s { at_ = to; last = back_to (began subject.origin s.last + 1) s.last; marks = (record m { cause = Some (cause_or m.cause (blame s.last)) }) ∷ marks })
+scan-on subject to s m marks bad more =
+    let at_ = began subject.origin s.last in
+    let kept = cause_or m.cause (blame s.last) in
+    let on = Goes (record s { at_ = to; last = back_to (at_ + 1) s.last; marks = (record m { cause = Some kept }) ∷ marks }) in
+    let end = Goes (record s { at_ = s.at_ + 1; last = fails subject.origin kept m.place; marks = marks }) in
+    let found = Goes (record s {
+      at_ = s.at_ + 1;
+      last = if nat_lt m.place at_ then record s.last { pd = with_cause cause.Skipped (subject.origin + m.place) s.last.pd } else s.last;
+      marks = marks;
+    }) in
+    ap (λ (b : Bool). if b then found else if at_end subject.bytes at_ then end else on) bad ∙ ap (λ (b : Bool). if b then end else on) more
+
+-- and one that ends
+pub scan-ends : (subject : Subject) (to : ℕ) (s : State) (m : Mark) (marks : List Mark) → is_ok s.last ≡ false → at_end subject.bytes (began subject.origin s.last) ≡ true
+    → scan_step subject to s (m ∷ marks) ≡ Goes (record s { at_ = s.at_ + 1; last = fails subject.origin (cause_or m.cause (blame s.last)) m.place; marks = marks })
+scan-ends subject to s m marks bad over =
+    let at_ = began subject.origin s.last in
+    let kept = cause_or m.cause (blame s.last) in
+    let on = Goes (record s { at_ = to; last = back_to (at_ + 1) s.last; marks = (record m { cause = Some kept }) ∷ marks }) in
+    let end = Goes (record s { at_ = s.at_ + 1; last = fails subject.origin kept m.place; marks = marks }) in
+    let found = Goes (record s {
+      at_ = s.at_ + 1;
+      last = if nat_lt m.place at_ then record s.last { pd = with_cause cause.Skipped (subject.origin + m.place) s.last.pd } else s.last;
+      marks = marks;
+    }) in
+    ap (λ (b : Bool). if b then found else if at_end subject.bytes at_ then end else on) bad ∙ ap (λ (b : Bool). if b then end else on) over
+
+module _ (code : List Op) (of_entries : List Entry) (subject : Subject) (most : ℕ) (literal : List ℕ) (place : ℕ) (c : Cause) (rest : List Mark) where
+  -- the search goes on at a state
+  pub record Searching (s : State) : Type 0 where
+    pub search_ : IsSearch code s.at_ literal
+    pub marks : s.marks ≡ (record { place = place; cause = Some c }) ∷ rest
+    pub fits : entries s ≤ most
+
+  abbrev missing : ℕ → Reading
+  missing i = fails subject.origin cause.MissingLiteral i
+
+  -- the same state, further on
+  abbrev pub at_place : ℕ → State → State
+  at_place i s = record s { last = back_to i (missing (i - 1)) }
+
+  module _ (s : State) (h : Searching s) (more : s.last.place < length subject.bytes) (misses : stands_at subject.bytes literal s.last.place ≡ false) where
+    abbrev i : ℕ
+    i = s.last.place
+
+    abbrev read_to : ℕ → State
+    read_to p = record s { at_ = p; last = missing i }
+
+    lit-goes : step of_entries subject code s ≡ Goes (read_to (s.at_ + 1))
+    lit-goes =
+        ap (λ o. does_there of_entries subject o s) h.search_.0
+        ∙ ap (λ (r : Reading). Goes (record s { at_ = s.at_ + 1; last = r })) (misses-there subject literal i misses)
+
+    scan-goes : (p : ℕ) → slice_get code p ≡ Some (op.ScanOn s.at_) → step of_entries subject code (read_to p) ≡ Goes (record s { last = back_to (i + 1) (missing i) })
+    scan-goes p there =
+        let at_ = fails-began subject.origin i cause.MissingLiteral in
+        let not_end : at_end subject.bytes i ≡ false = grind (arith, more) in
+        ap (λ o. does_there of_entries subject o (read_to p)) there
+        ∙ ap (λ (marks : List Mark). scan_step subject s.at_ (read_to p) marks) h.marks
+        ∙ scan-on subject s.at_ (read_to p) (record { place = place; cause = Some c }) rest (fails-bad subject.origin i cause.MissingLiteral)
+        (ap (λ k. at_end subject.bytes k) at_ ∙ not_end)
+        ∙ ap (λ k. Goes (record s { last = back_to (k + 1) (missing i); marks = (record { place = place; cause = Some c }) ∷ rest })) at_
+        ∙ ap (λ (marks : List Mark). Goes (record s { last = back_to (i + 1) (missing i); marks = marks })) (sym h.marks)
+
+    absorb-goes : slice_get code (s.at_ + 1) ≡ Some op.Absorb → step of_entries subject code (read_to (s.at_ + 1)) ≡ Goes (read_to (s.at_ + 2))
+    absorb-goes there =
+        let next : s.at_ + 1 + 1 ≡ s.at_ + 2 = omega arith in
+        ap (λ o. does_there of_entries subject o (read_to (s.at_ + 1))) there
+        ∙ ap (λ (r : Reading). Goes (record s { at_ = s.at_ + 1 + 1; last = r })) (fails-absorbed subject.origin i cause.MissingLiteral)
+        ∙ ap (λ p. Goes (read_to p)) next
+
+    -- one place further
+    one-turn : (u : State) → Reaches code of_entries subject most (record s { last = back_to (i + 1) (missing i) }) u → Reaches code of_entries subject most s u
+    one-turn u on =
+        ⊎_elim
+        (λ there. record { steps = suc (suc on.steps); run = (h.fits, read_to (s.at_ + 1), lit-goes, (h.fits, record s { last = back_to (i + 1) (missing i) }, scan-goes (s.at_ + 1) there, on.run)) })
+        (λ there. record {
+          steps = suc (suc (suc on.steps));
+          run = (h.fits, read_to (s.at_ + 1), lit-goes,
+              (h.fits, read_to (s.at_ + 2), absorb-goes there.0, (h.fits, record s { last = back_to (i + 1) (missing i) }, scan-goes (s.at_ + 2) there.1, on.run)));
+        })
+        h.search_.1
+
+  pub leaps : (d : ℕ) (s : State) (end : ℕ) → end ≡ s.last.place + suc d → end ≤ length subject.bytes → Searching s → StandsNowhere subject.bytes literal s.last.place end
+      → Reaches code of_entries subject most s (at_place end s)
+  leaps zero s end is within h none =
+      let last : end - 1 ≡ s.last.place = omega (arith, is) in
+      let next : end ≡ s.last.place + 1 = omega (arith, is) in
+      let same : at_place end s ≡ record s { last = back_to (s.last.place + 1) (missing s.last.place) } =
+      ap (λ k. record s { last = back_to end (missing k) }) last ∙ ap (λ k. record s { last = back_to k (missing s.last.place) }) next in
+      one-turn s h (omega (arith, is, within)) (none s.last.place (omega arith) (omega (arith, is))) (at_place end s)
+      (record { steps = 0; run = sym same })
+  leaps (suc d) s end is within h none =
+      let t : State = record s { last = back_to (s.last.place + 1) (missing s.last.place) } in
+      one-turn s h (omega (arith, is, within)) (none s.last.place (omega arith) (omega (arith, is))) (at_place end s)
+      (leaps d t end (omega (arith, is)) within (record { search_ = h.search_; marks = h.marks; fits = h.fits })
+      (λ k from to. none k (omega (arith, from)) to))
