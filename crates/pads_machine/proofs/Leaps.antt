@@ -111,8 +111,12 @@ module _ (code : List Op) (of_entries : List Entry) (subject : Subject) (most : 
         (λ there. record { steps = suc (suc on.steps); run = (h.fits, read_to (s.at_ + 1), lit-goes, (h.fits, record s { last = back_to (i + 1) (missing i) }, scan-goes (s.at_ + 1) there, on.run)) })
         (λ there. record {
           steps = suc (suc (suc on.steps));
-          run = (h.fits, read_to (s.at_ + 1), lit-goes,
-              (h.fits, read_to (s.at_ + 2), absorb-goes there.0, (h.fits, record s { last = back_to (i + 1) (missing i) }, scan-goes (s.at_ + 2) there.1, on.run)));
+          run = (
+            h.fits,
+            read_to (s.at_ + 1),
+            lit-goes,
+            (h.fits, read_to (s.at_ + 2), absorb-goes there.0, (h.fits, record s { last = back_to (i + 1) (missing i) }, scan-goes (s.at_ + 2) there.1, on.run)),
+          );
         })
         h.search_.1
 

@@ -74,11 +74,12 @@ module _ (n m : Node) (nodes : List Node) (homes : Homes) (bindings : Pairs) (na
   part-sound =
       let more : length m.values.items ≡ length n.values.items + 1 = omega (arith, ap length values, length-append n.values.items (stand_in name r.value ∷ [])) in
       let here : AreHomes (above n.base homes') (length n.values.items + 1) = held-homes name (length n.values.items) homes n.base sound.0 sound.2 in
-      subst (λ (k : Node). AreSound (k ∷ nodes) homes') (sym same)
-      (omega (arith, sound.0, home-more name (length n.values.items) homes),
-      sound.1,
-      subst (λ k. AreHomes (above n.base homes') k) (sym more) here,
-      subst (λ hs. AreSound nodes hs) (sym (below-home name (length n.values.items) homes n.base sound.0)) sound.3)
+      subst (λ (k : Node). AreSound (k ∷ nodes) homes') (sym same) (
+        omega (arith, sound.0, home-more name (length n.values.items) homes),
+        sound.1,
+        subst (λ k. AreHomes (above n.base homes') k) (sym more) here,
+        subst (λ hs. AreSound nodes hs) (sym (below-home name (length n.values.items) homes n.base sound.0)) sound.3,
+      )
 
 -- bindings above the first so many are taken back
 module _ (n m : Node) (nodes : List Node) (homes : Homes) (bindings : Pairs) (low : ℕ)
@@ -101,8 +102,9 @@ module _ (n m : Node) (nodes : List Node) (homes : Homes) (bindings : Pairs) (lo
   leave-sound sound =
       let size : length m.values.items ≡ length n.values.items = ap length values ∙ back-length (above low homes) (above low bindings) n.values.items in
       let here : AreHomes (above n.base (below low homes)) (length n.values.items) = left-homes n.base low less homes (length n.values.items) sound.2 in
-      subst (λ (k : Node). AreSound (k ∷ nodes) (below low homes)) (sym same)
-      (omega (arith, sound.0, less, length-drop (length homes - low) homes),
-      sound.1,
-      subst (λ k. AreHomes (above n.base (below low homes)) k) (sym size) here,
-      subst (λ hs. AreSound nodes hs) (sym (below-below n.base low homes less)) sound.3)
+      subst (λ (k : Node). AreSound (k ∷ nodes) (below low homes)) (sym same) (
+        omega (arith, sound.0, less, length-drop (length homes - low) homes),
+        sound.1,
+        subst (λ k. AreHomes (above n.base (below low homes)) k) (sym size) here,
+        subst (λ hs. AreSound nodes hs) (sym (below-below n.base low homes less)) sound.3,
+      )

@@ -65,7 +65,12 @@ impl State {
     }
 
     /// Whether the latest element is the last one, by a condition over the elements so far.
-    fn is_last(&mut self, alloc: Global, last: Option<&Expr>, elements_name: u16) -> Result<bool, Memory>
+    fn is_last(
+        &mut self,
+        alloc: Global,
+        last: Option<&Expr>,
+        elements_name: u16,
+    ) -> Result<bool, Memory>
         requires some { 0 < length self.old.nodes.items }
         requires roomy { Roomy self.old.room self.old }
         requires held { Held self.old }

@@ -176,12 +176,7 @@ impl State {
 }
 
 /// A reading as a branch that begins where it begins.
-fn branch_over(
-    alloc: Global,
-    origin: u64,
-    number: u16,
-    reading: Reading,
-) -> Result<Reading, Memory>
+fn branch_over(alloc: Global, origin: u64, number: u16, reading: Reading) -> Result<Reading, Memory>
     requires origin { origin ≤ 2 ^ 62 }
     requires place { reading.place ≤ 2 ^ 62 }
     ensures branch { IfOk result (λ r. r ≡ branch_of origin number reading (began_at origin reading)) }

@@ -9,5 +9,7 @@ mod node;
 mod scans;
 mod state;
 mod step;
+#[cfg(test)]
+mod tests;
 
 pub use machine::Machine;

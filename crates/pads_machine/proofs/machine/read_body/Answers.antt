@@ -28,13 +28,22 @@ run-requires g c =
     let less : image.need ≤ state.room = omega (arith, c.requires.0, c.start.ensures.roomy.room_is) in
     let halts =
     halting-there image.code c.as_slice-2.result.now image.entries c.as_slice-3.result.now subject image.need state.room g.steps (start image.entries subject number) (shown state)
-    c.as_slice-2.ensures.items c.as_slice-3.ensures.items starts less c.requires.1.1 in
-    (omega (arith, code-short image.code image.entries image.shape image.valid, ap length c.as_slice-2.ensures.items),
-    (ap (λ (code : List Op). list_all labels_stand code) c.as_slice-2.ensures.items ∙ labels-there image.code image.entries image.shape image.valid,
-    (c.start.ensures.placed (length c.args.frame.now.bytes.now),
-    (halts,
-    (own-room c.args.state.now.room state c.start.ensures.roomy,
-    c.start.ensures.held)))))
+    c.as_slice-2.ensures.items c.as_slice-3.ensures.items starts less c.requires.1.1 in (
+      omega (arith, code-short image.code image.entries image.shape image.valid, ap length c.as_slice-2.ensures.items),
+      (
+        ap (λ (code : List Op). list_all labels_stand code) c.as_slice-2.ensures.items ∙ labels-there image.code image.entries image.shape image.valid,
+        (
+          c.start.ensures.placed (length c.args.frame.now.bytes.now),
+          (
+            halts,
+            (
+              own-room c.args.state.now.room state c.start.ensures.roomy,
+              c.start.ensures.held,
+            ),
+          ),
+        ),
+      ),
+    )
 
 pub returns-clause-body : goal.returns-clause-body
 returns-clause-body g c r h =

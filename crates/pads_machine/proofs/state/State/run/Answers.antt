@@ -59,8 +59,12 @@ leap-requires-clause-within g c =
     let there : slice_get code s.at_ ≡ Some op = sym c.in-Some.ensures.op in
     let told = subst (λ (n : Next). Tells n (does entries subject op s) s t) c.in-Searches.is c.in_ok-step.ensures.step in
     let goes : step entries subject code s ≡ Goes t = at-op code entries subject room s op there ∙ told in
-    omega (arith, fits-here code entries subject room g.steps t (counted-there code entries subject room g.steps s t t goes (no-more code entries subject room t) c.run.invariant.counted),
-    c.step.ensures.roomy.room_is, c.run.invariant.roomy.room_is)
+    omega (
+      arith,
+      fits-here code entries subject room g.steps t (counted-there code entries subject room g.steps s t t goes (no-more code entries subject room t) c.run.invariant.counted),
+      c.step.ensures.roomy.room_is,
+      c.run.invariant.roomy.room_is,
+    )
 
 pub returns-in-Halts-clause-ran : goal.returns-in-Halts-clause-ran
 returns-in-Halts-clause-ran g c r from =
