@@ -1,6 +1,6 @@
 -- Before each element the machine ends the array where the calculus does, by the size, the last element, the
 -- terminator or the record's end, and with the same cause; else it comes behind Edge.
-use Rattle.std.proofs.Common.{◌≡◌, ap, refl, subst, arith, ℕ, ◌+◌, ◌≤◌, Bool, cond, true, false, List, ◌∷◌, length, Option, Some, None, option_map}
+use Rattle.std.proofs.Common.{◌≡◌, ap, refl, subst, arith, eq-eqb, nat_eq, ℕ, ◌+◌, ◌≤◌, Bool, cond, true, false, List, ◌∷◌, length, Option, Some, None, option_map}
 use Rattle.pads_value.specs.declared.descriptor.Pd.{Pd}
 use Rattle.pads_value.specs.declared.value.Val.{Val}
 use Rattle.pads_calc.specs.declared.reading.Reading.{Reading}
@@ -31,21 +31,24 @@ module _ (a : Array) (g : Given a) (vs : List Val) (ks : List Pd) where
   Ends_as s j (ending.Ends own) = Reached a s (shut a) (holds a vs ks own) marks j
   Ends_as s j ending.GoesOn = Reached a s (edge a + 1) node marks j
 
+  alone : nat_eq (length a.start.bindings) (length a.start.bindings) ≡ true
+  alone = eq-eqb (length a.start.bindings) (length a.start.bindings) refl
+
   -- what Full does
   module _ (r : Reading) where
     abbrev here : ℕ → State
     here q = running a q r node marks
 
     full-filled : is_full a.size (length vs) ≡ true → does a.of_entries a.subject (op.Full a.seq.last a.seq.elts (shut a)) (here (full a)) ≡ Goes (here (shut a))
-    full-filled filled = rw filled refl
+    full-filled filled = rw (alone, filled) refl
 
     full-last : is_full a.size (length vs) ≡ false → is_last a.seq.last a.seq.elts vs (env a) ≡ true
         → does a.of_entries a.subject (op.Full a.seq.last a.seq.elts (shut a)) (here (full a)) ≡ Goes (here (shut a))
-    full-last filled last = rw (filled, seen-running a (full a) r node marks, last) refl
+    full-last filled last = rw (alone, filled, seen-running a (full a) r node marks, last) refl
 
     full-on : is_full a.size (length vs) ≡ false → is_last a.seq.last a.seq.elts vs (env a) ≡ false
         → does a.of_entries a.subject (op.Full a.seq.last a.seq.elts (shut a)) (here (full a)) ≡ Goes (here (full a + 1))
-    full-on filled last = rw (filled, seen-running a (full a) r node marks, last) refl
+    full-on filled last = rw (alone, filled, seen-running a (full a) r node marks, last) refl
 
     -- what Edge does
     edge-over : at_end a.subject.bytes r.place ≡ true

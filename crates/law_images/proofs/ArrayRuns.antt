@@ -1,5 +1,5 @@
 -- The code of an array runs as the array reads, where its element, its terminator and its separator do.
-use Rattle.std.proofs.Common.{◌≡◌, ap, refl, subst, arith, ℕ, zero, suc, ◌+◌, ◌≤◌, List, [], ◌∷◌, ◌++◌, length, append_assoc, Option, Some, None}
+use Rattle.std.proofs.Common.{◌≡◌, ap, refl, subst, arith, eq-eqb, cond, Bool, ℕ, zero, suc, ◌+◌, ◌≤◌, List, [], ◌∷◌, ◌++◌, length, append_assoc, Option, Some, None}
 use Rattle.pads_value.specs.declared.cause.Cause.{Cause}
 use Rattle.pads_value.specs.declared.cause.Cause.TheVariants as cause
 use Rattle.pads_value.specs.declared.descriptor.Pd.{Pd}
@@ -27,7 +27,7 @@ use Rattle.pads_image.specs.declared.op.Op.TheVariants as op
 use Rattle.pads_image.specs.Blocks.{layout, seq_layout}
 use Rattle.pads_image.specs.Heights.{Deeper}
 use Rattle.pads_image.specs.States.{State, seen}
-use Rattle.pads_image.specs.Steps.{Goes, does}
+use Rattle.pads_image.specs.Steps.{Stuck, Goes, does}
 use Rattle.law_images.proofs.ArrayCode.{laid}
 use Rattle.law_images.proofs.ArrayEndings.{Ends_as, ends}
 use Rattle.law_images.proofs.ArrayStates.{Array, Given, reader, To_in, Reached, full, edge, shut, env, holds, running, steps, and-then}
@@ -116,7 +116,8 @@ module _ (a : Array) (g : Given a) where
       let made = λ (end : ℕ). behind a.start (shut a + 1) (node a.subject.origin (soft e.own) (val.Array (values e.rest)) i end (pds e.rest)) in
       to-same a.code a.of_entries a.subject a.most s (made got.last.place) (made (end_of i e.rest)) (ap made got.place)
       (join a.code a.of_entries a.subject a.most s t (made got.last.place) got.run
-      (steps a g t (made got.last.place) (shut a) (a.height + 1) op.Shut g.laid.end refl (omega arith) (omega (arith, g.counted)) refl))
+      (steps a g t (made got.last.place) (shut a) (a.height + 1) op.Shut g.laid.end refl (omega arith) (omega (arith, g.counted))
+      (ap (λ (own : Bool). cond own (Goes (made got.last.place)) Stuck) (eq-eqb (length a.start.bindings) (length a.start.bindings) refl))))
 
   pub array-runs : To_in a (at_full [] [] a.start.last)
       (behind a.start (shut a + 1) (array_of a.subject.origin (elements a.subject.bytes (reader a) a.size (env a) (turns_from a.subject.bytes a.start.last.place) [] a.start.last.place) a.start.last.place))

@@ -111,12 +111,18 @@ size_step origin (Some size) otherwise s = Goes (record s { at_ = s.at_ + 1; nod
 abbrev pub with_own : Option Cause → Node → Node
 with_own own n = record n { own = own }
 
+-- between its elements an array has no binding above those that there were when it began
+abbrev pub has_its_own : State → Node → Bool
+has_its_own s n = nat_eq (length s.bindings) n.base
+
 abbrev pub full_step : Option Expr → ℕ → ℕ → State → List Node → Step
 full_step last elts to s [] = Stuck
 full_step last elts to s (n ∷ nodes) =
-    if is_full n.size (length n.values) then reads_to to s.last s
+    if has_its_own s n
+    then (if is_full n.size (length n.values) then reads_to to s.last s
     else if is_last last elts n.values (seen s) then reads_to to s.last s
-    else reads s.last s
+    else reads s.last s)
+    else Stuck
 
 abbrev pub stop_step : ℕ → State → List Node → List Mark → Step
 stop_step to s (n ∷ nodes) (m ∷ marks) =
@@ -158,11 +164,14 @@ elem_step origin to again s _ _ = Stuck
 
 abbrev pub shut_step : ℕ → State → List Node → Step
 shut_step origin s [] = Stuck
-shut_step origin s (n ∷ nodes) = Goes (record s {
-  at_ = s.at_ + 1;
-  last = node origin (soft n.own) (val.Array n.values) n.begin s.last.place n.pds;
-  nodes = nodes;
-})
+shut_step origin s (n ∷ nodes) =
+    if has_its_own s n
+    then Goes (record s {
+      at_ = s.at_ + 1;
+      last = node origin (soft n.own) (val.Array n.values) n.begin s.last.place n.pds;
+      nodes = nodes;
+    })
+    else Stuck
 
 -- searches
 abbrev pub cause_or : Option Cause → Cause → Cause
