@@ -12,7 +12,8 @@ use std::alloc::Global;
 /// for each row it is said what is written on the sinks `out` and notes, and what the row adds to a tally,
 /// by which a command learns of all rows, as whether each is clean. A row follows from its record's
 /// number, counted from 0, and its frame, whose offsets are bytes in the whole input; what is written
-/// for it follows from the row; and the tally from the list of all rows.
+/// for it follows from the row; and the tally from the list of all rows. Each call leaves the command as it
+/// was, whatever it answers: what it changes, as the stacks that it reads with, is no part of its value.
 pub trait Command {
     /// What a record reads as.
     type Row: Drop;
@@ -24,23 +25,30 @@ pub trait Command {
     ghost work: { Self → Work Self.Row Self.Tally };
 
     /// The rows of the records in these frames, the first of which has this number.
-    fn read(&self, alloc: Global, number: u64, frames: &[Kept]) -> Result<Items<Self::Row>, Memory>
+    fn read(
+        &mut self,
+        alloc: Global,
+        number: u64,
+        frames: &[Kept],
+    ) -> Result<Items<Self::Row>, Memory>
         requires numbered { number + length frames.now < 2 ^ 64 }
-        ensures rows { IfOk result (λ rows. rows ≡ rows_of (work self.now) number (map cut_of_kept frames.now)) };
+        ensures rows { IfOk result (λ rows. rows ≡ rows_of (work self.old) number (map cut_of_kept frames.now)) }
+        ensures same { self.new ≡ self.old };
 
     /// Puts what is to be written for a row behind the output, and counts it. `Limit` comes exactly
     /// where the tally can't count it beside the rows before it. Where the call refuses, the reading
     /// stops and nothing of the output is written, so no clause says what then stands in it.
     fn give(
-        &self,
+        &mut self,
         alloc: Global,
         row: &Self::Row,
         output: &mut Output,
         tally: &mut Self::Tally,
     ) -> Result<(), Refusal<Limit>>
-        ensures output { OnOk result (output.new ≡ added (work self.now) row.now output.old) }
-        ensures tally { (before : List Self.Row) → Tallies (work self.now) before tally.old
-            → Counts (work self.now) before (row.now ∷ []) tally.new result };
+        ensures output { OnOk result (output.new ≡ added (work self.old) row.now output.old) }
+        ensures tally { (before : List Self.Row) → Tallies (work self.old) before tally.old
+            → Counts (work self.old) before (row.now ∷ []) tally.new result }
+        ensures same { self.new ≡ self.old };
 
     // Rows that the tally can't count aren't counted with more behind them.
     ghost stays_over: { (command : Self) (rows more : List Self.Row) → (work command).is_over rows ≡ true
@@ -54,16 +62,17 @@ const GROUP: usize = 2;
 /// Puts what is to be written for these rows behind the output, and counts them behind the rows before
 /// them.
 fn give_rows<C: Command>(
-    command: &C,
+    command: &mut C,
     alloc: Global,
     rows: &[C::Row],
     output: &mut Output,
     tally: &mut C::Tally,
 ) -> Result<(), Refusal<Limit>>
-    ensures output { (before : List C.Row) → output.old ≡ output_of (C.work command.now) before
-        → OnOk result (output.new ≡ output_of (C.work command.now) (before ++ rows.now)) }
-    ensures tally { (before : List C.Row) → Tallies (C.work command.now) before tally.old
-        → Counts (C.work command.now) before rows.now tally.new result }
+    ensures output { (before : List C.Row) → output.old ≡ output_of (C.work command.old) before
+        → OnOk result (output.new ≡ output_of (C.work command.old) (before ++ rows.now)) }
+    ensures tally { (before : List C.Row) → Tallies (C.work command.old) before tally.old
+        → Counts (C.work command.old) before rows.now tally.new result }
+    ensures same { command.new ≡ command.old }
 {
     'rows: for row in rows {
         if let Err(refusal) = command.give(alloc, row, output, tally) {
@@ -75,7 +84,7 @@ fn give_rows<C: Command>(
 
 /// Makes the rows of these frames, the first of which has this number, and gives them.
 fn give_group<C: Command>(
-    command: &C,
+    command: &mut C,
     alloc: Global,
     number: u64,
     frames: &[Kept],
@@ -83,11 +92,12 @@ fn give_group<C: Command>(
     tally: &mut C::Tally,
 ) -> Result<(), Refusal<Limit>>
     requires numbered { number + length frames.now < 2 ^ 64 }
-    ensures output { (before : List C.Row) → output.old ≡ output_of (C.work command.now) before
-        → OnOk result (output.new ≡ output_of (C.work command.now)
-        (before ++ rows_of (C.work command.now) number (map cut_of_kept frames.now))) }
-    ensures tally { (before : List C.Row) → Tallies (C.work command.now) before tally.old
-        → Counts (C.work command.now) before (rows_of (C.work command.now) number (map cut_of_kept frames.now)) tally.new result }
+    ensures output { (before : List C.Row) → output.old ≡ output_of (C.work command.old) before
+        → OnOk result (output.new ≡ output_of (C.work command.old)
+        (before ++ rows_of (C.work command.old) number (map cut_of_kept frames.now))) }
+    ensures tally { (before : List C.Row) → Tallies (C.work command.old) before tally.old
+        → Counts (C.work command.old) before (rows_of (C.work command.old) number (map cut_of_kept frames.now)) tally.new result }
+    ensures same { command.new ≡ command.old }
 {
     let Ok(rows) = command.read(alloc, number, frames) else {
         return Err(Refusal::Memory);
@@ -98,17 +108,18 @@ fn give_group<C: Command>(
 /// What is to be written for the rows of these frames, the first of which has this number. The tally
 /// counts them behind the rows before them.
 pub(crate) fn give_batch<C: Command>(
-    command: &C,
+    command: &mut C,
     alloc: Global,
     number: u64,
     frames: &[Kept],
     tally: &mut C::Tally,
 ) -> Result<Output, Refusal<Limit>>
     requires numbered { number + length frames.now < 2 ^ 64 }
-    ensures output { IfOk result (λ output. output ≡ output_of (C.work command.now)
-        (rows_of (C.work command.now) number (map cut_of_kept frames.now))) }
-    ensures tally { (before : List C.Row) → Tallies (C.work command.now) before tally.old
-        → Counts (C.work command.now) before (rows_of (C.work command.now) number (map cut_of_kept frames.now)) tally.new result }
+    ensures output { IfOk result (λ output. output ≡ output_of (C.work command.old)
+        (rows_of (C.work command.old) number (map cut_of_kept frames.now))) }
+    ensures tally { (before : List C.Row) → Tallies (C.work command.old) before tally.old
+        → Counts (C.work command.old) before (rows_of (C.work command.old) number (map cut_of_kept frames.now)) tally.new result }
+    ensures same { command.new ≡ command.old }
 {
     let mut output = Output::new(alloc);
     let mut left = frames;

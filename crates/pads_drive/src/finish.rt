@@ -16,7 +16,7 @@ use std::alloc::Global;
 
 /// Reads and writes all frames that are closed.
 pub(crate) fn finish<C: Command, K: Sink, E: Sink>(
-    command: &C,
+    command: &mut C,
     alloc: Global,
     reading: &mut Reading<C::Tally>,
     out: &mut K,
@@ -25,20 +25,21 @@ pub(crate) fn finish<C: Command, K: Sink, E: Sink>(
     requires small { reading.old.number + length reading.old.batch.frames ≤ reading.old.framer.first }
     requires within { reach reading.old.framer ≤ 2 ^ 62 }
     requires filled { IsFilled reading.old.batch }
-    ensures ok { OnOk result (Progresses (C.work command.now)
+    ensures ok { OnOk result (Progresses (C.work command.old)
         (K.written out.old) (K.written out.new) (E.written notes.old) (E.written notes.new)
         (moment_of reading.old) (moment_of reading.new) []) }
     ensures emptied { OnOk result (reading.new.batch.frames ≡ []) }
     ensures waiting { OnOk result (IsWaiting reading.new.framer) }
     ensures ended { OnOk result (reading.new.framer.ended ≡ reading.old.framer.ended) }
-    ensures err { IfErr result (Stops (C.work command.now)
+    ensures err { IfErr result (Stops (C.work command.old)
         (K.written out.old) (K.written out.new) (E.written notes.old) (E.written notes.new)
         (moment_of reading.old) [] (MayCome reading.old.framer)) }
-    ensures halts { IfErr result (AtSink (Halts (C.work command.now)
+    ensures halts { IfErr result (AtSink (Halts (C.work command.old)
         (K.written out.old) (K.written out.new) (E.written notes.old) (E.written notes.new)
         (moment_of reading.old) [] (MayCome reading.old.framer))) }
     ensures cause { HasSinkCause (K.faults out.old) (K.faults out.new) (E.faults notes.old) (E.faults notes.new)
-        ((row : C.Row) → (C.work command.now).notes row ≡ []) result }
+        ((row : C.Row) → (C.work command.old).notes row ≡ []) result }
+    ensures same { command.new ≡ command.old }
 {
     if let Err(stop) = pump(command, alloc, reading, out, notes) {
         return Err(stop);

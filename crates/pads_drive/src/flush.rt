@@ -15,7 +15,7 @@ use std::alloc::Global;
 
 /// Reads the records that wait, counts their rows, and writes what the command writes for them.
 pub(crate) fn flush<C: Command, K: Sink, E: Sink>(
-    command: &C,
+    command: &mut C,
     alloc: Global,
     reading: &mut Reading<C::Tally>,
     out: &mut K,
@@ -23,21 +23,22 @@ pub(crate) fn flush<C: Command, K: Sink, E: Sink>(
 ) -> Result<(), Stop>
     requires few { reading.old.number + length reading.old.batch.frames ≤ 2 ^ 62 }
     requires filled { IsFilled reading.old.batch }
-    ensures ok { OnOk result (Progresses (C.work command.now)
+    ensures ok { OnOk result (Progresses (C.work command.old)
         (K.written out.old) (K.written out.new) (E.written notes.old) (E.written notes.new)
         (moment_of reading.old) (moment_of reading.new) []) }
-    ensures err { IfErr result (Stops (C.work command.now)
+    ensures err { IfErr result (Stops (C.work command.old)
         (K.written out.old) (K.written out.new) (E.written notes.old) (E.written notes.new)
         (moment_of reading.old) [] (MayCome reading.old.framer)) }
     ensures met { OnOk result (met (moment_of reading.new) ≡ met (moment_of reading.old)) }
     ensures filled { OnOk result (IsFilled reading.new.batch) }
     ensures emptied { OnOk result (reading.new.batch.frames ≡ []) }
     ensures framer { reading.new.framer ≡ reading.old.framer }
-    ensures halts { IfErr result (AtSink (Halts (C.work command.now)
+    ensures halts { IfErr result (AtSink (Halts (C.work command.old)
         (K.written out.old) (K.written out.new) (E.written notes.old) (E.written notes.new)
         (moment_of reading.old) [] (MayCome reading.old.framer))) }
     ensures cause { HasSinkCause (K.faults out.old) (K.faults out.new) (E.faults notes.old) (E.faults notes.new)
-        ((row : C.Row) → (C.work command.now).notes row ≡ []) result }
+        ((row : C.Row) → (C.work command.old).notes row ≡ []) result }
+    ensures same { command.new ≡ command.old }
 {
     let frames = reading.batch.frames.as_slice();
     let output = match give_batch(command, alloc, reading.number, frames, &mut reading.tally) {

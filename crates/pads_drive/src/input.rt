@@ -34,9 +34,10 @@ use std::alloc::Global;
 /// tally can't count the rows of all records, and `Ended::Finished` only where it can. At `Stop::Out`
 /// and `Stop::Notes`, where no record of the input is too long or broken, the output of all records
 /// that the bytes read complete was written on both sinks, but for those in at most 2 `max` +
-/// 4,259,840 of the last bytes. What a source or sink doesn't tell, nothing is said of.
+/// 4,259,840 of the last bytes. What a source or sink doesn't tell, nothing is said of. At each answer the
+/// command is as it was.
 pub fn drive<C: Command, S: Source, K: Sink, E: Sink>(
-    command: &C,
+    command: &mut C,
     alloc: Global,
     tally: C::Tally,
     discipline: Discipline,
@@ -48,17 +49,18 @@ pub fn drive<C: Command, S: Source, K: Sink, E: Sink>(
     requires some { 0 < max }
     requires limit { max ≤ 16777216 }
     requires fits_limit { FitsLimit discipline max }
-    requires none_counted { Tallies (C.work command.now) [] tally }
-    ensures gives { IfSome (S.left source.old) (λ input. DriveGives (C.work command.now) discipline max input (S.left source.new)
+    requires none_counted { Tallies (C.work command.old) [] tally }
+    ensures gives { IfSome (S.left source.old) (λ input. DriveGives (C.work command.old) discipline max input (S.left source.new)
         (K.written out.old) (K.written out.new) (E.written notes.old) (E.written notes.new) result) }
-    ensures ahead { IfErr result (AtSink (IfSome (S.left source.old) (IsLittleAhead (C.work command.now) discipline max
+    ensures ahead { IfErr result (AtSink (IfSome (S.left source.old) (IsLittleAhead (C.work command.old) discipline max
         (S.left source.new) (K.written out.old) (K.written out.new) (E.written notes.old) (E.written notes.new)))) }
-    ensures limit { IfErr result (AtLimit ((rows : List C.Row) × ((C.work command.now).is_over rows ≡ true))) }
+    ensures limit { IfErr result (AtLimit ((rows : List C.Row) × ((C.work command.old).is_over rows ≡ true))) }
     ensures read_fault { result ≡ Ok ended.ReadFault → Rose (S.faults source.old) (S.faults source.new) }
     ensures later { S.faults source.old ≤ S.faults source.new }
     ensures kept { IfOk result (λ outcome. outcome ≢ ended.ReadFault → S.faults source.new ≡ S.faults source.old) }
     ensures cause { HasSinkCause (K.faults out.old) (K.faults out.new) (E.faults notes.old) (E.faults notes.new)
-        ((row : C.Row) → (C.work command.now).notes row ≡ []) result }
+        ((row : C.Row) → (C.work command.old).notes row ≡ []) result }
+    ensures same { command.new ≡ command.old }
 {
     let Ok(framer) = Framer::new(alloc, discipline, max, 0) else {
         return Err(Stop::Memory);

@@ -17,7 +17,7 @@ use std::alloc::Global;
 /// Reads a source to its end, in pieces of at most 4,096 bytes. Each full batch is read and written
 /// before more is read.
 pub(crate) fn read_to_end<C: Command, S: Source, K: Sink, E: Sink>(
-    command: &C,
+    command: &mut C,
     alloc: Global,
     reading: &mut Reading<C::Tally>,
     source: &mut S,
@@ -29,22 +29,23 @@ pub(crate) fn read_to_end<C: Command, S: Source, K: Sink, E: Sink>(
     requires open { reading.old.framer.ended ≡ false }
     requires filled { IsFilled reading.old.batch }
     requires fresh { rest false reading.old.framer [] ≡ [] }
-    ensures ok { IfOk result (ReadsToEnd (C.work command.now)
+    ensures ok { IfOk result (ReadsToEnd (C.work command.old)
         (S.left source.old) (S.left source.new) (K.written out.old) (K.written out.new)
         (E.written notes.old) (E.written notes.new) (S.faults source.old) (S.faults source.new)
         (moment_of reading.old) (moment_of reading.new)) }
     ensures within { OnOk result (reach reading.new.framer ≤ 2 ^ 62) }
     ensures filled { OnOk result (IsFilled reading.new.batch) }
     ensures caught { OnOk result (Caught (S.left source.old) (S.left source.new) (moment_of reading.old) (moment_of reading.new)) }
-    ensures halts { IfErr result (AtSink (HaltsAt (C.work command.now) (S.left source.old) (S.left source.new)
+    ensures halts { IfErr result (AtSink (HaltsAt (C.work command.old) (S.left source.old) (S.left source.new)
         (K.written out.old) (K.written out.new) (E.written notes.old) (E.written notes.new) (moment_of reading.old) Anything)) }
-    ensures err { IfErr result (StopsAt (C.work command.now)
+    ensures err { IfErr result (StopsAt (C.work command.old)
         (S.left source.old) (S.left source.new) (K.written out.old) (K.written out.new)
         (E.written notes.old) (E.written notes.new) (moment_of reading.old)) }
     ensures later { S.faults source.old ≤ S.faults source.new }
     ensures kept { result ≢ Ok refilled.ReadFault → S.faults source.new ≡ S.faults source.old }
     ensures cause { HasSinkCause (K.faults out.old) (K.faults out.new) (E.faults notes.old) (E.faults notes.new)
-        ((row : C.Row) → (C.work command.now).notes row ≡ []) result }
+        ((row : C.Row) → (C.work command.old).notes row ≡ []) result }
+    ensures same { command.new ≡ command.old }
 {
     let mut piece = [0; 4096];
     'reads: loop {
