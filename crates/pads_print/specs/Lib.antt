@@ -1,4 +1,5 @@
 pub mod Printing
 pub mod ReadBack
+pub mod Reads
 pub mod Same
 pub mod Writes

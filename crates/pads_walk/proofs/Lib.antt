@@ -1,3 +1,2 @@
-pub mod Weights
 pub mod Searches
 pub mod TakenBack

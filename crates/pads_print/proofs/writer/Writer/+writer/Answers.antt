@@ -8,7 +8,7 @@ use Rattle.pads_forms.specs.Shapes.{branch_in}
 use Rattle.law_canonical.specs.Canonical.{canon, call_spelled, is_unit, of_branch}
 use Rattle.law_canonical.proofs.Rolls.{spelled-Absorb}
 use Rattle.law_canonical.proofs.Spelled.{branch-bytes}
-use Rattle.pads_walk.proofs.Weights.{weight, weight-call}
+use Rattle.pads_steps.proofs.Weights.{weight, weight-call}
 use Rattle.pads_print.specs.Writes.{arm_spells, behind, case_spells, filled}
 use Rattle.pads_print.proofs.Writing.{absorbed-kept, arm-there, arm-past, case-there, case-past, call-deep, call-unargued, call-undeclared, call-found, uneven-parts, parts-done, parts_spell, part-none, part-next, struct-opens, there-next}
 use Rattle.pads_print.proofs.writer.Writer.+writer.Goals as goal

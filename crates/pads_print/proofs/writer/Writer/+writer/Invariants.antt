@@ -5,7 +5,7 @@ use Rattle.pads_calc.specs.declared.term.Case.{size-Case}
 use Rattle.pads_calc.specs.declared.term.Part.{size-Part}
 use Rattle.pads_calc.specs.declared.term.Seq.{size-Seq}
 use Rattle.pads_calc.specs.declared.term.Term.{size-Term}
-use Rattle.pads_walk.proofs.Weights.{weight}
+use Rattle.pads_steps.proofs.Weights.{weight}
 use Rattle.pads_print.specs.Writes.{behind}
 use Rattle.pads_print.proofs.Writing.{parts_spell, elements_spell}
 use Rattle.pads_print.proofs.writer.Writer.+writer.Given as goal

@@ -29,7 +29,7 @@ use Rattle.pads_calc.proofs.Turns.{turn-without, turn-with, turns-room, ending-f
 use Rattle.pads_walk.specs.Fields.{kept, parts_of, values_of, AreDone}
 use Rattle.pads_walk.specs.Reads.{calls, reads, reads_part, reads_seq}
 use Rattle.pads_walk.proofs.Searches.{literal-reads}
-use Rattle.pads_walk.proofs.Weights.{weight, weight-call, under}
+use Rattle.pads_steps.proofs.Weights.{weight, weight-call, under}
 use Rattle.pads_walk.proofs.reader.Reader.+reader.Goals as goal
 
 pub read-base-requires : goal.read-base-requires

@@ -14,7 +14,7 @@ use Rattle.pads_calc.proofs.Elements.{Kept}
 use Rattle.pads_calc.proofs.Runs.{Follows}
 use Rattle.pads_walk.specs.Fields.{Done, parts_of, values_of, kept_of, env_of}
 use Rattle.pads_walk.specs.Reads.{reads, reads_part, reads_arm, reads_seq}
-use Rattle.pads_walk.proofs.Weights.{weight}
+use Rattle.pads_steps.proofs.Weights.{weight}
 use Rattle.pads_walk.proofs.reader.Reader.+reader.Given as goal
 
 abbrev pub decreases-read : goal.decreases-read

@@ -1,4 +1,4 @@
--- The measure of reading: calls that may still be nested, each worth more than any body, and then the term.
+-- The measure of a reader or writer that follows terms: calls that may still be nested, each worth more than any body, and then the term.
 use Rattle.std.proofs.Common.{◌≡◌, ◌≢◌, ℕ, zero, suc, ◌+◌, ◌-◌, ◌*◌, ◌<◌, List, Some, slice_get, refl, arith}
 use denote.Param.Weighed.{most}
 use Rattle.pads_calc.specs.declared.decl.Decl.{Decl}
