@@ -27,7 +27,7 @@ use Rattle.pads_image.specs.declared.op.Op.TheVariants as op
 use Rattle.pads_image.specs.Blocks.{layout, seq_layout}
 use Rattle.pads_image.specs.Heights.{Deeper}
 use Rattle.pads_image.specs.States.{State, seen}
-use Rattle.pads_image.specs.Steps.{Stuck, Goes, does}
+use Rattle.pads_image.specs.Steps.{Goes, Stuck, does}
 use Rattle.law_images.proofs.ArrayCode.{laid}
 use Rattle.law_images.proofs.ArrayEndings.{Ends_as, ends}
 use Rattle.law_images.proofs.ArrayStates.{Array, Given, reader, To_in, Reached, full, edge, shut, env, holds, running, steps, and-then}

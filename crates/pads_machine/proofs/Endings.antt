@@ -1,5 +1,6 @@
 -- Steps of arrays, case by case, over states as they are defined.
-use Rattle.std.proofs.Common.{◌≡◌, ◌∙◌, sym, ap, refl, ℕ, ◌+◌, Bool, true, false, not, ◌&&◌, if◌then◌else◌, nat_eq, List, ◌∷◌, length, Option, Some, None}
+use Rattle.std.proofs.Common.{cond, eq-eqb, subst, ◌≡◌, ◌∙◌, sym, ap, refl, ℕ, ◌+◌, Bool, true, false, not, ◌&&◌, if◌then◌else◌, nat_eq, List, ◌∷◌, length, Option, Some, None}
+use Rattle.std.proofs.lemmas.Bool.{eqb-true}
 use Rattle.pads_value.specs.declared.cause.Cause.{Cause}
 use Rattle.pads_value.specs.declared.cause.Cause.TheVariants as cause
 use Rattle.pads_value.specs.declared.descriptor.Pd.{out-Pd}
@@ -8,9 +9,14 @@ use Rattle.pads_calc.specs.Arrays.{below_size, is_fail_class, is_full, is_last}
 use Rattle.pads_calc.specs.Leaves.{at_end, unit_of}
 use Rattle.pads_calc.specs.Readings.{is_ok}
 use Rattle.pads_image.specs.States.{Mark, Node, State, seen}
-use Rattle.pads_image.specs.Steps.{Step, Goes, back_to, began, edge_step, elem_step, full_step, is_first, mark_at, reads, reads_to, stop_step, turn_step, undone, with_own, with_reading}
-use Rattle.pads_machine.specs.Ran.{undone_by}
+use Rattle.pads_image.specs.Steps.{Step, Goes, Stuck, has_its_own, back_to, began, edge_step, elem_step, full_step, is_first, mark_at, reads, reads_to, stop_step, turn_step, undone, with_own, with_reading}
+use Rattle.pads_machine.specs.Ran.{GoesWithin, undone_by}
 use Rattle.pads_machine.specs.Shown.{has_own}
+
+-- a test that must have held
+pub where-there : (room : ℕ) (b : Bool) (x : Step) → GoesWithin room (cond b x Stuck) → b ≡ true
+where-there room true x within = refl
+where-there room false x within = absurd within
 
 module _ (to : ℕ) (s : State) (n : Node) (nodes : List Node) (nodes_are : s.nodes ≡ n ∷ nodes) where
   pub stop-ends : (m : Mark) (marks : List Mark) → s.marks ≡ m ∷ marks → is_ok s.last ≡ true
@@ -75,12 +81,21 @@ module _ (to : ℕ) (s : State) (n : Node) (nodes : List Node) (nodes_are : s.no
       elem-kept by = opened ∙ kept-by fails_here (not first && nat_eq s.last.place m.place) by
 
   module _ (last : Option Expr) (elts : ℕ) where
-    pub full-goes : (full : Bool) → is_full n.size (length n.values) ≡ full → (is : Bool) → is_last last elts n.values (seen s) ≡ is
-        → full_step last elts to s s.nodes ≡ (if full then reads_to to s.last s else if is then reads_to to s.last s else reads s.last s)
-    full-goes full full_is is last_is =
-        ap (λ (nodes : List Node). full_step last elts to s nodes) nodes_are
-        ∙ ap (λ (b : Bool). if b then reads_to to s.last s else if is_last last elts n.values (seen s) then reads_to to s.last s else reads s.last s) full_is
-        ∙ ap (λ (b : Bool). if full then reads_to to s.last s else if b then reads_to to s.last s else reads s.last s) last_is
+    -- the step is there, so the array has no binding of its own
+    pub full-alone : (room : ℕ) → GoesWithin room (full_step last elts to s s.nodes) → length s.bindings ≡ n.base
+    full-alone room within =
+        eqb-true (length s.bindings) n.base
+        (where-there room (has_its_own s n) _ (subst (λ (nodes : List Node). GoesWithin room (full_step last elts to s nodes)) nodes_are within))
 
-    pub full-ends : is_full n.size (length n.values) ≡ true → full_step last elts to s s.nodes ≡ reads_to to s.last s
-    full-ends full_is = full-goes true full_is (is_last last elts n.values (seen s)) refl
+    module _ (alone : length s.bindings ≡ n.base) where
+      pub full-goes : (full : Bool) → is_full n.size (length n.values) ≡ full → (is : Bool) → is_last last elts n.values (seen s) ≡ is
+          → full_step last elts to s s.nodes ≡ (if full then reads_to to s.last s else if is then reads_to to s.last s else reads s.last s)
+      full-goes full full_is is last_is =
+          let by = λ (own full is : Bool). cond own (if full then reads_to to s.last s else if is then reads_to to s.last s else reads s.last s) Stuck in
+          ap (λ (nodes : List Node). full_step last elts to s nodes) nodes_are
+          ∙ ap (λ (own : Bool). by own (is_full n.size (length n.values)) (is_last last elts n.values (seen s))) (eq-eqb (length s.bindings) n.base alone)
+          ∙ ap (λ (full : Bool). by true full (is_last last elts n.values (seen s))) full_is
+          ∙ ap (λ (is : Bool). by true full is) last_is
+
+      pub full-ends : is_full n.size (length n.values) ≡ true → full_step last elts to s s.nodes ≡ reads_to to s.last s
+      full-ends full_is = full-goes true full_is (is_last last elts n.values (seen s)) refl

@@ -2,7 +2,7 @@
 ghost use Rattle.std.specs.Prelude.{◌≡◌, ◌≤◌, ◌<◌, ◌^◌, List, ◌∷◌, drop, length, reverse, slice_get, Some, IfOk, OnOk};
 ghost use Rattle.std.specs.Option.{option_copied};
 ghost use Rattle.pads_calc.specs.Arrays.{is_last as is_last_of_values, size_at};
-ghost use Rattle.pads_image.specs.States.{seen};
+ghost use Rattle.pads_image.specs.States.{floor_of, seen};
 ghost use Rattle.pads_image.specs.Steps.{Goes, edge_step, elem_step, full_step, sep_step, shut_step, size_step, stop_step, turn_step};
 ghost use Rattle.pads_machine.specs.Held.{Held, Roomy};
 ghost use Rattle.pads_machine.specs.Ran.{GoesWithin, StaysPlaced, undone_by};
@@ -65,66 +65,52 @@ impl State {
     }
 
     /// Whether the latest element is the last one, by a condition over the elements so far.
-    fn is_last(
-        &mut self,
-        alloc: Global,
-        last: Option<&Expr>,
-        elements_name: u16,
-    ) -> Result<bool, Memory>
+    fn is_last(&mut self, alloc: Global, last: Option<&Expr>, elements_name: u16) -> bool
         requires some { 0 < length self.old.nodes.items }
+        requires own { length self.old.bindings.items ≤ floor_of (shown self.old).nodes }
         requires roomy { Roomy self.old.room self.old }
         requires held { Held self.old }
-        ensures last { IfOk result (λ is. is ≡ is_last_of_values (option_copied last.entry) elements_name (latest_values (shown self.old).nodes) (seen (shown self.old))) }
-        ensures shown { OnOk result (shown self.new ≡ shown self.old) }
-        ensures marks { OnOk result (self.new.marks ≡ self.old.marks) }
-        ensures held { OnOk result (Held self.new) }
+        ensures last { result ≡ is_last_of_values (option_copied last.entry) elements_name (latest_values (shown self.old).nodes) (seen (shown self.old)) }
+        ensures shown { shown self.new ≡ shown self.old }
+        ensures marks { self.new.marks ≡ self.old.marks }
+        ensures held { Held self.new }
         ensures roomy { Roomy self.old.room self.new }
     {
         let Some(condition) = last else {
-            return Ok(false);
+            return false;
         };
         let Some(mut node) = self.nodes.pop() else {
             unreachable!()
         };
-        if node.base < self.bindings.len() {
-            return Err(Memory);
-        }
         let elements = mem::replace(&mut node.values, Vec::new(alloc));
         let elements = Items::from_vec(elements);
         let (truth, elements) = is_last_of(condition, elements_name, elements, self.seen());
         node.values = elements.into_vec();
         self.nodes.push_reserved(node);
-        Ok(truth)
+        truth
     }
 
     /// Goes on at the address where the latest array has all of its elements.
-    pub(crate) fn full(
-        &mut self,
-        alloc: Global,
-        last: Option<&Expr>,
-        elements_name: u16,
-        to: u32,
-    ) -> Result<(), Memory>
+    pub(crate) fn full(&mut self, alloc: Global, last: Option<&Expr>, elements_name: u16, to: u32)
         requires address { self.old.address < 2 ^ 32 }
         requires within { GoesWithin self.old.room (full_step (option_copied last) elements_name to (shown self.old) (shown self.old).nodes) }
         requires roomy { Roomy self.old.room self.old }
         requires held { Held self.old }
-        ensures full { OnOk result (full_step (option_copied last.entry) elements_name to (shown self.old) (shown self.old).nodes ≡ Goes (shown self.new)) }
-        ensures placed { OnOk result (StaysPlaced self.old self.new) }
-        ensures held { OnOk result (Held self.new) }
+        ensures full { full_step (option_copied last.entry) elements_name to (shown self.old) (shown self.old).nodes ≡ Goes (shown self.new) }
+        ensures placed { StaysPlaced self.old self.new }
+        ensures held { Held self.new }
         ensures roomy { Roomy self.old.room self.new }
     {
         let node = self.node();
         if is_full(node.size, node.values.len() as u64) {
             self.address = to as usize;
-            return Ok(());
+            return;
         }
-        if self.is_last(alloc, last, elements_name)? {
+        if self.is_last(alloc, last, elements_name) {
             self.address = to as usize;
         } else {
             self.address += 1;
         }
-        Ok(())
     }
 
     /// Ends the latest array where its terminator stands, which isn't consumed.
@@ -276,24 +262,21 @@ impl State {
     }
 
     /// Makes the latest array of its elements.
-    pub(crate) fn shut(&mut self, origin: u64) -> Result<(), Memory>
+    pub(crate) fn shut(&mut self, origin: u64)
         requires origin { origin ≤ 2 ^ 62 }
         requires address { self.old.address < 2 ^ 32 }
         requires place { self.old.last.place ≤ 2 ^ 62 }
         requires within { GoesWithin self.old.room (shut_step origin (shown self.old) (shown self.old).nodes) }
         requires roomy { Roomy self.old.room self.old }
         requires held { Held self.old }
-        ensures shut { OnOk result (shut_step origin (shown self.old) (shown self.old).nodes ≡ Goes (shown self.new)) }
-        ensures placed { OnOk result (StaysPlaced self.old self.new) }
-        ensures held { OnOk result (Held self.new) }
+        ensures shut { shut_step origin (shown self.old) (shown self.old).nodes ≡ Goes (shown self.new) }
+        ensures placed { StaysPlaced self.old self.new }
+        ensures held { Held self.new }
         ensures roomy { Roomy self.old.room self.new }
     {
         let Some(node) = self.nodes.pop() else {
             unreachable!()
         };
-        if node.base < self.bindings.len() {
-            return Err(Memory);
-        }
         let Node {
             begin,
             base: _,
@@ -309,6 +292,5 @@ impl State {
         };
         self.last = elements.into_array(origin, own, begin);
         self.address += 1;
-        Ok(())
     }
 }

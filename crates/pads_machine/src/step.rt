@@ -249,13 +249,13 @@ impl State {
         let origin = from.origin;
         match op {
             Op::Size(size, to) => self.array(alloc, origin, size.as_ref(), *to),
-            Op::Full(last, name, to) => self.full(alloc, last.as_ref(), *name, *to)?,
+            Op::Full(last, name, to) => self.full(alloc, last.as_ref(), *name, *to),
             Op::Stop(to) => self.stop(*to),
             Op::Edge(to) => self.edge(from, *to),
             Op::Turn(to) => self.turn(*to),
             Op::Sep(to) => self.separate(*to),
             Op::Elem(to, again) => self.element(alloc, origin, *to, *again)?,
-            Op::Shut => self.shut(origin)?,
+            Op::Shut => self.shut(origin),
             _ => unreachable!(),
         }
         Ok(())

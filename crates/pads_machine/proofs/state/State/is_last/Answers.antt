@@ -7,7 +7,7 @@ use Rattle.pads_value.specs.declared.value.Val.{Val}
 use Rattle.pads_expr.specs.declared.expr.Expr.{Expr}
 use Rattle.pads_expr.specs.Value.{Pairs}
 use Rattle.pads_calc.specs.Arrays.{is_last}
-use Rattle.pads_image.specs.States.{seen}
+use Rattle.pads_image.specs.States.{floor_of, seen}
 use Rattle.pads_machine.specs.declared.node.Node.{Node}
 use Rattle.pads_machine.specs.Shown.{Homes, above, latest_values, nodes_shown, put_back, shown}
 use Rattle.pads_machine.proofs.Homes.{above-all, reverse-push}
@@ -25,8 +25,8 @@ returns-clause-last c =
     let left = reverse c.pop.new.self.items in
     let env = reverse c.seen.result.now in
     let old : reverse m.nodes.items ≡ n ∷ left = ap reverse c.in-Some-pop.ensures.items ∙ reverse-push c.pop.new.self.items n in
-    let within : c.len.result ≤ n.base = c.if-node-len.false in
-    let over : length hs ≤ n.base = omega (arith, within, c.len.ensures, m.bindings.ok.0, length-reverse m.homes.items, c.requires.held.each_home) in
+    let floor : floor_of (shown m).nodes ≡ n.base = ap (λ (nodes : List Node). floor_of (nodes_shown nodes hs bs)) old in
+    let over : length hs ≤ n.base = omega (arith, floor, c.requires.own, length-reverse m.homes.items, c.requires.held.each_home) in
     let elements : c.from_vec-elements.result ≡ n.values.items =
     c.from_vec-elements.ensures.same ∙ ap (λ (values : Vec Val Global). values.items) c.replace-elements.ensures.value in
     let own : latest_values (nodes_shown (n ∷ left) hs bs) ≡ n.values.items = ap (λ (hs : Homes). put_back hs (above n.base bs) n.values.items) (above-all n.base hs over) in
