@@ -75,7 +75,12 @@ fn bytes_of(alloc: Global, word: &str) -> Result<Vec<u8>, Trouble> {
 }
 
 /// The row of a record by the image of its module.
-fn read_by_image(alloc: Global, module: &Module, number: u64, frame: &Frame) -> Result<Row, Trouble> {
+fn read_by_image(
+    alloc: Global,
+    module: &Module,
+    number: u64,
+    frame: &Frame,
+) -> Result<Row, Trouble> {
     let image = match compile(alloc, module) {
         Ok(image) => image,
         Err(Refusal::Fault(_)) => return Err(Trouble::Line("the image is too large")),
