@@ -1,6 +1,8 @@
-ghost use Rattle.std.specs.Prelude.{IfOk};
+ghost use Rattle.std.specs.Prelude.{◌≡◌, IfOk};
 ghost use Rattle.pads_compile.specs.Compiling.{Compiles};
 ghost use Rattle.pads_image.specs.Answers.{StandsFor};
+ghost use Rattle.pads_image.specs.Code.{length_of};
+ghost use Rattle.pads_value.specs.Header.{capped};
 
 use crate::emit::{Code, emit_decls};
 use crate::size::length;
@@ -10,7 +12,7 @@ use pads_value::Refusal;
 use std::alloc::Global;
 
 /// The most instructions of an image.
-const LONGEST: u64 = 1_048_576;
+pub const LONGEST: u64 = 1_048_576;
 
 /// The image would have more instructions than an image may have.
 #[derive(Clone, Copy, Debug, Drop, PartialEq, Eq)]
@@ -19,13 +21,20 @@ pub struct TooLarge {
     pub length: u64,
 }
 
+/// How many instructions the image of a module has, or 2^64 - 1 where they are more. Takes no memory.
+pub fn image_length(rules: &Module) -> u64
+    ensures length { result ≡ capped (length_of rules.now.decls) }
+{
+    length(rules.decls.as_slice())
+}
+
 /// The image of a module. `TooLarge` exactly where it would have more than 1,048,576 instructions. Takes
 /// time linear in the module, times the depth at which unions and arrays stand in one another.
 pub fn compile(alloc: Global, rules: &Module) -> Result<Image, Refusal<TooLarge>>
     ensures compiled { Compiles rules.now.decls rules.now.shape result }
     ensures stands { IfOk result (λ image. StandsFor image.code image.entries image.shape image.need rules.now.decls) }
 {
-    let length = length(rules.decls.as_slice());
+    let length = image_length(rules);
     if length > LONGEST {
         return Err(Refusal::Fault(TooLarge { length }));
     }

@@ -7,4 +7,4 @@ mod leaf;
 mod places;
 mod size;
 
-pub use compiling::{TooLarge, compile};
+pub use compiling::{LONGEST, TooLarge, compile, image_length};

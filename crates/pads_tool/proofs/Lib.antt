@@ -4,7 +4,10 @@ pub mod Told
 pub mod Texts
 pub mod Records
 pub mod Kept
+pub mod Stops
 pub mod Described
+pub mod Accepted
+pub mod Readers
 pub mod Tested
 pub mod Alike
 pub mod Masked

@@ -1,5 +1,5 @@
--- Where a mask suits the description in a file, no order is refused for it.
-use Rattle.std.proofs.Common.{◌≡◌, ◌≢◌, ◌∙◌, sym, ap, subst, ℕ, List, Option, Some, None, Result, Ok, Err, IfOk, IfErr, OnOk}
+-- Where a mask suits the description in a file, and the module under it has an image, no order is refused for it.
+use Rattle.std.proofs.Common.{◌≡◌, ◌∙◌, sym, ap, subst, ℕ, List, Option, Some, None, Result, Ok, Err, IfOk, IfErr, arith}
 use Rattle.pads_code.specs.declared.Coding.{Coding}
 use Rattle.pads_describe.proofs.AnswerLaws.{not_refused, one_description}
 use Rattle.pads_describe.specs.Describing.{Describes}
@@ -9,10 +9,12 @@ use Rattle.pads_erase.specs.declared.mask.Mask.{Mask}
 use Rattle.pads_module.specs.Modules.{Contents, contents}
 use Rattle.pads_module.specs.declared.module.Module.{Module}
 use Rattle.pads_tool.proofs.Promises.{Excludes, known-at}
-use Rattle.pads_tool.specs.Masking.{CanBeMasked, IsMaskFault, IsMaskedIn, IsRefusedUnder, IsUnmaskedIn, masking}
+use Rattle.pads_tool.proofs.Stops.{stop-before, stops-behind}
+use Rattle.pads_tool.specs.Images.{HasImage, IsImageFault}
+use Rattle.pads_tool.specs.Masking.{CanBeMasked, IsMaskFault, IsMaskedIn, IsReadUnder, IsRefusedUnder, IsUnmaskedIn, IsUnreadUnder, masking}
 use Rattle.pads_tool.specs.Texts.{IsDescribedIn, IsRefusedFor, IsRefusedIn, StopsBefore, StopsFor}
 use Rattle.pads_tool.specs.declared.ending.Ending.{Ending}
-use Rattle.pads_tool.specs.declared.ending.Ending.TheVariants as ending
+use Rattle.pads_tool.specs.declared.reader.Reader.{Reader}
 use Rattle.pads_tool.specs.declared.reason.Reason.{Reason}
 use Rattle.pads_tool.specs.declared.reason.Reason.TheVariants as reason
 
@@ -33,59 +35,61 @@ module _ (content : Option (List ℕ)) (coding : Coding) (mask : Mask) (can : Ca
       let suits = subst (λ (whole : Contents). fault_of whole mask ≡ None) (one-whole refused.0 refused.1) can.suits in
       let wrong : Some item ≡ None = sym refused.2 ∙ suits in cc
 
+  pub masked-image : IsUnreadUnder content coding mask → ⊥
+  masked-image refused =
+      let small = subst HasImage (one-masked refused.0 refused.1) can.small in
+      omega (arith, small, refused.2)
+
 pub masking-excludes : (coding : Coding) (mask : Mask) → Excludes (masking coding mask)
 masking-excludes coding mask content (reason.Description v) can refused = masked-verdict content coding mask can v refused
 masking-excludes coding mask content (reason.MaskItem item) can refused = masked-item content coding mask can item refused
 masking-excludes coding mask content (reason.Question fault) can refused = absurd refused
+masking-excludes coding mask content reason.ImageTooLarge can refused = masked-image content coding mask can refused
 masking-excludes coding mask content reason.SummaryTooLarge can refused = absurd refused
 
 -- A module under a mask, or why there is none, from that of the description in a file.
 module _ (content : Option (List ℕ)) (coding : Coding) (mask : Mask) where
-  masked-stop : (whole : Contents) → IsDescribedIn content coding whole → (before now : ℕ) (e : Ending) → StopsFor (IsMaskFault whole mask) e → StopsBefore (IsRefusedUnder content coding mask) before now e
-  masked-stop whole here before now (ending.Refused (reason.MaskItem item)) h = (whole, here, h)
-  masked-stop whole here before now (ending.Refused (reason.Description verdict)) h = absurd h
-  masked-stop whole here before now (ending.Refused (reason.Question fault)) h = absurd h
-  masked-stop whole here before now (ending.Refused reason.SummaryTooLarge) h = absurd h
-  masked-stop whole here before now ending.Memory h = tt
-  masked-stop whole here before now ending.FileFault h = absurd h
-  masked-stop whole here before now ending.Done h = absurd h
-  masked-stop whole here before now ending.Dirty h = absurd h
-  masked-stop whole here before now ending.Usage h = absurd h
-  masked-stop whole here before now ending.ReadFault h = absurd h
-  masked-stop whole here before now ending.WriteFault h = absurd h
-  masked-stop whole here before now ending.TooLong h = absurd h
-  masked-stop whole here before now ending.Limit h = absurd h
+  module _ (whole : Contents) (here : IsDescribedIn content coding whole) where
+    masked-why : (why : Reason) → IsMaskFault whole mask why → IsRefusedUnder content coding mask why
+    masked-why (reason.MaskItem item) h = (whole, here, h)
+    masked-why (reason.Description verdict) h = absurd h
+    masked-why (reason.Question fault) h = absurd h
+    masked-why reason.ImageTooLarge h = absurd h
+    masked-why reason.SummaryTooLarge h = absurd h
 
-  pub masked-gives : (whole : Contents) → IsDescribedIn content coding whole → (r : Result Module Ending)
-      → IfOk r (λ made. (fault_of whole mask ≡ None) × (contents made ≡ masked whole mask)) → IfOk r (λ made. IsMaskedIn content coding mask (contents made))
-  masked-gives whole here (Ok made) h = (whole, here, h.0, h.1)
-  masked-gives whole here (Err e) h = tt
+    pub masked-gives : (r : Result Module Ending) → IfOk r (λ made. (fault_of whole mask ≡ None) × (contents made ≡ masked whole mask)) → IfOk r (λ made. IsMaskedIn content coding mask (contents made))
+    masked-gives (Ok made) h = (whole, here, h.0, h.1)
+    masked-gives (Err e) h = tt
 
-  pub masked-stops : (whole : Contents) → IsDescribedIn content coding whole → (before now : ℕ) (r : Result Module Ending)
-      → IfErr r (StopsFor (IsMaskFault whole mask)) → IfErr r (StopsBefore (IsRefusedUnder content coding mask) before now)
-  masked-stops whole here before now (Ok made) h = tt
-  masked-stops whole here before now (Err e) h = masked-stop whole here before now e h
-
-  pub masked-untold : (before now : ℕ) (r : Result Module Ending) → now ≡ before → IfErr r (λ stop. stop ≢ ending.FileFault → now ≡ before)
-  masked-untold before now (Ok made) same = tt
-  masked-untold before now (Err e) same = λ other. same
-
-  pub masked-kept : (before now : ℕ) (r : Result Module Ending) → now ≡ before → OnOk r (now ≡ before)
-  masked-kept before now (Ok made) same = same
-  masked-kept before now (Err e) same = tt
+    pub masked-stops : (before now : ℕ) (r : Result Module Ending) → IfErr r (StopsFor (IsMaskFault whole mask)) → IfErr r (StopsBefore (IsRefusedUnder content coding mask) before now)
+    masked-stops = stops-behind (IsMaskFault whole mask) (IsRefusedUnder content coding mask) masked-why
 
   -- Where there is no module of the description, there is none under the mask.
+  unmasked-why : (why : Reason) → IsRefusedFor content why → IsRefusedUnder content coding mask why
+  unmasked-why (reason.Description verdict) h = h
+  unmasked-why (reason.MaskItem item) h = absurd h
+  unmasked-why (reason.Question fault) h = absurd h
+  unmasked-why reason.ImageTooLarge h = absurd h
+  unmasked-why reason.SummaryTooLarge h = absurd h
+
   pub unmasked-stop : (before now : ℕ) (e : Ending) → StopsBefore (IsRefusedFor content) before now e → StopsBefore (IsRefusedUnder content coding mask) before now e
-  unmasked-stop before now (ending.Refused (reason.Description verdict)) h = h
-  unmasked-stop before now (ending.Refused (reason.MaskItem item)) h = absurd h
-  unmasked-stop before now (ending.Refused (reason.Question fault)) h = absurd h
-  unmasked-stop before now (ending.Refused reason.SummaryTooLarge) h = absurd h
-  unmasked-stop before now ending.Memory h = h
-  unmasked-stop before now ending.FileFault h = h
-  unmasked-stop before now ending.Done h = absurd h
-  unmasked-stop before now ending.Dirty h = absurd h
-  unmasked-stop before now ending.Usage h = absurd h
-  unmasked-stop before now ending.ReadFault h = absurd h
-  unmasked-stop before now ending.WriteFault h = absurd h
-  unmasked-stop before now ending.TooLong h = absurd h
-  unmasked-stop before now ending.Limit h = absurd h
+  unmasked-stop = stop-before (IsRefusedFor content) (IsRefusedUnder content coding mask) unmasked-why
+
+  -- What reads by the module under the mask, or that it has no image.
+  module _ (made : Contents) (here : IsMaskedIn content coding mask made) where
+    image-why : (why : Reason) → IsImageFault made why → IsRefusedUnder content coding mask why
+    image-why reason.ImageTooLarge h = (made, here, h)
+    image-why (reason.Description verdict) h = absurd h
+    image-why (reason.MaskItem item) h = absurd h
+    image-why (reason.Question fault) h = absurd h
+    image-why reason.SummaryTooLarge h = absurd h
+
+    pub unread-stops : (before now : ℕ) (r : Result Reader Ending) → IfErr r (StopsFor (IsImageFault made)) → IfErr r (StopsBefore (IsRefusedUnder content coding mask) before now)
+    unread-stops = stops-behind (IsImageFault made) (IsRefusedUnder content coding mask) image-why
+
+    read-here : (by : Contents) → by ≡ made → HasImage by → IsReadUnder content coding mask by
+    read-here by same small = (subst (IsMaskedIn content coding mask) (sym same) here, small)
+
+    pub read-gives : (r : Result Reader Ending) → IfOk r (λ reader. contents reader.module ≡ made) → IfOk r (λ reader. HasImage (contents reader.module)) → IfOk r (λ reader. IsReadUnder content coding mask (contents reader.module))
+    read-gives (Ok reader) same small = read-here (contents reader.module) same small
+    read-gives (Err e) same small = tt

@@ -2,10 +2,8 @@
 use Rattle.std.proofs.Common.{◌≡◌, ◌^◌, ◌≤◌, ◌∙◌, inl, inr, refl, sym, subst, ℕ, Bool, true, List, [], length, append-nil, Option, None, Some, IfSome, arith}
 use Rattle.std.specs.Prelude.{All}
 use Rattle.std.specs.Io.KnownBytes.{Appends}
-use Rattle.pads_ast.specs.declared.decl.Ast.{Ast}
-use Rattle.pads_describe.proofs.AnswerLaws.{not_both}
+use Rattle.pads_describe.proofs.AnswerLaws.{not_refused, one_description}
 use Rattle.pads_describe.specs.Describing.{Describes}
-use Rattle.pads_describe.specs.Trees.{IsAccepted}
 use Rattle.pads_describe.specs.Verdicts.{IsRefused}
 use Rattle.pads_code.specs.declared.Coding.{Coding}
 use Rattle.pads_orders.specs.declared.order.Cutting.{Cutting}
@@ -30,8 +28,9 @@ use Rattle.pads_tool.specs.Promises.{Promise, Seen, seen, Counts, counts, Keeps,
 use Rattle.pads_tool.specs.Running.{Ordered}
 use Rattle.pads_tool.specs.Telling.{Tells}
 use Rattle.pads_tool.specs.Testing.{all_clean, selftest_line}
+use Rattle.pads_tool.specs.Images.{CanBeRead, HasImage, HasNoImage, IsReadIn, IsUnreadFor}
 use Rattle.pads_tool.specs.Masking.{Preparation, describing}
-use Rattle.pads_tool.specs.Texts.{IsRefusedFor, IsRefusedIn, StopsBefore}
+use Rattle.pads_tool.specs.Texts.{IsDescribedIn, IsRefusedIn, StopsBefore, StopsFor}
 use Rattle.pads_tool.specs.declared.reason.Reason.{Reason}
 use Rattle.pads_tool.specs.declared.reason.Reason.TheVariants as reason
 use Rattle.pads_tool.specs.declared.ending.Ending.{Ending}
@@ -41,23 +40,30 @@ pub known-at : {A : Type 0} (P : A → Type 0) (o : Option A) (x : A) → o ≡ 
 known-at P (Some y) x e h = let same : y ≡ x = cc in subst P same h
 known-at P None x e h = cc
 
--- an accepted description isn't refused
-pub not-refused : (content : Option (List ℕ)) (text : List ℕ) (tree : Ast) (v : Verdict) → content ≡ Some text → IsAccepted text tree → IsRefusedIn content v → ⊥
-not-refused content text tree v is accepted refused = not_both text tree v accepted (known-at (λ text. IsRefused text v) content text is refused)
+-- An accepted description, whose module has an image, isn't refused.
+module _ (content : Option (List ℕ)) (coding : Coding) (can : CanBeRead content coding) where
+  accepted-verdict : (v : Verdict) → IsRefusedIn content v → ⊥
+  accepted-verdict v refused = not_refused can.text coding can.made v can.describes (known-at (λ text. IsRefused text v) content can.text can.content_is refused)
 
--- It is refused for no reason.
-not-refused-for : (content : Option (List ℕ)) (text : List ℕ) (tree : Ast) (why : Reason) → content ≡ Some text → IsAccepted text tree → IsRefusedFor content why → ⊥
-not-refused-for content text tree (reason.Description v) is accepted refused = not-refused content text tree v is accepted refused
-not-refused-for content text tree (reason.MaskItem item) is accepted refused = absurd refused
-not-refused-for content text tree (reason.Question fault) is accepted refused = absurd refused
-not-refused-for content text tree reason.SummaryTooLarge is accepted refused = absurd refused
+  small-image : (made : Contents) → IsDescribedIn content coding made → HasNoImage made → ⊥
+  small-image made here large =
+      let same = one_description can.text coding can.made made can.describes (known-at (λ text. Describes text coding made) content can.text can.content_is here) in
+      let small = subst HasImage same can.small in
+      omega (arith, small, large)
+
+  not-refused : (why : Reason) → IsUnreadFor content coding why → ⊥
+  not-refused (reason.Description v) refused = accepted-verdict v refused
+  not-refused reason.ImageTooLarge refused = small-image refused.0 refused.1 refused.2
+  not-refused (reason.MaskItem item) refused = absurd refused
+  not-refused (reason.Question fault) refused = absurd refused
+  not-refused reason.SummaryTooLarge refused = absurd refused
 
 -- Where there is a module, there is no reason that there is none.
 abbrev pub Excludes : Preparation → Type 0
 Excludes prepared = (content : Option (List ℕ)) (why : Reason) → prepared.can_make content → prepared.refused_for content why → ⊥
 
 pub describing-excludes : (coding : Coding) → Excludes (describing coding)
-describing-excludes coding content why can refused = not-refused-for content can.0 can.1 why can.2 can.3 refused
+describing-excludes coding content why can refused = not-refused content coding can why refused
 
 -- The run of a command ends before its module is there.
 pub stopped : (p : Promise) (s : Seen) (n : Counts) (Refuses : Reason → Type 0) (e : Ending) → p.reads_files ≡ true
@@ -74,11 +80,11 @@ stopped p s n Refuses ending.WriteFault reads refused early same h = absurd h
 stopped p s n Refuses ending.TooLong reads refused early same h = absurd h
 stopped p s n Refuses ending.Limit reads refused early same h = absurd h
 
-pub check-stopped : (name : List ℕ) (content : List ℕ → Option (List ℕ)) (left left' out noted noted' : Option (List ℕ)) (n : Counts) (e : Ending)
-    → StopsBefore (IsRefusedFor (content name)) n.files n.files' e → Keeps (checking name) (seen content left left' out out noted noted') n e
-check-stopped name content left left' out noted noted' n e h =
-    stopped (checking name) (seen content left left' out out noted noted') n (IsRefusedFor (content name)) e refl
-    (λ why refused. (refused, λ can. not-refused-for (content name) can.0 can.1 why can.2 can.3 refused)) refl refl h
+pub check-stopped : (name : List ℕ) (settings : Settings) (content : List ℕ → Option (List ℕ)) (left left' out noted noted' : Option (List ℕ)) (n : Counts) (e : Ending)
+    → StopsBefore (IsUnreadFor (content name) settings.coding) n.files n.files' e → Keeps (checking name settings) (seen content left left' out out noted noted') n e
+check-stopped name settings content left left' out noted noted' n e h =
+    stopped (checking name settings) (seen content left left' out out noted noted') n (IsUnreadFor (content name) settings.coding) e refl
+    (λ why refused. (refused, λ can. not-refused (content name) settings.coding can why refused)) refl refl h
 
 pub reading-stopped : (prepared : Preparation) (work : Description → Work Row Bool) (noting : Bool) (name : List ℕ) (cutting : Cutting) (content : List ℕ → Option (List ℕ)) (left out noted : Option (List ℕ)) (n : Counts)
     (e : Ending) → Excludes prepared → StopsBefore (prepared.refused_for (content name)) n.files n.files' e
@@ -88,9 +94,9 @@ reading-stopped prepared work noting name cutting content left out noted n e exc
     (λ why refused. (refused, λ can. excludes (content name) why can.0 refused)) (inl (refl, refl, refl)) refl h
 
 pub printing-stopped : (name : List ℕ) (settings : Settings) (content : List ℕ → Option (List ℕ)) (left out noted : Option (List ℕ)) (n : Counts) (e : Ending)
-    → StopsBefore (IsRefusedFor (content name)) n.files n.files' e → Keeps (printing name settings) (seen content left left out out noted noted) n e
+    → StopsBefore (IsUnreadFor (content name) settings.coding) n.files n.files' e → Keeps (printing name settings) (seen content left left out out noted noted) n e
 printing-stopped name settings content left out noted n e h =
-    stopped (printing name settings) (seen content left left out out noted noted) n (IsRefusedFor (content name)) e refl
+    stopped (printing name settings) (seen content left left out out noted noted) n (IsUnreadFor (content name) settings.coding) e refl
     (λ why refused. (refused, λ can. describing-excludes settings.coding (content name) why can.0 refused)) (inl (refl, refl, refl)) refl h
 
 module _ (work : Description → Work Row Bool) (left left' o o' n n' : Option (List ℕ)) where
@@ -136,14 +142,11 @@ printed name settings s n ending.Memory kept h = h
 printed name settings s n ending.TooLong kept h = h
 printed name settings s n ending.Limit kept h = h
 
--- A self-test ends without its module; no file is opened, so none failed.
-pub test-stopped : (records : ℕ) (settings : Settings) (s : Seen) (n : Counts) (e : Ending) → s.out' ≡ s.out → StopsBefore (IsRefusedFor (Some description)) 0 0 e → Keeps (testing records settings) s n e
-test-stopped records settings s n (ending.Refused (reason.Description verdict)) same h = (h, same, λ can. not_both description can.0 verdict can.1 h)
-test-stopped records settings s n (ending.Refused (reason.MaskItem item)) same h = absurd h
-test-stopped records settings s n (ending.Refused (reason.Question fault)) same h = absurd h
-test-stopped records settings s n (ending.Refused reason.SummaryTooLarge) same h = absurd h
+-- A self-test ends without its module.
+pub test-stopped : (records : ℕ) (settings : Settings) (s : Seen) (n : Counts) (e : Ending) → s.out' ≡ s.out → StopsFor (IsUnreadFor (Some description) settings.coding) e → Keeps (testing records settings) s n e
+test-stopped records settings s n (ending.Refused why) same h = (h, same, λ can. not-refused (Some description) settings.coding can why h)
 test-stopped records settings s n ending.Memory same h = same
-test-stopped records settings s n ending.FileFault same h = absurd (omega (arith, h))
+test-stopped records settings s n ending.FileFault same h = absurd h
 test-stopped records settings s n ending.Done same h = absurd h
 test-stopped records settings s n ending.Dirty same h = absurd h
 test-stopped records settings s n ending.Usage same h = absurd h
@@ -153,11 +156,11 @@ test-stopped records settings s n ending.TooLong same h = absurd h
 test-stopped records settings s n ending.Limit same h = absurd h
 
 -- It tells its tally.
-pub test-told : (records : ℕ) (settings : Settings) (s : Seen) (n : Counts) (made : Contents) (e : Ending) → Describes description settings.coding made
+pub test-told : (records : ℕ) (settings : Settings) (s : Seen) (n : Counts) (made : Contents) (e : Ending) → IsReadIn (Some description) settings.coding made
     → Tells (selftest_line (described made settings.cutting) records) (all_clean (described made settings.cutting) records) s.out s.out' n.out n.out' e → Keeps (testing records settings) s n e
-test-told records settings s n made ending.Done h t = ((made, h, t), tt)
-test-told records settings s n made ending.Dirty h t = ((made, h, t), tt)
-test-told records settings s n made ending.WriteFault h t = (inl t.0, (made, h, t.1), tt)
+test-told records settings s n made ending.Done h t = ((made, h.0, h.1, t), tt)
+test-told records settings s n made ending.Dirty h t = ((made, h.0, h.1, t), tt)
+test-told records settings s n made ending.WriteFault h t = (inl t.0, (made, h.0, h.1, t.1), tt)
 test-told records settings s n made ending.Usage h t = absurd t
 test-told records settings s n made (ending.Refused verdict) h t = absurd t
 test-told records settings s n made ending.FileFault h t = absurd t

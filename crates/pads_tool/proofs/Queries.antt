@@ -1,5 +1,5 @@
 -- How the promise of a query is kept.
-use Rattle.std.proofs.Common.{◌≡◌, ◌≢◌, ◌∙◌, inl, inr, refl, sym, subst, ℕ, false, List, [], ◌∷◌, ◌++◌, append_assoc, append-nil, drop, slice_get, ap, Option, Some, None, IfSome, IfOk, IfErr, Result, Ok, Err}
+use Rattle.std.proofs.Common.{◌≡◌, inl, inr, refl, sym, subst, ℕ, List, Option, None, IfOk, IfErr, Result, Ok, Err}
 use Rattle.pads_ast.specs.declared.decl.Ast.{Ast}
 use Rattle.pads_code.specs.declared.Coding.{Coding}
 use Rattle.pads_describe.proofs.AnswerLaws.{one_tree}
@@ -14,11 +14,13 @@ use Rattle.pads_question.proofs.OneAnswer.{asked_or_refused}
 use Rattle.pads_question.specs.Questions.{IsAsked, IsNotAsked}
 use Rattle.pads_question.specs.declared.asked.Asked.{Asked}
 use Rattle.pads_question.specs.declared.fault.QuestionFault.{QuestionFault}
-use Rattle.pads_tool.proofs.Masked.{masked-item, masked-verdict, one-masked}
+use Rattle.pads_tool.proofs.Masked.{masked-image, masked-item, masked-verdict, one-masked}
 use Rattle.pads_tool.proofs.Promises.{known-at}
+use Rattle.pads_tool.proofs.Stops.{stop-before, stop-behind, stop-for, stops-behind}
+use Rattle.pads_tool.specs.Images.{IsImageFault}
 use Rattle.pads_tool.specs.Masking.{IsMaskFault, IsMaskedIn}
 use Rattle.pads_tool.specs.Promises.{Counts, Keeps, Seen, answering, querying}
-use Rattle.pads_tool.specs.Querying.{CanBeAsked, IsAskedIn, IsNotAskedIn, IsQuestionFault, IsUnaskedFor}
+use Rattle.pads_tool.specs.Querying.{CanBeAsked, IsAskedIn, IsNotAskedIn, IsQuestionFault, IsUnaskedFor, IsUnaskedOf}
 use Rattle.pads_tool.proofs.Texts.{of-text}
 use Rattle.pads_tool.specs.Texts.{IsDescribedIn, IsRefusedFor, IsTextIn, StopsBefore, StopsFor}
 use Rattle.pads_tool.specs.declared.ending.Ending.{Ending}
@@ -42,6 +44,7 @@ module _ (content : Option (List ℕ)) (coding : Coding) (mask : Mask) (asks : Q
   unasked-never (reason.Description verdict) refused = masked-verdict content coding mask can.can_make verdict refused
   unasked-never (reason.MaskItem item) refused = masked-item content coding mask can.can_make item refused
   unasked-never (reason.Question fault) refused = asked-not-refused fault refused
+  unasked-never reason.ImageTooLarge refused = masked-image content coding mask can.can_make (refused.1, refused.2.0, refused.3)
   unasked-never reason.SummaryTooLarge refused = absurd refused
 
 module _ (asks : Question) (settings : Settings) (mask : Mask) (s : Seen) (n : Counts) where
@@ -76,72 +79,73 @@ module _ (asks : Question) (settings : Settings) (mask : Mask) (s : Seen) (n : C
 -- What is asked by the description in a file, or why nothing is.
 module _ (content : Option (List ℕ)) (coding : Coding) (mask : Mask) (asks : Question) where
   -- There is no description,
+  undescribed-why : (why : Reason) → IsRefusedFor content why → IsUnaskedFor content coding mask asks why
+  undescribed-why (reason.Description verdict) h = h
+  undescribed-why (reason.MaskItem item) h = absurd h
+  undescribed-why (reason.Question fault) h = absurd h
+  undescribed-why reason.ImageTooLarge h = absurd h
+  undescribed-why reason.SummaryTooLarge h = absurd h
+
   pub undescribed-stop : (before now : ℕ) (e : Ending) → StopsBefore (IsRefusedFor content) before now e → StopsBefore (IsUnaskedFor content coding mask asks) before now e
-  undescribed-stop before now (ending.Refused (reason.Description verdict)) h = h
-  undescribed-stop before now (ending.Refused (reason.MaskItem item)) h = absurd h
-  undescribed-stop before now (ending.Refused (reason.Question fault)) h = absurd h
-  undescribed-stop before now (ending.Refused reason.SummaryTooLarge) h = absurd h
-  undescribed-stop before now ending.Memory h = h
-  undescribed-stop before now ending.FileFault h = h
-  undescribed-stop before now ending.Done h = absurd h
-  undescribed-stop before now ending.Dirty h = absurd h
-  undescribed-stop before now ending.Usage h = absurd h
-  undescribed-stop before now ending.ReadFault h = absurd h
-  undescribed-stop before now ending.WriteFault h = absurd h
-  undescribed-stop before now ending.TooLong h = absurd h
-  undescribed-stop before now ending.Limit h = absurd h
+  undescribed-stop = stop-before (IsRefusedFor content) (IsUnaskedFor content coding mask asks) undescribed-why
 
   -- or the mask doesn't suit it,
-  pub unmasked-stop : (whole : Contents) → IsDescribedIn content coding whole → (before now : ℕ) (e : Ending) → StopsFor (IsMaskFault whole mask) e → StopsBefore (IsUnaskedFor content coding mask asks) before now e
-  unmasked-stop whole here before now (ending.Refused (reason.MaskItem item)) h = (whole, here, h)
-  unmasked-stop whole here before now (ending.Refused (reason.Description verdict)) h = absurd h
-  unmasked-stop whole here before now (ending.Refused (reason.Question fault)) h = absurd h
-  unmasked-stop whole here before now (ending.Refused reason.SummaryTooLarge) h = absurd h
-  unmasked-stop whole here before now ending.Memory h = tt
-  unmasked-stop whole here before now ending.FileFault h = absurd h
-  unmasked-stop whole here before now ending.Done h = absurd h
-  unmasked-stop whole here before now ending.Dirty h = absurd h
-  unmasked-stop whole here before now ending.Usage h = absurd h
-  unmasked-stop whole here before now ending.ReadFault h = absurd h
-  unmasked-stop whole here before now ending.WriteFault h = absurd h
-  unmasked-stop whole here before now ending.TooLong h = absurd h
-  unmasked-stop whole here before now ending.Limit h = absurd h
+  module _ (whole : Contents) (here : IsDescribedIn content coding whole) where
+    unmasked-why : (why : Reason) → IsMaskFault whole mask why → IsUnaskedFor content coding mask asks why
+    unmasked-why (reason.MaskItem item) h = (whole, here, h)
+    unmasked-why (reason.Description verdict) h = absurd h
+    unmasked-why (reason.Question fault) h = absurd h
+    unmasked-why reason.ImageTooLarge h = absurd h
+    unmasked-why reason.SummaryTooLarge h = absurd h
 
-  -- or the question doesn't.
+    pub unmasked-stop : (before now : ℕ) (e : Ending) → StopsFor (IsMaskFault whole mask) e → StopsBefore (IsUnaskedFor content coding mask asks) before now e
+    unmasked-stop = stop-behind (IsMaskFault whole mask) (IsUnaskedFor content coding mask asks) unmasked-why
+
+  -- or the question doesn't, or else its module has no image.
   module _ (text : List ℕ) (is : IsTextIn content text) (whole : Contents) (d : Describes text coding whole) (none : fault_of whole mask ≡ None) (made : Contents) (same : made ≡ masked whole mask) where
     here : IsMaskedIn content coding mask made
     here = (whole, of-text (λ text. Describes text coding whole) content text is d, none, same)
 
-    asked-stop : (before now : ℕ) (e : Ending) → StopsFor (IsQuestionFault d.tree made asks) e → StopsBefore (IsUnaskedFor content coding mask asks) before now e
-    asked-stop before now (ending.Refused (reason.Question fault)) h =
-        (made, here, of-text (λ text. (tree : Ast) × IsAccepted text tree × IsNotAsked tree made asks.path asks.filter fault) content text is (d.tree, d.accepted, h))
-    asked-stop before now (ending.Refused (reason.Description verdict)) h = absurd h
-    asked-stop before now (ending.Refused (reason.MaskItem item)) h = absurd h
-    asked-stop before now (ending.Refused reason.SummaryTooLarge) h = absurd h
-    asked-stop before now ending.Memory h = tt
-    asked-stop before now ending.FileFault h = absurd h
-    asked-stop before now ending.Done h = absurd h
-    asked-stop before now ending.Dirty h = absurd h
-    asked-stop before now ending.Usage h = absurd h
-    asked-stop before now ending.ReadFault h = absurd h
-    asked-stop before now ending.WriteFault h = absurd h
-    asked-stop before now ending.TooLong h = absurd h
-    asked-stop before now ending.Limit h = absurd h
+    asked-of : (asked : Asked) → IsAsked d.tree made asks.path asks.filter asked → IsAskedIn content coding mask asks asked made
+    asked-of asked h = (here, of-text (λ text. (tree : Ast) × IsAccepted text tree × IsAsked tree made asks.path asks.filter asked) content text is (d.tree, d.accepted, h))
 
-    pub asked-stops : (before now : ℕ) (r : Result Answers Ending) → IfErr r (StopsFor (IsQuestionFault d.tree made asks)) → IfErr r (StopsBefore (IsUnaskedFor content coding mask asks) before now)
-    asked-stops before now (Ok answers) h = tt
-    asked-stops before now (Err e) h = asked-stop before now e h
+    asked-why : (why : Reason) → IsUnaskedOf d.tree made asks why → IsUnaskedFor content coding mask asks why
+    asked-why (reason.Question fault) h =
+        (made, here, of-text (λ text. (tree : Ast) × IsAccepted text tree × IsNotAsked tree made asks.path asks.filter fault) content text is (d.tree, d.accepted, h))
+    asked-why reason.ImageTooLarge h = (h.0, made, asked-of h.0 h.1, h.2)
+    asked-why (reason.Description verdict) h = absurd h
+    asked-why (reason.MaskItem item) h = absurd h
+    asked-why reason.SummaryTooLarge h = absurd h
+
+    pub asked-stops : (before now : ℕ) (r : Result Answers Ending) → IfErr r (StopsFor (IsUnaskedOf d.tree made asks)) → IfErr r (StopsBefore (IsUnaskedFor content coding mask asks) before now)
+    asked-stops = stops-behind (IsUnaskedOf d.tree made asks) (IsUnaskedFor content coding mask asks) asked-why
 
     asked-here : (by : Contents) (asked : Asked) → by ≡ made → IsAsked d.tree made asks.path asks.filter asked → IsAskedIn content coding mask asks asked by
-    asked-here by asked by_is h =
-        subst (λ (m : Contents). IsAskedIn content coding mask asks asked m) (sym by_is)
-        (here, of-text (λ text. (tree : Ast) × IsAccepted text tree × IsAsked tree made asks.path asks.filter asked) content text is (d.tree, d.accepted, h))
+    asked-here by asked by_is h = subst (λ (m : Contents). IsAskedIn content coding mask asks asked m) (sym by_is) (asked-of asked h)
 
-    pub asked-gives : (r : Result Answers Ending) → IfOk r (λ answers. contents answers.module ≡ made) → IfOk r (λ answers. IsAsked d.tree made asks.path asks.filter answers.asked)
-        → IfOk r (λ answers. IsAskedIn content coding mask asks answers.asked (contents answers.module))
-    asked-gives (Ok answers) by h = asked-here (contents answers.module) answers.asked by h
+    pub asked-gives : (r : Result Answers Ending) → IfOk r (λ answers. contents answers.reader.module ≡ made) → IfOk r (λ answers. IsAsked d.tree made asks.path asks.filter answers.asked)
+        → IfOk r (λ answers. IsAskedIn content coding mask asks answers.asked (contents answers.reader.module))
+    asked-gives (Ok answers) by h = asked-here (contents answers.reader.module) answers.asked by h
     asked-gives (Err e) by h = tt
 
-    pub asked-untold : (before now : ℕ) (r : Result Answers Ending) → now ≡ before → IfErr r (λ stop. stop ≢ ending.FileFault → now ≡ before)
-    asked-untold before now (Ok answers) kept = tt
-    asked-untold before now (Err e) kept = λ other. kept
+-- What is asked of a module, of which there may be no image.
+module _ (tree : Ast) (made : Contents) (asks : Question) where
+  not-asked-why : (why : Reason) → IsQuestionFault tree made asks why → IsUnaskedOf tree made asks why
+  not-asked-why (reason.Question fault) h = h
+  not-asked-why (reason.Description verdict) h = absurd h
+  not-asked-why (reason.MaskItem item) h = absurd h
+  not-asked-why reason.ImageTooLarge h = absurd h
+  not-asked-why reason.SummaryTooLarge h = absurd h
+
+  pub not-asked-stop : (e : Ending) → StopsFor (IsQuestionFault tree made asks) e → StopsFor (IsUnaskedOf tree made asks) e
+  not-asked-stop = stop-for (IsQuestionFault tree made asks) (IsUnaskedOf tree made asks) not-asked-why
+
+  no-image-why : (asked : Asked) → IsAsked tree made asks.path asks.filter asked → (why : Reason) → IsImageFault made why → IsUnaskedOf tree made asks why
+  no-image-why asked h reason.ImageTooLarge large = (asked, h, large)
+  no-image-why asked h (reason.Description verdict) large = absurd large
+  no-image-why asked h (reason.MaskItem item) large = absurd large
+  no-image-why asked h (reason.Question fault) large = absurd large
+  no-image-why asked h reason.SummaryTooLarge large = absurd large
+
+  pub no-image-stop : (asked : Asked) → IsAsked tree made asks.path asks.filter asked → (e : Ending) → StopsFor (IsImageFault made) e → StopsFor (IsUnaskedOf tree made asks) e
+  no-image-stop asked h = stop-for (IsImageFault made) (IsUnaskedOf tree made asks) (no-image-why asked h)

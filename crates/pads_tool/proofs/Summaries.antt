@@ -11,8 +11,8 @@ use Rattle.pads_tool.specs.Describing.{Description, described}
 use Rattle.pads_tool.specs.Promises.{Counts, Keeps, Seen, summarizing}
 use Rattle.pads_tool.specs.Summing.{CanBeSummed, HasNoSummary, SumsGive, SumsMost, SumsOver, all_rows, are_too_many, report_for, sums}
 use Rattle.pads_tool.specs.Telling.{Tells}
-use Rattle.pads_tool.proofs.Masked.{masked-item, masked-verdict, one-masked}
-use Rattle.pads_tool.specs.Masking.{IsMaskedIn, IsRefusedUnder}
+use Rattle.pads_tool.proofs.Masked.{masked-image, masked-item, masked-verdict, one-masked}
+use Rattle.pads_tool.specs.Masking.{IsReadUnder, IsRefusedUnder}
 use Rattle.pads_tool.specs.Texts.{StopsBefore}
 use Rattle.pads_tool.specs.declared.ending.Ending.{Ending}
 use Rattle.pads_tool.specs.declared.ending.Ending.TheVariants as ending
@@ -21,9 +21,9 @@ use Rattle.pads_tool.specs.declared.summed.Summed.{Summed}
 
 module _ (content left : Option (List ℕ)) (settings : Settings) (mask : Mask) (can : CanBeSummed content left settings mask) where
   -- What can be summed hasn't too many parts,
-  can-parts : (made : Contents) → IsMaskedIn content settings.coding mask made → most < size (lists_of made) → ⊥
+  can-parts : (made : Contents) → IsReadUnder content settings.coding mask made → most < size (lists_of made) → ⊥
   can-parts made here many =
-      let few = subst (λ (m : Contents). size (lists_of m) ≤ most) (one-masked content settings.coding mask can.can_make made here) can.few in
+      let few = subst (λ (m : Contents). size (lists_of m) ≤ most) (one-masked content settings.coding mask can.can_make made here.0) can.few in
       omega (arith, few, many)
 
   -- isn't too long,
@@ -33,10 +33,10 @@ module _ (content left : Option (List ℕ)) (settings : Settings) (mask : Mask) 
       omega (arith, can.fits, long.2, within can.input left' long.0 long.1)
 
   -- and meets no limit.
-  can-over : (left' : Option (List ℕ)) (made : Contents) → IsMaskedIn content settings.coding mask made → IfSome left (SumsOver left' (described made settings.cutting)) → ⊥
+  can-over : (left' : Option (List ℕ)) (made : Contents) → IsReadUnder content settings.coding mask made → IfSome left (SumsOver left' (described made settings.cutting)) → ⊥
   can-over left' made here h =
       let over = known-at (SumsOver left' (described made settings.cutting)) left can.input can.left_is h in
-      let counted = subst (λ (m : Contents). are_too_many m (all_rows (described m settings.cutting) can.input) ≡ false) (one-masked content settings.coding mask can.can_make made here) can.counted in
+      let counted = subst (λ (m : Contents). are_too_many m (all_rows (described m settings.cutting) can.input) ≡ false) (one-masked content settings.coding mask can.can_make made here.0) can.counted in
       let wrong : true ≡ false = sym over.2 ∙ counted in cc
 
 module _ (name : List ℕ) (settings : Settings) (mask : Mask) (s : Seen) (n : Counts) where
@@ -45,6 +45,7 @@ module _ (name : List ℕ) (settings : Settings) (mask : Mask) (s : Seen) (n : C
   summary-stopped (ending.Refused (reason.Description verdict)) same h = (h, same, λ can. masked-verdict (s.content name) settings.coding mask can.can_make verdict h)
   summary-stopped (ending.Refused (reason.MaskItem item)) same h = (h, same, λ can. masked-item (s.content name) settings.coding mask can.can_make item h)
   summary-stopped (ending.Refused (reason.Question fault)) same h = absurd h
+  summary-stopped (ending.Refused reason.ImageTooLarge) same h = (h, same, λ can. masked-image (s.content name) settings.coding mask can.can_make h)
   summary-stopped (ending.Refused reason.SummaryTooLarge) same h = absurd h
   summary-stopped ending.FileFault same h = (refl, h, same)
   summary-stopped ending.Memory same h = same
@@ -56,11 +57,12 @@ module _ (name : List ℕ) (settings : Settings) (mask : Mask) (s : Seen) (n : C
   summary-stopped ending.TooLong same h = absurd h
   summary-stopped ending.Limit same h = absurd h
 
-  module _ (made : Contents) (here : IsMaskedIn (s.content name) settings.coding mask made) where
+  module _ (made : Contents) (here : IsReadUnder (s.content name) settings.coding mask made) where
     pub summary-none : (e : Ending) → s.out' ≡ s.out → HasNoSummary made e → Keeps (summarizing name settings mask) s n e
     summary-none (ending.Refused (reason.Description verdict)) same h = absurd h
     summary-none (ending.Refused (reason.MaskItem item)) same h = absurd h
     summary-none (ending.Refused (reason.Question fault)) same h = absurd h
+    summary-none (ending.Refused reason.ImageTooLarge) same h = absurd h
     summary-none (ending.Refused reason.SummaryTooLarge) same h = ((made, here, h), same, λ can. can-parts (s.content name) s.left settings mask can made here h)
     summary-none ending.Memory same h = same
     summary-none ending.FileFault same h = absurd h

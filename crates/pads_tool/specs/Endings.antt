@@ -44,6 +44,7 @@ abbrev pub reason_line : Reason → List ℕ
 reason_line (reason.Description verdict) = refusal_line verdict
 reason_line (reason.MaskItem item) = line (codes "pads: refused: mask item " ++ decimal item)
 reason_line (reason.Question fault) = question_line fault
+reason_line reason.ImageTooLarge = line (codes "pads: refused: image too large")
 reason_line reason.SummaryTooLarge = line (codes "pads: refused: summary too large")
 
 -- the last line on the notes; a run that was done leaves none

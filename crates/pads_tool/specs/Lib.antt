@@ -4,6 +4,7 @@ pub mod Closing
 pub mod Describing
 pub mod Descriptions
 pub mod Endings
+pub mod Images
 pub mod Limits
 pub mod Masking
 pub mod Printing

@@ -1,8 +1,6 @@
 -- What each command promises: one record a command, with what holds at each answer.
 use Rattle.std.specs.Prelude.{All, ◌≡◌, ℕ, ◌^◌, ◌≤◌, ◌⊎◌, Bool, true, false, List, Option, Some, length}
 use Rattle.std.specs.Io.KnownBytes.{Appends}
-use Rattle.pads_ast.specs.declared.decl.Ast.{Ast}
-use Rattle.pads_describe.specs.Trees.{IsAccepted}
 use Rattle.pads_io.specs.Faults.{Rose}
 use Rattle.pads_io.specs.Transfer.{AppendsPrefix}
 use Rattle.pads_erase.specs.declared.mask.Mask.{Mask}
@@ -18,13 +16,14 @@ use Rattle.pads_value.specs.declared.row.Row.{Row}
 use Rattle.pads_tool.specs.Causes.{SinkFailed}
 use Rattle.pads_tool.specs.Checking.{Accepts}
 use Rattle.pads_tool.specs.Describing.{Description, frames_of, is_clean, lines}
+use Rattle.pads_tool.specs.Images.{CanBeRead, IsUnreadFor}
 use Rattle.pads_tool.specs.Printing.{IsKept, prints}
 use Rattle.pads_tool.specs.Querying.{CanBeAsked, IsUnaskedFor, answers, asking}
 use Rattle.pads_tool.specs.Reading.{ReadLittleAhead, Reads, WroteAll, WroteComplete, WroteMost, WrotePrefix, rows_in}
 use Rattle.pads_tool.specs.Testing.{TestsBy, all_clean, selftest_line}
 use Rattle.pads_tool.specs.Summing.{CanBeSummed, IsUnsummedFor, SumsAll, SumsComplete, SumsMost, SumsOver, SumsSome}
-use Rattle.pads_tool.specs.Masking.{IsMaskedIn, Preparation, describing, masking}
-use Rattle.pads_tool.specs.Texts.{IsDescribedIn, IsRefusedFor}
+use Rattle.pads_tool.specs.Masking.{IsReadUnder, Preparation, describing, masking}
+use Rattle.pads_tool.specs.Texts.{IsDescribedIn}
 use Rattle.pads_tool.specs.declared.reason.Reason.{Reason}
 use Rattle.pads_tool.specs.declared.ending.Ending.{Ending}
 use Rattle.pads_tool.specs.declared.ending.Ending.TheVariants as ending
@@ -87,17 +86,17 @@ pub record Promise : Type 1 where
   pub keeps_records : (List ℕ → Option (List ℕ)) → Option (List ℕ) → Type 0
 
 -- `check`: an accepted description is told.
-abbrev pub checking : List ℕ → Promise
-checking name = record {
-  finishes = λ clean s. (clean ≡ true) × Accepts (s.content name) (Appends s.out s.out');
+abbrev pub checking : List ℕ → Settings → Promise
+checking name settings = record {
+  finishes = λ clean s. (clean ≡ true) × Accepts (s.content name) settings.coding (Appends s.out s.out');
   stops_reading = λ s. ⊥;
   stops_at_limit = λ s. ⊥;
   stops_at_count = λ s. ⊥;
-  stops_writing = λ s. Accepts (s.content name) (AppendsPrefix s.out s.out');
+  stops_writing = λ s. Accepts (s.content name) settings.coding (AppendsPrefix s.out s.out');
   stays_near = λ s. Unit {0};
   stops_early = λ s. s.out' ≡ s.out;
-  refused_for = λ content reason. IsRefusedFor (content name) reason;
-  can_finish = λ content left. (text : List ℕ) × (tree : Ast) × (content name ≡ Some text) × IsAccepted text tree;
+  refused_for = λ content reason. IsUnreadFor (content name) settings.coding reason;
+  can_finish = λ content left. CanBeRead (content name) settings.coding;
   reads_files = true;
   reads_source = false;
   writes_notes = false;
@@ -140,11 +139,11 @@ printing name settings = record (reading (describing settings.coding) prints tru
 -- `summary`: the report of all records, once the input has ended, and nothing before.
 abbrev pub summarizing : List ℕ → Settings → Mask → Promise
 summarizing name settings mask = record {
-  finishes = λ well s. Reads (IsMaskedIn (s.content name) settings.coding mask) settings.cutting s.left (SumsAll s.left' s.out s.out' settings.top well);
-  stops_reading = λ s. (s.out' ≡ s.out) × Reads (IsMaskedIn (s.content name) settings.coding mask) settings.cutting s.left (SumsComplete s.left');
-  stops_at_limit = λ s. (s.out' ≡ s.out) × Reads (IsMaskedIn (s.content name) settings.coding mask) settings.cutting s.left (SumsMost s.left');
-  stops_at_count = λ s. Reads (IsMaskedIn (s.content name) settings.coding mask) settings.cutting s.left (SumsOver s.left');
-  stops_writing = λ s. Reads (IsMaskedIn (s.content name) settings.coding mask) settings.cutting s.left (SumsSome s.left' s.out s.out' settings.top);
+  finishes = λ well s. Reads (IsReadUnder (s.content name) settings.coding mask) settings.cutting s.left (SumsAll s.left' s.out s.out' settings.top well);
+  stops_reading = λ s. (s.out' ≡ s.out) × Reads (IsReadUnder (s.content name) settings.coding mask) settings.cutting s.left (SumsComplete s.left');
+  stops_at_limit = λ s. (s.out' ≡ s.out) × Reads (IsReadUnder (s.content name) settings.coding mask) settings.cutting s.left (SumsMost s.left');
+  stops_at_count = λ s. Reads (IsReadUnder (s.content name) settings.coding mask) settings.cutting s.left (SumsOver s.left');
+  stops_writing = λ s. Reads (IsReadUnder (s.content name) settings.coding mask) settings.cutting s.left (SumsSome s.left' s.out s.out' settings.top);
   stays_near = λ s. Unit {0};
   stops_early = λ s. s.out' ≡ s.out;
   refused_for = λ content why. IsUnsummedFor (content name) settings.coding mask why;
@@ -187,8 +186,8 @@ testing records settings = record {
   stops_writing = λ s. TestsBy settings (λ d. AppendsPrefix s.out s.out' (selftest_line d records));
   stays_near = λ s. Unit {0};
   stops_early = λ s. s.out' ≡ s.out;
-  refused_for = λ content reason. IsRefusedFor (Some description) reason;
-  can_finish = λ content left. (tree : Ast) × IsAccepted description tree;
+  refused_for = λ content reason. IsUnreadFor (Some description) settings.coding reason;
+  can_finish = λ content left. CanBeRead (Some description) settings.coding;
   reads_files = false;
   reads_source = false;
   writes_notes = false;
@@ -196,7 +195,7 @@ testing records settings = record {
 }
 
 abbrev pub promise_of : Order → Promise
-promise_of (order.Check name settings) = checking name
+promise_of (order.Check name settings) = checking name settings
 promise_of (order.Parse name settings mask) = parsing name settings mask
 promise_of (order.Print name settings) = printing name settings
 promise_of (order.Summary name settings mask) = summarizing name settings mask

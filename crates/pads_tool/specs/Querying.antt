@@ -1,6 +1,6 @@
 -- What the command `query` does: a line for each node to which the path leads from the body of a record, and that the filter
 -- keeps. A header has no such nodes.
-use Rattle.std.specs.Prelude.{◌≡◌, ℕ, ◌^◌, ◌≤◌, ◌==◌, ◌&&◌, Bool, true, false, if◌then◌else◌, List, [], length, Option, Some, None, IfSome}
+use Rattle.std.specs.Prelude.{ℕ, ◌==◌, ◌&&◌, Bool, true, false, if◌then◌else◌, List, [], Option, Some, None, IfSome}
 use Rattle.std.specs.List.{filter, flat_map, list_all}
 use Rattle.std.specs.Option.{is_some}
 use Rattle.pads_ast.specs.declared.decl.Ast.{Ast}
@@ -21,6 +21,7 @@ use Rattle.pads_question.specs.declared.asked.Asked.{Asked}
 use Rattle.pads_question.specs.declared.fault.QuestionFault.{QuestionFault}
 use Rattle.pads_value.specs.declared.row.Row.{Row}
 use Rattle.pads_tool.specs.Describing.{is_clean, row_in}
+use Rattle.pads_tool.specs.Images.{HasImage, HasNoImage}
 use Rattle.pads_tool.specs.Masking.{CanBeMasked, IsMaskedIn, IsUnmaskedIn, Preparation}
 use Rattle.pads_tool.specs.Texts.{IsRefusedIn}
 use Rattle.pads_tool.specs.declared.reason.Reason.{Reason}
@@ -57,9 +58,18 @@ abbrev pub IsQuestionFault : Ast → Contents → Question → Reason → Type 0
 IsQuestionFault tree m asks (reason.Question fault) = IsNotAsked tree m asks.path asks.filter fault
 IsQuestionFault tree m asks (reason.Description verdict) = ⊥
 IsQuestionFault tree m asks (reason.MaskItem item) = ⊥
+IsQuestionFault tree m asks reason.ImageTooLarge = ⊥
 IsQuestionFault tree m asks reason.SummaryTooLarge = ⊥
 
--- Why there is nothing to ask: there is no module, or else the path or the filter doesn't suit it.
+-- For this reason, or else since it has no image.
+abbrev pub IsUnaskedOf : Ast → Contents → Question → Reason → Type 0
+IsUnaskedOf tree m asks (reason.Question fault) = IsNotAsked tree m asks.path asks.filter fault
+IsUnaskedOf tree m asks reason.ImageTooLarge = (asked : Asked) × IsAsked tree m asks.path asks.filter asked × HasNoImage m
+IsUnaskedOf tree m asks (reason.Description verdict) = ⊥
+IsUnaskedOf tree m asks (reason.MaskItem item) = ⊥
+IsUnaskedOf tree m asks reason.SummaryTooLarge = ⊥
+
+-- Why there is nothing to ask: there is no module, or else the path or the filter doesn't suit it, or else it has no image.
 module _ (content : Option (List ℕ)) (coding : Coding) (mask : Mask) (asks : Question) where
   -- The question asks this by the description in the file, read by this module.
   abbrev pub IsAskedIn : Asked → Contents → Type 0
@@ -74,6 +84,7 @@ module _ (content : Option (List ℕ)) (coding : Coding) (mask : Mask) (asks : Q
   IsUnaskedFor (reason.Description verdict) = IsRefusedIn content verdict
   IsUnaskedFor (reason.MaskItem item) = IsUnmaskedIn content coding mask item
   IsUnaskedFor (reason.Question fault) = IsNotAskedIn fault
+  IsUnaskedFor reason.ImageTooLarge = (asked : Asked) × (made : Contents) × IsAskedIn asked made × HasNoImage made
   IsUnaskedFor reason.SummaryTooLarge = ⊥
 
   -- There is a module, and the question asks something by it.
@@ -87,7 +98,7 @@ module _ (content : Option (List ℕ)) (coding : Coding) (mask : Mask) (asks : Q
 -- How a query comes by its module and by what it asks.
 abbrev pub asking : Coding → Mask → Question → Asked → Preparation
 asking coding mask asks asked = record {
-  is_made = λ content made. IsAskedIn content coding mask asks asked made;
+  is_made = λ content made. IsAskedIn content coding mask asks asked made × HasImage made;
   refused_for = λ content why. IsUnaskedFor content coding mask asks why;
   can_make = λ content. CanBeAsked content coding mask asks;
 }

@@ -19,7 +19,7 @@ use Rattle.pads_sums.specs.declared.part_sum.SumList.{SumList}
 use Rattle.pads_value.specs.Cuts.{Cut}
 use Rattle.pads_value.specs.declared.row.Row.{Row}
 use Rattle.pads_tool.specs.Describing.{Description, complete_frames_of, described, frames_of, is_clean, row_in}
-use Rattle.pads_tool.specs.Masking.{CanBeMasked, IsMaskedIn, IsUnmaskedIn}
+use Rattle.pads_tool.specs.Masking.{CanBeMasked, IsReadUnder, IsUnmaskedIn, IsUnreadUnder}
 use Rattle.pads_tool.specs.Texts.{IsRefusedIn}
 use Rattle.pads_tool.specs.declared.ending.Ending.{Ending}
 use Rattle.pads_tool.specs.declared.ending.Ending.TheVariants as ending
@@ -104,15 +104,16 @@ module _ (left' : Option (List ℕ)) where
   SumsGive left source source' d (Err ending.FileFault) = ⊥
   SumsGive left source source' d (Err ending.WriteFault) = ⊥
 
--- The module has more parts than a summary counts for.
+-- The module has an image, and more parts than a summary counts for.
 abbrev pub IsTooLargeIn : Option (List ℕ) → Coding → Mask → Type 0
-IsTooLargeIn content coding mask = (made : Contents) × IsMaskedIn content coding mask made × (most < size (lists_of made))
+IsTooLargeIn content coding mask = (made : Contents) × IsReadUnder content coding mask made × (most < size (lists_of made))
 
--- A summary is refused for this reason: there is no module, or else it has too many parts.
+-- A summary is refused for this reason: there is no module, or else it has no image, or else it has too many parts.
 abbrev pub IsUnsummedFor : Option (List ℕ) → Coding → Mask → Reason → Type 0
 IsUnsummedFor content coding mask (reason.Description verdict) = IsRefusedIn content verdict
 IsUnsummedFor content coding mask (reason.MaskItem item) = IsUnmaskedIn content coding mask item
 IsUnsummedFor content coding mask (reason.Question fault) = ⊥
+IsUnsummedFor content coding mask reason.ImageTooLarge = IsUnreadUnder content coding mask
 IsUnsummedFor content coding mask reason.SummaryTooLarge = IsTooLargeIn content coding mask
 
 -- There is a module, which hasn't too many parts, and the records of an input of at most 2^62 bytes can be counted.
@@ -129,6 +130,7 @@ abbrev pub HasNoSummary : Contents → Ending → Type 0
 HasNoSummary m (ending.Refused (reason.Description verdict)) = ⊥
 HasNoSummary m (ending.Refused (reason.MaskItem item)) = ⊥
 HasNoSummary m (ending.Refused (reason.Question fault)) = ⊥
+HasNoSummary m (ending.Refused reason.ImageTooLarge) = ⊥
 HasNoSummary m (ending.Refused reason.SummaryTooLarge) = most < size (lists_of m)
 HasNoSummary m ending.Memory = Unit {0}
 HasNoSummary m ending.Done = ⊥

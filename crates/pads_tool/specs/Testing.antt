@@ -11,6 +11,7 @@ use Rattle.pads_selftest.specs.Records.{made}
 use Rattle.pads_value.specs.declared.row.Row.{Row}
 use Rattle.pads_tool.specs.Describing.{Description, described, frames_of, is_clean, row_in}
 use Rattle.pads_tool.specs.Endings.{line}
+use Rattle.pads_tool.specs.Images.{HasImage}
 use Rattle.pads_tool.specs.Printing.{prints}
 use Rattle.pads_tool.specs.declared.test_tally.TestTally.{TestTally}
 
@@ -50,6 +51,6 @@ tally_line tally bytes =
 abbrev pub selftest_line : Description → ℕ → List ℕ
 selftest_line d records = tally_line (tallied d (rows_tested d records)) (length (made records))
 
--- The description of the records describes something, and this holds by it.
+-- The description of the records describes something that has an image, and this holds by it.
 abbrev pub TestsBy : Settings → (Description → Type 0) → Type 0
-TestsBy settings Holds = (contents : Contents) × Describes description settings.coding contents × Holds (described contents settings.cutting)
+TestsBy settings Holds = (contents : Contents) × Describes description settings.coding contents × HasImage contents × Holds (described contents settings.cutting)

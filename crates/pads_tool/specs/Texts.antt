@@ -32,6 +32,7 @@ abbrev pub IsRefusedFor : Option (List ℕ) → Reason → Type 0
 IsRefusedFor content (reason.Description verdict) = IsRefusedIn content verdict
 IsRefusedFor content (reason.MaskItem item) = ⊥
 IsRefusedFor content (reason.Question fault) = ⊥
+IsRefusedFor content reason.ImageTooLarge = ⊥
 IsRefusedFor content reason.SummaryTooLarge = ⊥
 
 -- The run ends so where only memory is taken: the order is refused for a reason, or there is no memory.

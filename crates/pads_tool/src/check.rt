@@ -7,6 +7,7 @@ use crate::ending::Ending;
 use crate::text::accepted_in;
 use pads_describe::{Line, put, put_number};
 use pads_io::{Files, Sink, write_all};
+use pads_orders::Settings;
 use std::alloc::Global;
 
 /// The line that tells of so many declarations.
@@ -24,16 +25,17 @@ fn accepted_line(count: u64) -> Line
 pub(crate) fn check<F: Files, K: Sink>(
     alloc: Global,
     name: &str,
+    settings: &Settings,
     files: &mut F,
     out: &mut K,
 ) -> Ending
-    ensures gives { (left left' noted noted' : Option (List ℕ)) (source source' notes notes' : ℕ) → Keeps (checking name.now)
+    ensures gives { (left left' noted noted' : Option (List ℕ)) (source source' notes notes' : ℕ) → Keeps (checking name.now settings.now)
         (seen (F.content files.old) left left' (K.written out.old) (K.written out.new) noted noted')
         (counts (F.faults files.old) (F.faults files.new) source source' (K.faults out.old) (K.faults out.new) notes notes') result }
     ensures files_kept { result ≢ ending.FileFault → F.faults files.new ≡ F.faults files.old }
     ensures out_kept { result ≢ ending.WriteFault → K.faults out.new ≡ K.faults out.old }
 {
-    let count = match accepted_in(alloc, files, name) {
+    let count = match accepted_in(alloc, files, name, settings.coding) {
         Ok(count) => count,
         Err(ending) => return ending,
     };

@@ -13,6 +13,7 @@ mod files;
 mod parse;
 mod print;
 mod query;
+mod reader;
 mod reason;
 mod rows;
 mod running;

@@ -9,15 +9,15 @@ ghost use Rattle.pads_tool.specs.declared.ending.Ending.TheVariants as ending;
 ghost use Rattle.pads_module.specs.Modules.{contents};
 
 use crate::ending::Ending;
+use crate::reader::Reader;
 use crate::rows::{are_clean, ending_of, rows_in};
-use crate::text::masked_in;
+use crate::text::read_under;
 use crate::unused::unused;
 use pads_code::Coding;
 use pads_drive::{Command, Limit, Output, drive};
 use pads_erase::Mask;
 use pads_io::{Files, Sink, Source};
 use pads_json::record_line;
-use pads_module::Module;
 use pads_orders::{Cutting, Settings};
 use pads_value::{Kept, Memory, Refusal, Row, Rows};
 use std::alloc::Global;
@@ -25,7 +25,7 @@ use std::alloc::Global;
 /// The command that writes one line for each record.
 #[derive(Drop)]
 pub(crate) struct Lines {
-    pub(crate) module: Module,
+    pub(crate) reader: Reader,
 }
 
 impl Command for Lines {
@@ -38,20 +38,20 @@ impl Command for Lines {
     /// Whether all records are clean.
     type Tally = bool;
 
-    ghost work = { λ command. lines (contents command.module) };
+    ghost work = { λ command. lines (contents command.reader.module) };
 
-    fn read(&self, alloc: Global, number: u64, frames: &[Kept]) -> Result<Rows, Memory> {
-        rows_in(alloc, &self.module, number, frames)
+    fn read(&mut self, alloc: Global, number: u64, frames: &[Kept]) -> Result<Rows, Memory> {
+        rows_in(alloc, &mut self.reader, number, frames)
     }
 
     fn give(
-        &self,
+        &mut self,
         alloc: Global,
         row: &Row,
         output: &mut Output,
         tally: &mut bool,
     ) -> Result<(), Refusal<Limit>> {
-        let Ok(line) = record_line(alloc, &self.module, row) else {
+        let Ok(line) = record_line(alloc, &self.reader.module, row) else {
             return Err(Refusal::Memory);
         };
         let Ok(()) = output.out.extend_from_slice(line.as_slice()) else {
@@ -68,13 +68,13 @@ impl Command for Lines {
 /// of the run aren't handed in.
 fn write_lines<S: Source, K: Sink>(
     alloc: Global,
-    command: &Lines,
+    command: &mut Lines,
     cutting: Cutting,
     source: &mut S,
     out: &mut K,
 ) -> Ending
     requires limits { IsWithinLimits cutting }
-    ensures gives { (noted : Option (List ℕ)) (notes : ℕ) → RecordsGive (λ d. lines d.made) false (described (contents command.now.module) cutting)
+    ensures gives { (noted : Option (List ℕ)) (notes : ℕ) → RecordsGive (λ d. lines d.made) false (described (contents command.old.reader.module) cutting)
         (S.left source.old) (S.left source.new) (K.written out.old) (K.written out.new) noted noted
         (S.faults source.old) (S.faults source.new) (K.faults out.old) (K.faults out.new) notes notes result }
     ensures out_kept { result ≢ ending.WriteFault → K.faults out.new ≡ K.faults out.old }
@@ -113,8 +113,8 @@ pub(crate) fn parse<F: Files, S: Source, K: Sink>(
     ensures out_kept { result ≢ ending.WriteFault → K.faults out.new ≡ K.faults out.old }
     ensures source_kept { result ≢ ending.ReadFault → result ≢ ending.WriteFault → result ≢ ending.Memory → S.faults source.new ≡ S.faults source.old }
 {
-    match masked_in(alloc, files, name, settings.coding, mask) {
-        Ok(module) => write_lines(alloc, &Lines { module }, settings.cutting, source, out),
+    match read_under(alloc, files, name, settings.coding, mask) {
+        Ok(reader) => write_lines(alloc, &mut Lines { reader }, settings.cutting, source, out),
         Err(ending) => ending,
     }
 }

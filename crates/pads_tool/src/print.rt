@@ -12,12 +12,12 @@ ghost use Rattle.pads_tool.specs.Running.{IsBeforeInput};
 ghost use Rattle.pads_tool.specs.declared.ending.Ending.TheVariants as ending;
 
 use crate::ending::Ending;
+use crate::reader::Reader;
 use crate::rows::{ending_of, is_clean, rows_in};
 use crate::telling::Told;
-use crate::text::described_in;
+use crate::text::read_in;
 use pads_drive::{Command, Limit, Output, drive};
 use pads_io::{Files, Sink, Source};
-use pads_module::Module;
 use pads_orders::{Cutting, Settings};
 use pads_print::Printed;
 use pads_value::{Bytes, Kept, Memory, Refusal, Row, Rows};
@@ -26,7 +26,7 @@ use std::alloc::Global;
 /// The command that prints each clean record whose canonical bytes read back.
 #[derive(Drop)]
 pub(crate) struct Prints {
-    pub(crate) module: Module,
+    pub(crate) reader: Reader,
     pub(crate) cutting: Cutting,
     pub(crate) ghost some: { 0 < cutting.max },
     pub(crate) ghost limit: { cutting.max ≤ 16777216 },
@@ -44,14 +44,14 @@ impl Command for Prints {
     /// Whether all records are printed.
     type Tally = bool;
 
-    ghost work = { λ command. prints (described (contents command.module) command.cutting) };
+    ghost work = { λ command. prints (described (contents command.reader.module) command.cutting) };
 
-    fn read(&self, alloc: Global, number: u64, frames: &[Kept]) -> Result<Rows, Memory> {
-        rows_in(alloc, &self.module, number, frames)
+    fn read(&mut self, alloc: Global, number: u64, frames: &[Kept]) -> Result<Rows, Memory> {
+        rows_in(alloc, &mut self.reader, number, frames)
     }
 
     fn give(
-        &self,
+        &mut self,
         alloc: Global,
         row: &Row,
         output: &mut Output,
@@ -71,8 +71,9 @@ impl Command for Prints {
 }
 
 /// What is told of a record.
-pub(crate) fn told(alloc: Global, command: &Prints, row: &Row) -> Result<Told, Memory>
-    ensures told { IfOk result (λ told. told ≡ told_of (described (contents command.now.module) command.now.cutting) row.now) }
+pub(crate) fn told(alloc: Global, command: &mut Prints, row: &Row) -> Result<Told, Memory>
+    ensures told { IfOk result (λ told. told ≡ told_of (described (contents command.old.reader.module) command.old.cutting) row.now) }
+    ensures same { command.new ≡ command.old }
 {
     if !is_clean(row) {
         return Ok(Told::NotClean);
@@ -80,7 +81,9 @@ pub(crate) fn told(alloc: Global, command: &Prints, row: &Row) -> Result<Told, M
     let Cutting { discipline, max } = command.cutting;
     match pads_print::print(
         alloc,
-        &command.module,
+        &mut command.reader.machine,
+        &command.reader.image,
+        &command.reader.module,
         discipline,
         max,
         row.number,
@@ -96,12 +99,12 @@ pub(crate) fn told(alloc: Global, command: &Prints, row: &Row) -> Result<Told, M
 /// Prints each clean record of the source whose canonical bytes read back, and notes the others.
 fn print_records<S: Source, K: Sink, E: Sink>(
     alloc: Global,
-    command: &Prints,
+    command: &mut Prints,
     source: &mut S,
     out: &mut K,
     notes: &mut E,
 ) -> Ending
-    ensures gives { RecordsGive prints true (described (contents command.now.module) command.now.cutting)
+    ensures gives { RecordsGive prints true (described (contents command.old.reader.module) command.old.cutting)
         (S.left source.old) (S.left source.new) (K.written out.old) (K.written out.new) (E.written notes.old) (E.written notes.new)
         (S.faults source.old) (S.faults source.new) (K.faults out.old) (K.faults out.new) (E.faults notes.old) (E.faults notes.new) result }
     ensures out_kept { result ≢ ending.WriteFault → K.faults out.new ≡ K.faults out.old }
@@ -146,8 +149,8 @@ pub(crate) fn print<F: Files, S: Source, K: Sink, E: Sink>(
     ensures source_kept { result ≢ ending.ReadFault → result ≢ ending.WriteFault → result ≢ ending.Memory → S.faults source.new ≡ S.faults source.old }
 {
     let cutting = settings.cutting;
-    match described_in(alloc, files, name, settings.coding) {
-        Ok(module) => print_records(alloc, &Prints { module, cutting }, source, out, notes),
+    match read_in(alloc, files, name, settings.coding) {
+        Ok(reader) => print_records(alloc, &mut Prints { reader, cutting }, source, out, notes),
         Err(ending) => ending,
     }
 }

@@ -10,6 +10,7 @@ ghost use Rattle.pads_tool.specs.Running.{IsBeforeInput};
 ghost use Rattle.pads_tool.specs.declared.ending.Ending.TheVariants as ending;
 
 use crate::ending::Ending;
+use crate::reader::Reader;
 use crate::rows::{are_clean, ending_of, rows_in};
 use crate::text::asked_in;
 use crate::unused::unused;
@@ -19,7 +20,6 @@ use pads_erase::Mask;
 use pads_expr::Expr;
 use pads_io::{Files, Sink, Source};
 use pads_json::node_line;
-use pads_module::Module;
 use pads_nodes::Cursor;
 use pads_orders::{Cutting, Question, Settings};
 use pads_question::{Asked, keeps};
@@ -29,7 +29,7 @@ use std::alloc::Global;
 /// The command that writes one line for each node that is asked for.
 #[derive(Drop)]
 pub(crate) struct Answers {
-    pub(crate) module: Module,
+    pub(crate) reader: Reader,
     pub(crate) asked: Asked,
 }
 
@@ -43,14 +43,14 @@ impl Command for Answers {
     /// Whether all records are clean.
     type Tally = bool;
 
-    ghost work = { λ command. answers (contents command.module) command.asked };
+    ghost work = { λ command. answers (contents command.reader.module) command.asked };
 
-    fn read(&self, alloc: Global, number: u64, frames: &[Kept]) -> Result<Rows, Memory> {
-        rows_in(alloc, &self.module, number, frames)
+    fn read(&mut self, alloc: Global, number: u64, frames: &[Kept]) -> Result<Rows, Memory> {
+        rows_in(alloc, &mut self.reader, number, frames)
     }
 
     fn give(
-        &self,
+        &mut self,
         alloc: Global,
         row: &Row,
         output: &mut Output,
@@ -91,13 +91,13 @@ fn put_lines(
     cursor: &mut Cursor<'_>,
     output: &mut Output,
 ) -> Result<(), Memory>
-    ensures put { OnOk result (output.new ≡ record { out = output.old.out ++ lines_of (contents command.now.module) command.now.asked number cursor.old; notes = output.old.notes }) }
+    ensures put { OnOk result (output.new ≡ record { out = output.old.out ++ lines_of (contents command.now.reader.module) command.now.asked number cursor.old; notes = output.old.notes }) }
 {
     'nodes: while let Some((value, pd)) = cursor.next() {
         if is_kept(&command.asked.filter, value, pd) {
             let line = node_line(
                 alloc,
-                &command.module,
+                &command.reader.module,
                 &command.asked.steps,
                 number,
                 value,
@@ -116,9 +116,9 @@ fn put_answer(
     row: &Row,
     output: &mut Output,
 ) -> Result<(), Memory>
-    ensures put { OnOk result (output.new ≡ record { out = output.old.out ++ answer_to (contents command.now.module) command.now.asked row.now; notes = output.old.notes }) }
+    ensures put { OnOk result (output.new ≡ record { out = output.old.out ++ answer_to (contents command.now.reader.module) command.now.asked row.now; notes = output.old.notes }) }
 {
-    if is_header(command.module.shape, row.number) {
+    if is_header(command.reader.module.shape, row.number) {
         return Ok(());
     }
     let mut cursor = Cursor::new(alloc, &command.asked.steps, row)?;
@@ -129,13 +129,13 @@ fn put_answer(
 /// the notes of the run aren't handed in.
 fn write_answers<S: Source, K: Sink>(
     alloc: Global,
-    command: &Answers,
+    command: &mut Answers,
     cutting: Cutting,
     source: &mut S,
     out: &mut K,
 ) -> Ending
     requires limits { IsWithinLimits cutting }
-    ensures gives { (noted : Option (List ℕ)) (notes : ℕ) → RecordsGive (λ d. answers d.made command.now.asked) false (described (contents command.now.module) cutting)
+    ensures gives { (noted : Option (List ℕ)) (notes : ℕ) → RecordsGive (λ d. answers d.made command.old.asked) false (described (contents command.old.reader.module) cutting)
         (S.left source.old) (S.left source.new) (K.written out.old) (K.written out.new) noted noted
         (S.faults source.old) (S.faults source.new) (K.faults out.old) (K.faults out.new) notes notes result }
     ensures out_kept { result ≢ ending.WriteFault → K.faults out.new ≡ K.faults out.old }
@@ -176,7 +176,7 @@ pub(crate) fn query<F: Files, S: Source, K: Sink>(
     ensures source_kept { result ≢ ending.ReadFault → result ≢ ending.WriteFault → result ≢ ending.Memory → S.faults source.new ≡ S.faults source.old }
 {
     match asked_in(alloc, files, question, settings.coding, mask) {
-        Ok(answers) => write_answers(alloc, &answers, settings.cutting, source, out),
+        Ok(mut answers) => write_answers(alloc, &mut answers, settings.cutting, source, out),
         Err(ending) => ending,
     }
 }

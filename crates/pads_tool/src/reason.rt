@@ -10,6 +10,8 @@ pub(crate) enum Reason {
     MaskItem(u64),
     /// The path or the filter isn't one, or doesn't suit the description.
     Question(QuestionFault),
+    /// The module has more instructions than an image may have.
+    ImageTooLarge,
     /// The record types have more parts than a summary counts for.
     SummaryTooLarge,
 }

@@ -7,26 +7,26 @@ ghost use Rattle.pads_tool.specs.Reading.{ending_of};
 ghost use Rattle.pads_value.specs.Cuts.{cut_of_kept};
 
 use crate::ending::Ending;
+use crate::reader::Reader;
 use pads_drive::{Ended, Stop};
-use pads_module::Module;
 use pads_value::{Class, Kept, Memory, Row, Rows};
-use pads_walk::walk;
 use std::alloc::Global;
 
 /// The rows of the records in these frames, the first of which has this number.
 pub(crate) fn rows_in(
     alloc: Global,
-    made: &Module,
+    reader: &mut Reader,
     number: u64,
     frames: &[Kept],
 ) -> Result<Rows, Memory>
     requires numbered { number + length frames.now < 2 ^ 64 }
-    ensures rows { IfOk result (λ rows. rows ≡ rows_of (lines (contents made.now)) number (map cut_of_kept frames.now)) }
+    ensures rows { IfOk result (λ rows. rows ≡ rows_of (lines (contents reader.old.module)) number (map cut_of_kept frames.now)) }
+    ensures same { reader.new ≡ reader.old }
 {
     let mut rows = Rows::new(alloc);
     let mut next = number;
     'frames: for kept in frames {
-        let row = walk(alloc, made, next, &kept.lend())?;
+        let row = reader.read(alloc, next, &kept.lend())?;
         rows.push(row)?;
         next += 1;
     }

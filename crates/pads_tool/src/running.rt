@@ -49,7 +49,10 @@ fn perform<F: Files, S: Source, K: Sink, E: Sink>(
         → S.faults source.new ≡ S.faults source.old }
 {
     match order {
-        Order::Check { description, .. } => check(alloc, description.as_str(), files, out),
+        Order::Check {
+            description,
+            settings,
+        } => check(alloc, description.as_str(), settings, files, out),
         Order::Parse {
             description,
             settings,

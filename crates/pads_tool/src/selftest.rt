@@ -1,26 +1,26 @@
 ghost use Rattle.std.specs.Prelude.{◌≡◌, ◌≢◌, ◌^◌, ◌≤◌, ℕ, List, Option, Some, IfErr, IfOk, length};
 ghost use Rattle.pads_module.specs.Modules.{contents};
-ghost use Rattle.pads_describe.specs.Describing.{Describes};
 ghost use Rattle.pads_orders.specs.Orders.{IsWithinLimits};
 ghost use Rattle.pads_selftest.specs.Description.{description as description_text};
 ghost use Rattle.pads_selftest.specs.Records.{made};
 ghost use Rattle.pads_tool.specs.Describing.{described};
+ghost use Rattle.pads_tool.specs.Images.{IsReadIn, IsUnreadFor};
 ghost use Rattle.pads_tool.specs.Promises.{Keeps, counts, seen, testing};
 ghost use Rattle.pads_tool.specs.Testing.{rows_tested, tallied};
-ghost use Rattle.pads_tool.specs.Texts.{IsRefusedFor, StopsBefore};
+ghost use Rattle.pads_tool.specs.Texts.{StopsFor};
 ghost use Rattle.pads_tool.specs.declared.ending.Ending.TheVariants as ending;
 
 use crate::ending::Ending;
 use crate::print::{Prints, told};
-use crate::reason::Reason;
-use crate::rows::{is_clean, rows_in};
+use crate::reader::Reader;
+use crate::rows::is_clean;
 use crate::tell::tell;
 use crate::test_tally::TestTally;
+use crate::text::described_by;
 use crate::unused::unused;
 use pads_code::Coding;
 use pads_drive::{Command, Ended, Limit, Output, Stop, drive};
 use pads_io::Sink;
-use pads_module::Module;
 use pads_orders::Settings;
 use pads_selftest::{MadeRecords, bytes_made, description};
 use pads_value::{Kept, Memory, Refusal, Row, Rows};
@@ -44,20 +44,20 @@ impl Command for Tests {
 
     type Tally = TestTally;
 
-    ghost work = { λ command. tests (described (contents command.prints.module) command.prints.cutting) };
+    ghost work = { λ command. tests (described (contents command.prints.reader.module) command.prints.cutting) };
 
-    fn read(&self, alloc: Global, number: u64, frames: &[Kept]) -> Result<Rows, Memory> {
-        rows_in(alloc, &self.prints.module, number, frames)
+    fn read(&mut self, alloc: Global, number: u64, frames: &[Kept]) -> Result<Rows, Memory> {
+        self.prints.read(alloc, number, frames)
     }
 
     fn give(
-        &self,
+        &mut self,
         alloc: Global,
         row: &Row,
         _output: &mut Output,
         tally: &mut TestTally,
     ) -> Result<(), Refusal<Limit>> {
-        let Ok(told) = told(alloc, &self.prints, row) else {
+        let Ok(told) = told(alloc, &mut self.prints, row) else {
             return Err(Refusal::Memory);
         };
         match tally.add(is_clean(row), told.size()) {
@@ -67,14 +67,14 @@ impl Command for Tests {
     }
 
     ghost stays_over = { λ command rows more over. above-still
-        (λ row. length ((prints (described (contents command.prints.module) command.prints.cutting)).out row)) (2 ^ 62) rows more over };
+        (λ row. length ((prints (described (contents command.prints.reader.module) command.prints.cutting)).out row)) (2 ^ 62) rows more over };
 }
 
 /// What the records that are made for a self-test come to.
-fn tested(alloc: Global, command: &Tests, records: u32) -> Result<TestTally, Memory>
+fn tested(alloc: Global, command: &mut Tests, records: u32) -> Result<TestTally, Memory>
     requires few { length (made records) ≤ 2 ^ 27 }
-    ensures tally { IfOk result (λ tally. tally ≡ tallied (described (contents command.now.prints.module) command.now.prints.cutting)
-        (rows_tested (described (contents command.now.prints.module) command.now.prints.cutting) records)) }
+    ensures tally { IfOk result (λ tally. tally ≡ tallied (described (contents command.old.prints.reader.module) command.old.prints.cutting)
+        (rows_tested (described (contents command.old.prints.reader.module) command.old.prints.cutting) records)) }
 {
     let cutting = command.prints.cutting;
     match drive(
@@ -97,15 +97,14 @@ fn tested(alloc: Global, command: &Tests, records: u32) -> Result<TestTally, Mem
     }
 }
 
-/// The module of the records that are made, or how the run ends without it.
-fn test_module(alloc: Global, coding: Coding) -> Result<Module, Ending>
-    ensures described { IfOk result (λ made. Describes description_text coding (contents made)) }
-    ensures stops { IfErr result (StopsBefore (IsRefusedFor (Some description_text)) 0 0) }
+/// What reads the records that are made, or how the run ends without it.
+fn test_reader(alloc: Global, coding: Coding) -> Result<Reader, Ending>
+    ensures read { IfOk result (λ reader. IsReadIn (Some description_text) coding (contents reader.module)) }
+    ensures stops { IfErr result (StopsFor (IsUnreadFor (Some description_text) coding)) }
 {
-    match pads_describe::describe(alloc, description(), coding) {
-        Ok(module) => Ok(module),
-        Err(Refusal::Fault(verdict)) => Err(Ending::Refused(Reason::Description(verdict))),
-        Err(Refusal::Memory) => Err(Ending::Memory),
+    match described_by(alloc, description(), coding) {
+        Ok(module) => Reader::new(alloc, module),
+        Err(ending) => Err(ending),
     }
 }
 
@@ -124,16 +123,16 @@ pub(crate) fn selftest<K: Sink>(
         (counts files files' source source' (K.faults out.old) (K.faults out.new) notes notes') result }
     ensures out_kept { result ≢ ending.WriteFault → K.faults out.new ≡ K.faults out.old }
 {
-    let module = match test_module(alloc, settings.coding) {
-        Ok(module) => module,
+    let reader = match test_reader(alloc, settings.coding) {
+        Ok(reader) => reader,
         Err(ending) => return ending,
     };
     let cutting = settings.cutting;
     let bytes = bytes_made(records);
-    let tests = Tests {
-        prints: Prints { module, cutting },
+    let mut tests = Tests {
+        prints: Prints { reader, cutting },
     };
-    match tested(alloc, &tests, records) {
+    match tested(alloc, &mut tests, records) {
         Ok(tally) => tell(out, tally.line(bytes).as_slice(), tally.are_clean()),
         Err(Memory) => Ending::Memory,
     }

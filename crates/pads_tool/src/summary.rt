@@ -13,11 +13,12 @@ ghost use Rattle.pads_tool.specs.Telling.{Tells};
 ghost use Rattle.pads_tool.specs.declared.ending.Ending.TheVariants as ending;
 
 use crate::ending::Ending;
+use crate::reader::Reader;
 use crate::reason::Reason;
 use crate::rows::{are_clean, rows_in};
 use crate::summed::Summed;
 use crate::tell::tell;
-use crate::text::masked_in;
+use crate::text::read_under;
 use crate::unused::unused;
 use pads_accum::Summary;
 use pads_drive::{Command, Ended, Limit, Output, Stop, drive};
@@ -32,7 +33,7 @@ use std::alloc::Global;
 /// The command that sums up what the parts of records gave.
 #[derive(Drop)]
 pub(crate) struct Sums {
-    pub(crate) module: Module,
+    pub(crate) reader: Reader,
 }
 
 impl Command for Sums {
@@ -45,14 +46,14 @@ impl Command for Sums {
 
     type Tally = Summed;
 
-    ghost work = { λ command. sums (contents command.module) };
+    ghost work = { λ command. sums (contents command.reader.module) };
 
-    fn read(&self, alloc: Global, number: u64, frames: &[Kept]) -> Result<Rows, Memory> {
-        rows_in(alloc, &self.module, number, frames)
+    fn read(&mut self, alloc: Global, number: u64, frames: &[Kept]) -> Result<Rows, Memory> {
+        rows_in(alloc, &mut self.reader, number, frames)
     }
 
     fn give(
-        &self,
+        &mut self,
         _alloc: Global,
         row: &Row,
         _output: &mut Output,
@@ -71,23 +72,23 @@ impl Command for Sums {
         }
     }
 
-    ghost stays_over = { λ command rows more over. passes_on (lists_of (contents command.module)) rows more over };
+    ghost stays_over = { λ command rows more over. passes_on (lists_of (contents command.reader.module)) rows more over };
 }
 
 /// Sums up all records of the source.
 fn summed<S: Source>(
     alloc: Global,
-    command: &Sums,
+    command: &mut Sums,
     summary: Summary,
     cutting: Cutting,
     source: &mut S,
 ) -> Result<Summed, Ending>
     requires limits { IsWithinLimits cutting }
-    requires plan { summary.plan ≡ lists_of (contents command.now.module) }
+    requires plan { summary.plan ≡ lists_of (contents command.old.reader.module) }
     requires empty { IsSummaryOf summary [] }
     requires unspent { summary.spent ≡ false }
     ensures gives { SumsGive (S.left source.new) (S.left source.old) (S.faults source.old) (S.faults source.new)
-        (described (contents command.now.module) cutting) result }
+        (described (contents command.old.reader.module) cutting) result }
     ensures source_kept { IfErr result (λ stop. stop ≢ ending.ReadFault → stop ≢ ending.Memory → stop ≢ ending.Limit → S.faults source.new ≡ S.faults source.old) }
     ensures source_well { IfOk result (λ all. S.faults source.new ≡ S.faults source.old) }
 {
@@ -162,15 +163,15 @@ pub(crate) fn summary<F: Files, S: Source, K: Sink>(
     ensures source_kept { result ≢ ending.ReadFault → result ≢ ending.WriteFault → result ≢ ending.Memory → result ≢ ending.Limit
         → S.faults source.new ≡ S.faults source.old }
 {
-    let module = match masked_in(alloc, files, name, settings.coding, mask) {
-        Ok(module) => module,
+    let reader = match read_under(alloc, files, name, settings.coding, mask) {
+        Ok(reader) => reader,
         Err(ending) => return ending,
     };
-    let none = match empty_summary(alloc, &module) {
+    let none = match empty_summary(alloc, &reader.module) {
         Ok(none) => none,
         Err(ending) => return ending,
     };
-    match summed(alloc, &Sums { module }, none, settings.cutting, source) {
+    match summed(alloc, &mut Sums { reader }, none, settings.cutting, source) {
         Ok(summed) => tell_report(alloc, &summed, settings.top, out),
         Err(ending) => ending,
     }

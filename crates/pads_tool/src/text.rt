@@ -5,27 +5,30 @@ ghost use Rattle.pads_ast.specs.declared.decl.Ast.{Ast};
 ghost use Rattle.pads_describe.specs.Describing.{Describes};
 ghost use Rattle.pads_describe.specs.Trees.{IsAccepted};
 ghost use Rattle.pads_question.specs.Questions.{IsAsked};
-ghost use Rattle.pads_tool.specs.Masking.{IsMaskFault, IsMaskedIn, IsRefusedUnder};
-ghost use Rattle.pads_tool.specs.Querying.{IsAskedIn, IsQuestionFault, IsUnaskedFor};
+ghost use Rattle.pads_tool.specs.Images.{HasImage, IsReadIn, IsUnreadFor};
+ghost use Rattle.pads_tool.specs.Masking.{IsMaskFault, IsMaskedIn, IsReadUnder, IsRefusedUnder};
+ghost use Rattle.pads_tool.specs.Querying.{IsAskedIn, IsQuestionFault, IsUnaskedFor, IsUnaskedOf};
 ghost use Rattle.pads_tool.specs.Texts.{IsAcceptedIn, IsDescribedIn, IsRefusedFor, IsTextIn, StopsBefore, StopsFor};
 ghost use Rattle.pads_tool.specs.declared.ending.Ending.TheVariants as ending;
 ghost use Rattle.law_calculus.specs.Plain.{Plain};
-ghost use Rattle.pads_module.specs.Modules.{contents};
+ghost use Rattle.pads_module.specs.Modules.{Contents, contents};
 ghost use Rattle.pads_calc.specs.Skeletons.{KeepsAll};
 
 use crate::description::Described;
 use crate::ending::Ending;
 use crate::files::read_description;
 use crate::query::Answers;
+use crate::reader::Reader;
 use crate::reason::Reason;
 use pads_code::Coding;
+use pads_compile::{LONGEST, image_length};
 use pads_describe::Verdict;
 use pads_erase::{Mask, Mode};
 use pads_io::Files;
 use pads_mask::mask_module;
 use pads_module::Module;
 use pads_orders::Question;
-use pads_question::question;
+use pads_question::{Asked, question};
 use pads_value::{Bytes, Refusal};
 use std::alloc::Global;
 
@@ -45,25 +48,30 @@ fn text_in<F: Files>(alloc: Global, files: &mut F, name: &str) -> Result<Bytes, 
 }
 
 /// How many declarations the description in a file has, or how the run ends without it.
-pub(crate) fn accepted_in<F: Files>(alloc: Global, files: &mut F, name: &str) -> Result<u64, Ending>
+pub(crate) fn accepted_in<F: Files>(
+    alloc: Global,
+    files: &mut F,
+    name: &str,
+    coding: Coding,
+) -> Result<u64, Ending>
     ensures accepted { IfOk result (IsAcceptedIn (F.content files.old name.now)) }
-    ensures stops { IfErr result (StopsBefore (IsRefusedFor (F.content files.old name.now)) (F.faults files.old) (F.faults files.new)) }
+    ensures small { IfOk result (λ count. (made : Contents) × IsReadIn (F.content files.old name.now) coding made) }
+    ensures stops { IfErr result (StopsBefore (IsUnreadFor (F.content files.old name.now) coding) (F.faults files.old) (F.faults files.new)) }
     ensures kept { OnOk result (F.faults files.new ≡ F.faults files.old) }
     ensures untold { IfErr result (λ stop. stop ≢ ending.FileFault → F.faults files.new ≡ F.faults files.old) }
 {
-    let text = match text_in(alloc, files, name) {
-        Ok(text) => text,
+    let made = match described_in(alloc, files, name, coding) {
+        Ok(made) => made,
         Err(ending) => return Err(ending),
     };
-    match pads_describe::check_text(alloc, text.as_slice()) {
-        Ok(count) => Ok(count),
-        Err(Refusal::Fault(verdict)) => Err(Ending::Refused(Reason::Description(verdict))),
-        Err(Refusal::Memory) => Err(Ending::Memory),
+    if image_length(&made) > LONGEST {
+        return Err(Ending::Refused(Reason::ImageTooLarge));
     }
+    Ok(made.decls.len())
 }
 
 /// The module that a text describes, or how the run ends without it.
-fn described_by(alloc: Global, text: &[u8], coding: Coding) -> Result<Module, Ending>
+pub(crate) fn described_by(alloc: Global, text: &[u8], coding: Coding) -> Result<Module, Ending>
     ensures described { IfOk result (λ made. Describes text.now coding (contents made)) }
     ensures plain { IfOk result (λ made. Plain (contents made).decls) }
     ensures keeps_all { IfOk result (λ made. KeepsAll (contents made).decls) }
@@ -77,7 +85,7 @@ fn described_by(alloc: Global, text: &[u8], coding: Coding) -> Result<Module, En
 }
 
 /// The module of the description in a file, or how the run ends without it.
-pub(crate) fn described_in<F: Files>(
+fn described_in<F: Files>(
     alloc: Global,
     files: &mut F,
     name: &str,
@@ -92,6 +100,26 @@ pub(crate) fn described_in<F: Files>(
 {
     match text_in(alloc, files, name) {
         Ok(text) => described_by(alloc, text.as_slice(), coding),
+        Err(ending) => Err(ending),
+    }
+}
+
+/// What reads by the description in a file, or how the run ends without it.
+pub(crate) fn read_in<F: Files>(
+    alloc: Global,
+    files: &mut F,
+    name: &str,
+    coding: Coding,
+) -> Result<Reader, Ending>
+    ensures read { IfOk result (λ reader. IsReadIn (F.content files.old name.now) coding (contents reader.module)) }
+    ensures plain { IfOk result (λ reader. Plain (contents reader.module).decls) }
+    ensures keeps_all { IfOk result (λ reader. KeepsAll (contents reader.module).decls) }
+    ensures stops { IfErr result (StopsBefore (IsUnreadFor (F.content files.old name.now) coding) (F.faults files.old) (F.faults files.new)) }
+    ensures kept { OnOk result (F.faults files.new ≡ F.faults files.old) }
+    ensures untold { IfErr result (λ stop. stop ≢ ending.FileFault → F.faults files.new ≡ F.faults files.old) }
+{
+    match described_in(alloc, files, name, coding) {
+        Ok(made) => Reader::new(alloc, made),
         Err(ending) => Err(ending),
     }
 }
@@ -120,7 +148,7 @@ fn masked(alloc: Global, whole: Module, mask: &Mask) -> Result<Module, Ending>
 }
 
 /// The module of the description in a file under a mask, or how the run ends without it.
-pub(crate) fn masked_in<F: Files>(
+fn masked_in<F: Files>(
     alloc: Global,
     files: &mut F,
     name: &str,
@@ -138,24 +166,58 @@ pub(crate) fn masked_in<F: Files>(
     }
 }
 
+/// What reads by the description in a file under a mask, or how the run ends without it.
+pub(crate) fn read_under<F: Files>(
+    alloc: Global,
+    files: &mut F,
+    name: &str,
+    coding: Coding,
+    mask: &Mask,
+) -> Result<Reader, Ending>
+    ensures read { IfOk result (λ reader. IsReadUnder (F.content files.old name.now) coding mask.now (contents reader.module)) }
+    ensures stops { IfErr result (StopsBefore (IsRefusedUnder (F.content files.old name.now) coding mask.now) (F.faults files.old) (F.faults files.new)) }
+    ensures kept { OnOk result (F.faults files.new ≡ F.faults files.old) }
+    ensures untold { IfErr result (λ stop. stop ≢ ending.FileFault → F.faults files.new ≡ F.faults files.old) }
+{
+    match masked_in(alloc, files, name, coding, mask) {
+        Ok(made) => Reader::new(alloc, made),
+        Err(ending) => Err(ending),
+    }
+}
+
 /// What a question asks by an accepted text and its module under a mask, or how the run ends without it.
-fn asked_by(alloc: Global, text: &[u8], made: Module, asks: &Question) -> Result<Answers, Ending>
+fn asked_of(alloc: Global, text: &[u8], made: &Module, asks: &Question) -> Result<Asked, Ending>
     requires accepted { (tree : Ast) × IsAccepted text.now tree }
-    ensures made { IfOk result (λ answers. contents answers.module ≡ contents made) }
-    ensures asked { (tree : Ast) → IsAccepted text.now tree → IfOk result (λ answers. IsAsked tree (contents made) asks.now.path asks.now.filter answers.asked) }
-    ensures stops { (tree : Ast) → IsAccepted text.now tree → IfErr result (StopsFor (IsQuestionFault tree (contents made) asks.now)) }
+    ensures asked { (tree : Ast) → IsAccepted text.now tree → IfOk result (λ asked. IsAsked tree (contents made.now) asks.now.path asks.now.filter asked) }
+    ensures stops { (tree : Ast) → IsAccepted text.now tree → IfErr result (StopsFor (IsQuestionFault tree (contents made.now) asks.now)) }
 {
     let filter = match &asks.filter {
         None => None,
         Some(filter) => Some(filter.as_str().as_bytes()),
     };
-    match question(alloc, text, &made, asks.path.as_str().as_bytes(), filter) {
-        Ok(asked) => Ok(Answers {
-            module: made,
-            asked,
-        }),
+    match question(alloc, text, made, asks.path.as_str().as_bytes(), filter) {
+        Ok(asked) => Ok(asked),
         Err(Refusal::Fault(fault)) => Err(Ending::Refused(Reason::Question(fault))),
         Err(Refusal::Memory) => Err(Ending::Memory),
+    }
+}
+
+/// What reads for a question by an accepted text and its module under a mask, with what it asks, or how the run ends without
+/// it.
+fn asked_by(alloc: Global, text: &[u8], made: Module, asks: &Question) -> Result<Answers, Ending>
+    requires accepted { (tree : Ast) × IsAccepted text.now tree }
+    ensures made { IfOk result (λ answers. contents answers.reader.module ≡ contents made) }
+    ensures small { IfOk result (λ answers. HasImage (contents answers.reader.module)) }
+    ensures asked { (tree : Ast) → IsAccepted text.now tree → IfOk result (λ answers. IsAsked tree (contents made) asks.now.path asks.now.filter answers.asked) }
+    ensures stops { (tree : Ast) → IsAccepted text.now tree → IfErr result (StopsFor (IsUnaskedOf tree (contents made) asks.now)) }
+{
+    let asked = match asked_of(alloc, text, &made, asks) {
+        Ok(asked) => asked,
+        Err(ending) => return Err(ending),
+    };
+    match Reader::new(alloc, made) {
+        Ok(reader) => Ok(Answers { reader, asked }),
+        Err(ending) => Err(ending),
     }
 }
 
@@ -167,7 +229,8 @@ pub(crate) fn asked_in<F: Files>(
     coding: Coding,
     mask: &Mask,
 ) -> Result<Answers, Ending>
-    ensures asked { IfOk result (λ answers. IsAskedIn (F.content files.old asks.now.description) coding mask.now asks.now answers.asked (contents answers.module)) }
+    ensures asked { IfOk result (λ answers. IsAskedIn (F.content files.old asks.now.description) coding mask.now asks.now answers.asked (contents answers.reader.module)) }
+    ensures small { IfOk result (λ answers. HasImage (contents answers.reader.module)) }
     ensures stops { IfErr result (StopsBefore (IsUnaskedFor (F.content files.old asks.now.description) coding mask.now asks.now) (F.faults files.old) (F.faults files.new)) }
     ensures kept { OnOk result (F.faults files.new ≡ F.faults files.old) }
     ensures untold { IfErr result (λ stop. stop ≢ ending.FileFault → F.faults files.new ≡ F.faults files.old) }

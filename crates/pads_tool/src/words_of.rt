@@ -46,6 +46,7 @@ impl Reason {
             Reason::Description(verdict) => verdict.line(),
             Reason::MaskItem(item) => mask_line(item),
             Reason::Question(fault) => fault.line(),
+            Reason::ImageTooLarge => line_of(b"pads: refused: image too large\n"),
             Reason::SummaryTooLarge => line_of(b"pads: refused: summary too large\n"),
         }
     }

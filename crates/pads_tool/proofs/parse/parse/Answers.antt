@@ -12,10 +12,10 @@ pub returns-in-Ok : goal.returns-in-Ok
 returns-in-Ok g c = record {
   gives = λ noted notes. reading-read (λ d. lines d.made) (g.S.Source.left c.args.source.now) (g.S.Source.left c.write_lines.new.source)
       (g.K.Sink.written c.args.out.now) (g.K.Sink.written c.write_lines.new.out) noted noted (masking c.args.settings.now.coding c.args.mask.now) false c.args.name.now c.args.settings.now.cutting (g.F.Files.content c.args.files.now)
-      (g.F.Files.faults c.args.files.now) (g.F.Files.faults c.masked_in.new.files) (g.S.Source.faults c.args.source.now)
+      (g.F.Files.faults c.args.files.now) (g.F.Files.faults c.read_under.new.files) (g.S.Source.faults c.args.source.now)
       (g.S.Source.faults c.write_lines.new.source) (g.K.Sink.faults c.args.out.now) (g.K.Sink.faults c.write_lines.new.out) notes notes
-      (contents c.in-Ok.module) c.write_lines.result c.in-Ok.ensures.masked (c.write_lines.ensures.gives noted notes);
-  untouched = λ before. absurd (reading-reaches (λ d. lines d.made) false (described (contents c.in-Ok.module) c.args.settings.now.cutting)
+      (contents c.in-Ok.reader.module) c.write_lines.result c.in-Ok.ensures.read (c.write_lines.ensures.gives noted notes);
+  untouched = λ before. absurd (reading-reaches (λ d. lines d.made) false (described (contents c.in-Ok.reader.module) c.args.settings.now.cutting)
       (g.S.Source.left c.args.source.now) (g.S.Source.left c.write_lines.new.source)
       (g.K.Sink.written c.args.out.now) (g.K.Sink.written c.write_lines.new.out) None None
       (g.S.Source.faults c.args.source.now) (g.S.Source.faults c.write_lines.new.source)
@@ -30,7 +30,7 @@ pub returns-in-Err : goal.returns-in-Err
 returns-in-Err g c = record {
   gives = λ noted notes. reading-stopped (masking c.args.settings.now.coding c.args.mask.now) (λ d. lines d.made) false c.args.name.now c.args.settings.now.cutting (g.F.Files.content c.args.files.now)
       (g.S.Source.left c.args.source.now) (g.K.Sink.written c.args.out.now) noted
-      (counts (g.F.Files.faults c.args.files.now) (g.F.Files.faults c.masked_in.new.files) (g.S.Source.faults c.args.source.now) (g.S.Source.faults c.args.source.now)
+      (counts (g.F.Files.faults c.args.files.now) (g.F.Files.faults c.read_under.new.files) (g.S.Source.faults c.args.source.now) (g.S.Source.faults c.args.source.now)
       (g.K.Sink.faults c.args.out.now) (g.K.Sink.faults c.args.out.now) notes notes) c.in-Err.ending (masking-excludes c.args.settings.now.coding c.args.mask.now) c.in-Err.ensures.stops;
   untouched = λ before. refl;
   files_kept = c.in-Err.ensures.untold;

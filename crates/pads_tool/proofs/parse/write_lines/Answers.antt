@@ -7,10 +7,10 @@ use Rattle.pads_tool.proofs.parse.write_lines.Goals as goal
 pub returns : goal.returns
 returns g c = record {
   gives = λ noted notes. rw c.ending_of.ensures.ending
-      (quiet-give (λ d. lines d.made) (described (contents c.args.command.now.module) c.args.cutting) (λ row. refl) (g.S.Source.left c.args.source.now) (g.S.Source.left c.drive.new.source)
+      (quiet-give (λ d. lines d.made) (described (contents c.args.command.now.reader.module) c.args.cutting) (λ row. refl) (g.S.Source.left c.args.source.now) (g.S.Source.left c.drive.new.source)
       (g.K.Sink.written c.args.out.now) (g.K.Sink.written c.drive.new.out) _ _ noted (g.S.Source.faults c.args.source.now)
       (g.S.Source.faults c.drive.new.source) (g.K.Sink.faults c.args.out.now) (g.K.Sink.faults c.drive.new.out) _ _ c.drive.result c.drive.ensures.cause
-      (records-give (λ d. lines d.made) (described (contents c.args.command.now.module) c.args.cutting) (g.S.Source.left c.args.source.now) (g.S.Source.left c.drive.new.source)
+      (records-give (λ d. lines d.made) (described (contents c.args.command.now.reader.module) c.args.cutting) (g.S.Source.left c.args.source.now) (g.S.Source.left c.drive.new.source)
       (g.K.Sink.written c.args.out.now) (g.K.Sink.written c.drive.new.out) _ _ (g.S.Source.faults c.args.source.now)
       (g.S.Source.faults c.drive.new.source) (g.K.Sink.faults c.args.out.now) (g.K.Sink.faults c.drive.new.out) _ _
       c.drive.result c.drive.ensures.gives c.drive.ensures.ahead c.drive.ensures.read_fault c.drive.ensures.cause) notes);

@@ -13,23 +13,23 @@ returns-in-Ok g c = record {
   gives = printed c.args.name.now c.args.settings.now
       (seen (g.F.Files.content c.args.files.now) (g.S.Source.left c.args.source.now) (g.S.Source.left c.print_records.new.source)
       (g.K.Sink.written c.args.out.now) (g.K.Sink.written c.print_records.new.out) (g.E.Sink.written c.args.notes.now) (g.E.Sink.written c.print_records.new.notes))
-      (counts (g.F.Files.faults c.args.files.now) (g.F.Files.faults c.described_in.new.files) (g.S.Source.faults c.args.source.now) (g.S.Source.faults c.print_records.new.source)
+      (counts (g.F.Files.faults c.args.files.now) (g.F.Files.faults c.read_in.new.files) (g.S.Source.faults c.args.source.now) (g.S.Source.faults c.print_records.new.source)
       (g.K.Sink.faults c.args.out.now) (g.K.Sink.faults c.print_records.new.out) (g.E.Sink.faults c.args.notes.now) (g.E.Sink.faults c.print_records.new.notes))
       c.print_records.result
-      (contents c.in-Ok.module, c.in-Ok.ensures.described, each-kept c.args.settings.now (contents c.in-Ok.module) c.in-Ok.ensures.plain c.in-Ok.ensures.keeps_all c.requires.limits (g.S.Source.left c.args.source.now))
+      (contents c.in-Ok.reader.module, c.in-Ok.ensures.read.0, each-kept c.args.settings.now (contents c.in-Ok.reader.module) c.in-Ok.ensures.plain c.in-Ok.ensures.keeps_all c.requires.limits (g.S.Source.left c.args.source.now))
       (reading-read prints (g.S.Source.left c.args.source.now) (g.S.Source.left c.print_records.new.source)
       (g.K.Sink.written c.args.out.now) (g.K.Sink.written c.print_records.new.out) (g.E.Sink.written c.args.notes.now) (g.E.Sink.written c.print_records.new.notes)
       (describing c.args.settings.now.coding) true c.args.name.now c.args.settings.now.cutting (g.F.Files.content c.args.files.now)
-      (g.F.Files.faults c.args.files.now) (g.F.Files.faults c.described_in.new.files) (g.S.Source.faults c.args.source.now) (g.S.Source.faults c.print_records.new.source)
+      (g.F.Files.faults c.args.files.now) (g.F.Files.faults c.read_in.new.files) (g.S.Source.faults c.args.source.now) (g.S.Source.faults c.print_records.new.source)
       (g.K.Sink.faults c.args.out.now) (g.K.Sink.faults c.print_records.new.out) (g.E.Sink.faults c.args.notes.now) (g.E.Sink.faults c.print_records.new.notes)
-      (contents c.in-Ok.module) c.print_records.result c.in-Ok.ensures.described c.print_records.ensures.gives);
-  untouched = λ before. absurd (reading-reaches prints true (described (contents c.in-Ok.module) c.args.settings.now.cutting)
+      (contents c.in-Ok.reader.module) c.print_records.result c.in-Ok.ensures.read c.print_records.ensures.gives);
+  untouched = λ before. absurd (reading-reaches prints true (described (contents c.in-Ok.reader.module) c.args.settings.now.cutting)
       (g.S.Source.left c.args.source.now) (g.S.Source.left c.print_records.new.source)
       (g.K.Sink.written c.args.out.now) (g.K.Sink.written c.print_records.new.out) (g.E.Sink.written c.args.notes.now) (g.E.Sink.written c.print_records.new.notes)
       (g.S.Source.faults c.args.source.now) (g.S.Source.faults c.print_records.new.source) (g.K.Sink.faults c.args.out.now) (g.K.Sink.faults c.print_records.new.out)
       (g.E.Sink.faults c.args.notes.now) (g.E.Sink.faults c.print_records.new.notes)
       c.print_records.result c.print_records.ensures.gives before);
-  quiet = λ before. absurd (reading-reaches prints true (described (contents c.in-Ok.module) c.args.settings.now.cutting)
+  quiet = λ before. absurd (reading-reaches prints true (described (contents c.in-Ok.reader.module) c.args.settings.now.cutting)
       (g.S.Source.left c.args.source.now) (g.S.Source.left c.print_records.new.source)
       (g.K.Sink.written c.args.out.now) (g.K.Sink.written c.print_records.new.out) (g.E.Sink.written c.args.notes.now) (g.E.Sink.written c.print_records.new.notes)
       (g.S.Source.faults c.args.source.now) (g.S.Source.faults c.print_records.new.source) (g.K.Sink.faults c.args.out.now) (g.K.Sink.faults c.print_records.new.out)
@@ -45,7 +45,7 @@ pub returns-in-Err : goal.returns-in-Err
 returns-in-Err g c = record {
   gives = printing-stopped c.args.name.now c.args.settings.now (g.F.Files.content c.args.files.now)
       (g.S.Source.left c.args.source.now) (g.K.Sink.written c.args.out.now) (g.E.Sink.written c.args.notes.now)
-      (counts (g.F.Files.faults c.args.files.now) (g.F.Files.faults c.described_in.new.files) (g.S.Source.faults c.args.source.now) (g.S.Source.faults c.args.source.now)
+      (counts (g.F.Files.faults c.args.files.now) (g.F.Files.faults c.read_in.new.files) (g.S.Source.faults c.args.source.now) (g.S.Source.faults c.args.source.now)
       (g.K.Sink.faults c.args.out.now) (g.K.Sink.faults c.args.out.now) (g.E.Sink.faults c.args.notes.now) (g.E.Sink.faults c.args.notes.now)) c.in-Err.ending c.in-Err.ensures.stops;
   untouched = λ before. refl;
   quiet = λ before. refl;

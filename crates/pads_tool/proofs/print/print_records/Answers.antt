@@ -7,7 +7,7 @@ use Rattle.pads_tool.proofs.print.print_records.Goals as goal
 pub returns : goal.returns
 returns g c = record {
   gives = rw c.ending_of.ensures.ending
-      (records-give prints (described (contents c.args.command.now.module) c.args.command.now.cutting) (g.S.Source.left c.args.source.now) (g.S.Source.left c.drive.new.source)
+      (records-give prints (described (contents c.args.command.now.reader.module) c.args.command.now.cutting) (g.S.Source.left c.args.source.now) (g.S.Source.left c.drive.new.source)
       (g.K.Sink.written c.args.out.now) (g.K.Sink.written c.drive.new.out) (g.E.Sink.written c.args.notes.now) (g.E.Sink.written c.drive.new.notes)
       (g.S.Source.faults c.args.source.now) (g.S.Source.faults c.drive.new.source) (g.K.Sink.faults c.args.out.now) (g.K.Sink.faults c.drive.new.out)
       (g.E.Sink.faults c.args.notes.now) (g.E.Sink.faults c.drive.new.notes)

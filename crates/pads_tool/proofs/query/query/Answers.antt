@@ -23,8 +23,8 @@ returns-in-Ok g c =
           (asking c.args.settings.now.coding c.args.mask.now c.args.question.now asked) false c.args.question.now.description c.args.settings.now.cutting (g.F.Files.content c.args.files.now)
           (g.F.Files.faults c.args.files.now) (g.F.Files.faults c.asked_in.new.files) (g.S.Source.faults c.args.source.now)
           (g.S.Source.faults c.write_answers.new.source) (g.K.Sink.faults c.args.out.now) (g.K.Sink.faults c.write_answers.new.out) notes notes
-          (contents c.in-Ok.answers.module) c.write_answers.result c.in-Ok.ensures.asked (c.write_answers.ensures.gives noted notes));
-      untouched = λ before. absurd (reading-reaches (λ d. answers d.made asked) false (described (contents c.in-Ok.answers.module) c.args.settings.now.cutting)
+          (contents c.in-Ok.answers.reader.module) c.write_answers.result (c.in-Ok.ensures.asked, c.in-Ok.ensures.small) (c.write_answers.ensures.gives noted notes));
+      untouched = λ before. absurd (reading-reaches (λ d. answers d.made asked) false (described (contents c.in-Ok.answers.reader.module) c.args.settings.now.cutting)
           (g.S.Source.left c.args.source.now) (g.S.Source.left c.write_answers.new.source)
           (g.K.Sink.written c.args.out.now) (g.K.Sink.written c.write_answers.new.out) None None
           (g.S.Source.faults c.args.source.now) (g.S.Source.faults c.write_answers.new.source)

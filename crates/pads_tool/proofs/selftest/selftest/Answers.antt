@@ -15,7 +15,7 @@ returns-in-Err-clause-gives g c = λ content left left' noted noted' files files
 
 pub returns-in-Ok-tested-clause-gives : goal.returns-in-Ok-tested-clause-gives
 returns-in-Ok-tested-clause-gives g c = λ content left left' noted noted' files files' source source' notes notes'.
-    let d = described (contents c.in-Ok.module) c.args.settings.now.cutting in
+    let d = described (contents c.in-Ok.reader.module) c.args.settings.now.cutting in
     let records = c.args.records in
     let tally : c.in-Ok-tested.tally ≡ tallied d (rows_tested d records) = c.in-Ok-tested.ensures.tally in
     let text : c.as_slice.result.now ≡ selftest_line d records =
@@ -23,5 +23,5 @@ returns-in-Ok-tested-clause-gives g c = λ content left left' noted noted' files
     ∙ ap (tally_line (tallied d (rows_tested d records))) c.bytes_made-bytes.ensures.bytes in
     let well : c.are_clean.result ≡ all_clean d records = c.are_clean.ensures.clean ∙ ap (λ (t : TestTally). nat_eq t.clean t.records) tally ∙ counted-clean (rows_tested d records) in
     test-told records c.args.settings.now (seen content left left' (g.K.Sink.written c.args.out.now) (g.K.Sink.written c.tell.new.out) noted noted')
-    (counts files files' source source' (g.K.Sink.faults c.args.out.now) (g.K.Sink.faults c.tell.new.out) notes notes') (contents c.in-Ok.module) c.tell.result c.in-Ok.ensures.described
+    (counts files files' source source' (g.K.Sink.faults c.args.out.now) (g.K.Sink.faults c.tell.new.out) notes notes') (contents c.in-Ok.reader.module) c.tell.result c.in-Ok.ensures.read
     (rw (text, well) at c.tell.ensures.tells)

@@ -1,6 +1,7 @@
 use Rattle.std.proofs.Common.{◌≡◌}
 use Rattle.pads_module.specs.declared.module.Module.{Module}
-use Rattle.pads_tool.proofs.Described.{described-gives, described-stops, stays-err, stays-ok}
+use Rattle.pads_tool.proofs.Described.{described-gives, described-stops}
+use Rattle.pads_tool.proofs.Stops.{stays-err, stays-ok}
 use Rattle.pads_tool.proofs.text.described_in.Goals as goal
 
 pub returns-in-Ok : goal.returns-in-Ok

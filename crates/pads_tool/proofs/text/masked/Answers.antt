@@ -1,4 +1,4 @@
-use Rattle.std.proofs.Common.{◌≡◌, ◌∙◌, sym, ap, refl, []}
+use Rattle.std.proofs.Common.{◌∙◌, sym, ap}
 use Rattle.pads_mask.proofs.Whole.{whole}
 use Rattle.pads_mask.specs.Masks.{fault_of, masked}
 use Rattle.pads_erase.specs.declared.mask.Mask.{Mask}

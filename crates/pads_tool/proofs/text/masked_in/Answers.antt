@@ -1,5 +1,8 @@
+use Rattle.std.proofs.Common.{◌≡◌}
 use Rattle.pads_module.specs.Modules.{contents}
-use Rattle.pads_tool.proofs.Masked.{masked-gives, masked-kept, masked-stops, masked-untold, unmasked-stop}
+use Rattle.pads_module.specs.declared.module.Module.{Module}
+use Rattle.pads_tool.proofs.Masked.{masked-gives, masked-stops, unmasked-stop}
+use Rattle.pads_tool.proofs.Stops.{stays-err, stays-ok}
 use Rattle.pads_tool.proofs.text.masked_in.Goals as goal
 
 pub returns-in-Ok : goal.returns-in-Ok
@@ -8,11 +11,12 @@ returns-in-Ok g c =
     let m = contents c.in-Ok.whole in
     let before = g.F.Files.faults c.args.files.now in
     let now = g.F.Files.faults c.described_in.new.files in
+    let r = c.masked.result in
     record {
-      masked = masked-gives content c.args.coding c.args.mask.now m c.in-Ok.ensures.described c.masked.result c.masked.ensures.masked;
-      stops = masked-stops content c.args.coding c.args.mask.now m c.in-Ok.ensures.described before now c.masked.result c.masked.ensures.stops;
-      kept = masked-kept content c.args.coding c.args.mask.now before now c.masked.result c.in-Ok.ensures.kept;
-      untold = masked-untold content c.args.coding c.args.mask.now before now c.masked.result c.in-Ok.ensures.kept;
+      masked = masked-gives content c.args.coding c.args.mask.now m c.in-Ok.ensures.described r c.masked.ensures.masked;
+      stops = masked-stops content c.args.coding c.args.mask.now m c.in-Ok.ensures.described before now r c.masked.ensures.stops;
+      kept = stays-ok Module (now ≡ before) r c.in-Ok.ensures.kept;
+      untold = stays-err Module (now ≡ before) r c.in-Ok.ensures.kept;
     }
 
 pub returns-in-Err : goal.returns-in-Err

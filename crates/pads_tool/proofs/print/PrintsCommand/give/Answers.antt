@@ -7,6 +7,6 @@ use Rattle.pads_tool.proofs.print.PrintsCommand.give.Goals as goal
 
 pub returns-clause-tally : goal.returns-clause-tally
 returns-clause-tally c = λ before t. record {
-  is = counted-more (λ row. is_printed (told_of (described (contents c.args.self.now.module) c.args.self.now.cutting) row)) c.args.row.now _ _ (c.are_printed.ensures.printed ∙ ap (λ told. c.args.tally.now && is_printed told) c.in-Ok.ensures.told) before t.is;
+  is = counted-more (λ row. is_printed (told_of (described (contents c.args.self.now.reader.module) c.args.self.now.cutting) row)) c.args.row.now _ _ (c.are_printed.ensures.printed ∙ ap (λ told. c.args.tally.now && is_printed told) c.in-Ok.ensures.told) before t.is;
   within = refl;
 }

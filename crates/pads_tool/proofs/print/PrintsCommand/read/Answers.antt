@@ -6,8 +6,7 @@ use Rattle.pads_tool.specs.Printing.{prints}
 use Rattle.pads_value.specs.Cuts.{cut_of_kept}
 use Rattle.pads_tool.proofs.print.PrintsCommand.read.Goals as goal
 
-pub returns : goal.returns
-returns c = record {
-  rows = rw (rows-alike (lines (contents c.args.self.now.module)) (prints (described (contents c.args.self.now.module) c.args.self.now.cutting)) (λ number cut. refl) c.args.number (map cut_of_kept c.args.frames.now))
-      at c.rows_in.ensures.rows;
-}
+pub returns-clause-rows : goal.returns-clause-rows
+returns-clause-rows c =
+    rw (rows-alike (lines (contents c.args.self.now.reader.module)) (prints (described (contents c.args.self.now.reader.module) c.args.self.now.cutting)) (λ number cut. refl) c.args.number (map cut_of_kept c.args.frames.now))
+    at c.rows_in.ensures.rows
