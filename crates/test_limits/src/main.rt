@@ -1,12 +1,16 @@
 //! Tries each row of `limits.txt`: a verdict, and below it how a description is made that gets it, which is as long
-//! or holds as much as one may, or is one past that. What a row says was worked out by hand. Prints each row whose
-//! description gets another verdict, and how many rows there are.
+//! or holds as much as one may, or is one past that. The image of an accepted one has at most 1,048,576 instructions,
+//! but where the verdict says otherwise. What a row says was worked out by hand. Prints each row whose description
+//! gets another verdict, and how many rows there are.
 #![tactic(auto)]
 
-use pads_value::Bytes;
+use pads_code::Coding;
+use pads_compile::image_length;
+use pads_describe::describe;
+use pads_value::{Bytes, Refusal};
 use std::alloc::{AllocError, Global};
 use std::{fs, io};
-use test_rows::{Tally, Trouble, lines_of, put_part, verdict_on};
+use test_rows::{Tally, Trouble, difference, lines_of, put_part, verdict_on};
 
 /// Puts these parts, so many times.
 fn put_rounds(alloc: Global, out: &mut Bytes, parts: &[&str], rounds: u32) -> Result<(), Trouble> {
@@ -43,9 +47,28 @@ fn made(alloc: Global, lines: &[&str]) -> Result<Bytes, Trouble> {
     Ok(out)
 }
 
-/// The verdict on the description of a row where it isn't the row's; nothing where it is.
+/// The most instructions of an image.
+const LONGEST: u64 = 1_048_576;
+
+/// How many instructions the image of a description has, or nothing where it is refused.
+fn instructions(alloc: Global, text: &[u8]) -> Result<Option<u64>, Trouble> {
+    match describe(alloc, text, Coding::Ascii) {
+        Ok(module) => Ok(Some(image_length(&module))),
+        Err(Refusal::Fault(_)) => Ok(None),
+        Err(Refusal::Memory) => Err(Trouble::Memory),
+    }
+}
+
+/// The verdict on the description of a row where it isn't the row's; nothing where it is. A row says how many
+/// instructions the image has where they are too many.
 fn tried(alloc: Global, verdict: &str, parts: &[&str]) -> Result<String, Trouble> {
     let text = made(alloc, parts)?;
+    if let Some(length) = instructions(alloc, text.as_slice())?
+        && length > LONGEST
+    {
+        let told = format!(in alloc; "image of {length} instructions")?;
+        return Ok(difference(alloc, told.as_bytes(), verdict.as_bytes())?);
+    }
     verdict_on(alloc, text.as_slice(), verdict)
 }
 
