@@ -6,6 +6,7 @@ use Rattle.pads_tool.specs.Describing.{Description}
 use Rattle.pads_tool.specs.Endings.{status_of}
 use Rattle.pads_tool.specs.Reading.{RecordsGive}
 use Rattle.pads_tool.specs.Running.{IsBeforeInput}
+use Rattle.pads_tool.specs.Telling.{Tells}
 use Rattle.pads_tool.specs.declared.ending.Ending.{Ending}
 use Rattle.pads_tool.specs.declared.ending.Ending.TheVariants as ending
 use Rattle.pads_tool.specs.declared.status.Status.{Status}
@@ -44,3 +45,20 @@ module _ (work : Description → Work Row Bool) (noting : Bool) (d : Description
   -- a reading of an input ends otherwise
   pub reading-reaches : (e : Ending) → RecordsGive work noting d left left' o o' n n' source source' out out' notes notes' e → IsBeforeInput (status_of e) → ⊥
   reading-reaches e h before = reach e h (is-before (status_of e) before)
+
+module _ (text : List ℕ) (well : Bool) (out out' : Option (List ℕ)) (before now : ℕ) where
+  tell : (e : Ending) → Tells text well out out' before now e → Before (status_of e) → ⊥
+  tell ending.Done h b = b
+  tell ending.Dirty h b = b
+  tell ending.ReadFault h b = b
+  tell ending.WriteFault h b = b
+  tell ending.TooLong h b = b
+  tell ending.Memory h b = b
+  tell ending.Limit h b = b
+  tell ending.Usage h b = h
+  tell (ending.Refused verdict) h b = h
+  tell ending.FileFault h b = h
+
+  -- and so does the telling of what was read
+  pub telling-reaches : (e : Ending) → Tells text well out out' before now e → IsBeforeInput (status_of e) → ⊥
+  telling-reaches e h first = tell e h (is-before (status_of e) first)

@@ -1,6 +1,7 @@
 use Rattle.std.proofs.Common.{refl}
 use Rattle.pads_module.specs.Modules.{contents}
 use Rattle.pads_tool.proofs.Summaries.{summary-ended, summary-none, summary-stopped, summary-told}
+use Rattle.pads_tool.proofs.Unread.{telling-reaches}
 use Rattle.pads_tool.specs.Promises.{counts, seen}
 use Rattle.pads_tool.proofs.summary.summary.Goals as goal
 
@@ -32,3 +33,6 @@ returns-in-Ok-summed-clause-gives g c = λ noted noted' notes notes'.
     (counts (g.F.Files.faults c.args.files.now) (g.F.Files.faults c.read_under.new.files) (g.S.Source.faults c.args.source.now) (g.S.Source.faults c.summed.new.source)
     (g.K.Sink.faults c.args.out.now) (g.K.Sink.faults c.tell_report.new.out) notes notes') (contents c.in-Ok.reader.module) c.in-Ok.ensures.read c.in-Ok-summed.summed c.tell_report.result
     c.in-Ok-summed.ensures.gives c.tell_report.ensures.tells
+
+pub returns-in-Ok-summed-clause-untouched : goal.returns-in-Ok-summed-clause-untouched
+returns-in-Ok-summed-clause-untouched g c = λ before. absurd (telling-reaches _ _ _ _ _ _ c.tell_report.result c.tell_report.ensures.tells before)
