@@ -16,12 +16,13 @@ use Rattle.pads_orders.specs.declared.order.Order.TheVariants as order
 use Rattle.pads_orders.specs.declared.order.Question.{Question}
 use Rattle.pads_orders.specs.declared.order.Settings.{Settings}
 use Rattle.pads_orders.specs.Masks.{mask_of}
-use Rattle.pads_orders.specs.Numbers.{count_to}
+use Rattle.pads_orders.specs.Numbers.{count_to, number_to}
 use Rattle.pads_orders.specs.Options.{is_option, arguments, behind, values, once, coding_of, max_of, records_of, greatest_max}
 
 -- how each option begins
 abbrev pub beginning : OptionName → List ℕ
 beginning option.Coding = codes "--coding="
+beginning option.Jobs = codes "--jobs="
 beginning option.Mask = codes "--mask="
 beginning option.Max = codes "--max="
 beginning option.Records = codes "--records="
@@ -30,6 +31,7 @@ beginning option.Top = codes "--top="
 -- the value that it has where it isn't given
 abbrev pub usual : OptionName → List ℕ
 usual option.Coding = codes "ascii"
+usual option.Jobs = codes "1"
 usual option.Mask = codes "both"
 usual option.Max = codes "1048576"
 usual option.Records = codes "nl"
@@ -50,14 +52,19 @@ setting name read words = given (value_in name words) read
 abbrev pub greatest_top : ℕ
 greatest_top = 1000
 
+-- the most workers that read at the same time
+abbrev pub greatest_jobs : ℕ
+greatest_jobs = 64
+
 -- what the value of each option comes to but for the mask
 abbrev pub settings_in : List (List ℕ) → Option Settings
 settings_in words =
     given (setting option.Coding coding_of words) (λ coding.
+    given (setting option.Jobs (number_to greatest_jobs) words) (λ jobs.
     given (setting option.Max max_of words) (λ max.
     given (setting option.Records (records_of max) words) (λ discipline.
     given (setting option.Top (count_to greatest_top) words) (λ top.
-    Some (record { coding = coding; cutting = record { discipline = discipline; max = max }; top = top })))))
+    Some (record { coding = coding; cutting = record { discipline = discipline; max = max }; jobs = jobs; top = top }))))))
 
 -- the mask
 abbrev pub mask_in : List (List ℕ) → Option Mask
@@ -66,11 +73,11 @@ mask_in words = setting option.Mask mask_of words
 -- the options that each command takes
 abbrev pub options_of : Command → List OptionName
 options_of command.Check = option.Coding ∷ []
-options_of command.Parse = option.Coding ∷ option.Mask ∷ option.Max ∷ option.Records ∷ []
-options_of command.Print = option.Coding ∷ option.Max ∷ option.Records ∷ []
-options_of command.Query = option.Coding ∷ option.Mask ∷ option.Max ∷ option.Records ∷ []
-options_of command.Summary = option.Coding ∷ option.Mask ∷ option.Max ∷ option.Records ∷ option.Top ∷ []
-options_of command.Selftest = []
+options_of command.Parse = option.Coding ∷ option.Jobs ∷ option.Mask ∷ option.Max ∷ option.Records ∷ []
+options_of command.Print = option.Coding ∷ option.Jobs ∷ option.Max ∷ option.Records ∷ []
+options_of command.Query = option.Coding ∷ option.Jobs ∷ option.Mask ∷ option.Max ∷ option.Records ∷ []
+options_of command.Summary = option.Coding ∷ option.Jobs ∷ option.Mask ∷ option.Max ∷ option.Records ∷ option.Top ∷ []
+options_of command.Selftest = option.Jobs ∷ []
 
 -- the command of this name
 abbrev pub command_of : List ℕ → Option Command
@@ -153,11 +160,21 @@ pub record IsWithinLimits (cutting : Cutting) : Type 0 where
   pub limit : cutting.max ≤ greatest_max
   pub fits : FitsLimit cutting.discipline cutting.max
 
+-- At least one worker reads, and at most 64 do.
+pub record AreFewJobs (jobs : ℕ) : Type 0 where
+  pub some : 0 < jobs
+  pub few : jobs ≤ greatest_jobs
+
+-- What the settings of each order keep.
+pub record KeepSettings (settings : Settings) : Type 0 where
+  pub cutting : IsWithinLimits settings.cutting
+  pub jobs : AreFewJobs settings.jobs
+
 -- What each order keeps.
 abbrev pub KeepsLimits : Order → Type 0
-KeepsLimits (order.Check description settings) = IsWithinLimits settings.cutting
-KeepsLimits (order.Parse description settings mask) = IsWithinLimits settings.cutting
-KeepsLimits (order.Print description settings) = IsWithinLimits settings.cutting
-KeepsLimits (order.Summary description settings mask) = IsWithinLimits settings.cutting
-KeepsLimits (order.Query question settings mask) = IsWithinLimits settings.cutting
-KeepsLimits (order.Selftest records settings) = IsWithinLimits settings.cutting × (records ≤ greatest_test)
+KeepsLimits (order.Check description settings) = KeepSettings settings
+KeepsLimits (order.Parse description settings mask) = KeepSettings settings
+KeepsLimits (order.Print description settings) = KeepSettings settings
+KeepsLimits (order.Summary description settings mask) = KeepSettings settings
+KeepsLimits (order.Query question settings mask) = KeepSettings settings
+KeepsLimits (order.Selftest records settings) = KeepSettings settings × (records ≤ greatest_test)

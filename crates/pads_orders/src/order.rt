@@ -1,7 +1,7 @@
 ghost use Rattle.std.specs.Prelude.{◌≡◌, ◌↔◌, Some, None, Err, IfOk, IfSome};
 ghost use Rattle.pads_orders.specs.MaskTexts.{mask_told};
 ghost use Rattle.pads_orders.specs.Options.{arguments};
-ghost use Rattle.pads_orders.specs.Orders.{beginning, usual, settings_in, options_of, command_of, order_with, IsWithinLimits, KeepsLimits};
+ghost use Rattle.pads_orders.specs.Orders.{beginning, usual, settings_in, options_of, command_of, order_with, KeepSettings, KeepsLimits};
 ghost use Rattle.pads_value.specs.declared.memory.Refusal.TheVariants as refusal;
 
 use crate::mask::MaskText;
@@ -27,6 +27,8 @@ pub struct Cutting {
 pub struct Settings {
     pub coding: Coding,
     pub cutting: Cutting,
+    /// How many workers read at the same time: from 1 to 64.
+    pub jobs: u32,
     /// The most values of a part that a summary tells: from 0 to 1,000.
     pub top: u32,
 }
@@ -85,6 +87,7 @@ pub struct Usage;
 #[derive(Clone, Copy, Debug, PartialEq, Eq)]
 pub(crate) enum OptionName {
     Coding,
+    Jobs,
     Mask,
     Max,
     Records,
@@ -115,6 +118,7 @@ impl OptionName {
     {
         match self {
             OptionName::Coding => Line::new(b"--coding=", b"ascii"),
+            OptionName::Jobs => Line::new(b"--jobs=", b"1"),
             OptionName::Mask => Line::new(b"--mask=", b"both"),
             OptionName::Max => Line::new(b"--max=", b"1048576"),
             OptionName::Records => Line::new(b"--records=", b"nl"),
@@ -126,15 +130,17 @@ impl OptionName {
 /// What the value of each option comes to but for the mask.
 pub(crate) fn settings_in(words: &[Word]) -> Option<Settings>
     ensures settings { result ≡ settings_in words.now }
-    ensures limits { IfSome result (λ settings. IsWithinLimits settings.cutting) }
+    ensures limits { IfSome result KeepSettings }
 {
     let coding = coding_of(value_in(OptionName::Coding, words)?)?;
+    let jobs = number_to(64, value_in(OptionName::Jobs, words)?)?;
     let max = number_to(16_777_216, value_in(OptionName::Max, words)?)?;
     let discipline = records_of(max, value_in(OptionName::Records, words)?)?;
     let top = count_to(1000, value_in(OptionName::Top, words)?)?;
     Some(Settings {
         coding,
         cutting: Cutting { discipline, max },
+        jobs: jobs as u32,
         top: top as u32,
     })
 }
@@ -180,19 +186,26 @@ impl Command {
             Command::Check => &[OptionName::Coding],
             Command::Parse | Command::Query => &[
                 OptionName::Coding,
+                OptionName::Jobs,
                 OptionName::Mask,
                 OptionName::Max,
                 OptionName::Records,
             ],
-            Command::Print => &[OptionName::Coding, OptionName::Max, OptionName::Records],
+            Command::Print => &[
+                OptionName::Coding,
+                OptionName::Jobs,
+                OptionName::Max,
+                OptionName::Records,
+            ],
             Command::Summary => &[
                 OptionName::Coding,
+                OptionName::Jobs,
                 OptionName::Mask,
                 OptionName::Max,
                 OptionName::Records,
                 OptionName::Top,
             ],
-            Command::Selftest => &[],
+            Command::Selftest => &[OptionName::Jobs],
         }
     }
 
@@ -205,7 +218,7 @@ impl Command {
         settings: Settings,
         mask: MaskText<'_>,
     ) -> Result<Order, Refusal<Usage>>
-        requires limits { IsWithinLimits settings.cutting }
+        requires limits { KeepSettings settings }
         ensures order { IfOk result (λ order. order_with self (arguments words.now) settings (mask_told mask.entry) ≡ Some order) }
         ensures usage { (result ≡ Err (refusal.Fault record {})) ↔ (order_with self (arguments words.now) settings (mask_told mask.entry) ≡ None) }
         ensures limits { IfOk result KeepsLimits }

@@ -2,7 +2,7 @@ ghost use Rattle.std.specs.Prelude.{◌≡◌, ◌↔◌, ◌≤◌, [], ◌∷�
 ghost use Rattle.std.specs.List.{list_any};
 ghost use Rattle.std.specs.Option.{is_some};
 ghost use Rattle.pads_orders.specs.Options.{arguments, behind};
-ghost use Rattle.pads_orders.specs.Orders.{beginning, description_of, is_one_of, only, question as question_by, question_of, records_asked as records_of_order, has_only, settings_for, order_of, IsWithinLimits, KeepsLimits};
+ghost use Rattle.pads_orders.specs.Orders.{beginning, description_of, is_one_of, only, question as question_by, question_of, records_asked as records_of_order, has_only, settings_for, order_of, KeepSettings, KeepsLimits};
 ghost use Rattle.pads_orders.specs.Questions.{question_told};
 ghost use Rattle.pads_value.specs.declared.memory.Refusal.TheVariants as refusal;
 
@@ -178,7 +178,7 @@ fn has_only(names: &[OptionName], words: &[Word]) -> bool
 /// What the options behind a command come to, each of which it takes.
 fn settings_for(command: Command, words: &[Word]) -> Option<Settings>
     ensures settings { result ≡ settings_for command words.now }
-    ensures limits { IfSome result (λ settings. IsWithinLimits settings.cutting) }
+    ensures limits { IfSome result KeepSettings }
 {
     if !has_only(command.options(), words) {
         return None;

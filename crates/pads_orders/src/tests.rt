@@ -416,6 +416,24 @@ fn masks_of_named_declarations(rt: HostRuntime) -> Result<(), Fail> {
 }
 
 #[test]
+fn wrong_jobs(rt: HostRuntime) -> Result<(), Fail> {
+    none_are(
+        &rt,
+        rt.alloc(),
+        &[
+            "parse a --jobs=",
+            "parse a --jobs=0",
+            "parse a --jobs=03",
+            "parse a --jobs=65",
+            "parse a --jobs=+3",
+            "print a --jobs=3 --jobs=3",
+            "check a --jobs=3",
+            "selftest 3 --jobs=0",
+        ],
+    )
+}
+
+#[test]
 fn wrong_masks(rt: HostRuntime) -> Result<(), Fail> {
     none_are(
         &rt,
@@ -458,7 +476,7 @@ fn questions(rt: HostRuntime) -> Result<(), Fail> {
     queries(
         &rt,
         rt.alloc(),
-        "query --mask=set a --max=9 y --records=whole --coding=ebcdic it",
+        "query --mask=set a --max=9 y --records=whole --jobs=64 --coding=ebcdic it",
         "y",
         Some("it"),
     )?;
@@ -472,7 +490,6 @@ fn questions(rt: HostRuntime) -> Result<(), Fail> {
             "query  y",
             "query a y it more",
             "query a y --top=3",
-            "query a y --jobs=2",
             "query a y --mask=all",
         ],
     )
