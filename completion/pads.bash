@@ -25,11 +25,11 @@ _pads_words() {
 _pads_options() {
   case $1 in
     check) echo '--coding=' ;;
-    parse) echo '--records= --coding= --max= --mask=' ;;
-    print) echo '--records= --coding= --max=' ;;
-    summary) echo '--records= --coding= --max= --mask= --top=' ;;
-    query) echo '--records= --coding= --max= --mask=' ;;
-    selftest) echo '' ;;
+    parse) echo '--records= --coding= --max= --mask= --jobs=' ;;
+    print) echo '--records= --coding= --max= --jobs=' ;;
+    summary) echo '--records= --coding= --max= --mask= --top= --jobs=' ;;
+    query) echo '--records= --coding= --max= --mask= --jobs=' ;;
+    selftest) echo '--jobs=' ;;
   esac
 }
 
