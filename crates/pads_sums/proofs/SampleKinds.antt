@@ -64,10 +64,10 @@ module _ (f : Sample → ℕ) where
   none-left (text points ∷ xs) none = absurd (true≢false none)
 
 -- a new sample of a part goes last
-pub new_is_last : (room : Option ℕ) (numeric : Bool) (xs : List Sample) (sample : Sample) → list_all (suits numeric) xs ≡ true → suits numeric sample ≡ true
-    → with_new sample (tracked room xs) ≡ tracked room xs ++ (sample, 1) ∷ []
-new_is_last room true xs (num n) all one =
+pub new_is_last : (room : Option ℕ) (more : ℕ) (numeric : Bool) (xs : List Sample) (sample : Sample) → list_all (suits numeric) xs ≡ true → suits numeric sample ≡ true
+    → with_new more sample (tracked room xs) ≡ tracked room xs ++ (sample, more) ∷ []
+new_is_last room more true xs (num n) all one =
     let none = no-texts-within room (distinct xs) (no-distinct-texts xs (no_texts xs all)) in
-    (λ i. all-kept (occurrences xs) (within room (distinct xs)) none i ++ (num n, 1) ∷ none-left (occurrences xs) (within room (distinct xs)) none i)
-new_is_last room false xs (num n) all one = absurd (true≢false (sym one))
-new_is_last room numeric xs (text points) all one = refl
+    (λ i. all-kept (occurrences xs) (within room (distinct xs)) none i ++ (num n, more) ∷ none-left (occurrences xs) (within room (distinct xs)) none i)
+new_is_last room more false xs (num n) all one = absurd (true≢false (sym one))
+new_is_last room more numeric xs (text points) all one = refl

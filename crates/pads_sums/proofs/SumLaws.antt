@@ -61,7 +61,7 @@ module _ (room : Option ℕ) (place : List ℕ) (good bad : ℕ) (numeric : Bool
 
   kept-number : (n : ℤ) → suits numeric (num n) ≡ true → kept room place good bad (xs ++ num n ∷ []) ≡ with_sample room (Some (num n)) (kept room place good bad xs)
   kept-number n one =
-      let last = new_is_last room numeric xs (num n) all one in
+      let last = new_is_last room 1 numeric xs (num n) all one in
       let more : numbers (xs ++ num n ∷ []) ≡ numbers xs ++ n ∷ [] = filter_map-append number_in xs (num n ∷ []) in
       let nums : length (numbers (xs ++ num n ∷ [])) ≡ next (length (numbers xs))
       = let longer = ap length more ∙ length-append (numbers xs) (n ∷ []) in let fewer = few-numbers in omega (arith, longer, fewer) in
@@ -84,7 +84,7 @@ module _ (room : Option ℕ) (place : List ℕ) (good bad : ℕ) (numeric : Bool
 
   kept-text : (points : List ℕ) → suits numeric (text points) ≡ true → kept room place good bad (xs ++ text points ∷ []) ≡ with_sample room (Some (text points)) (kept room place good bad xs)
   kept-text points one =
-      let last = new_is_last room numeric xs (text points) all one in
+      let last = new_is_last room 1 numeric xs (text points) all one in
       let more : numbers (xs ++ text points ∷ []) ≡ numbers xs = filter_map-append number_in xs (text points ∷ []) ∙ append-nil (numbers xs) in
       (λ i. record {
         place = place;

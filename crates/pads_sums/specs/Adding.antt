@@ -8,8 +8,11 @@ use Rattle.pads_sums.specs.Nodes.{Node, sample_of}
 use Rattle.pads_sums.specs.Samples.{Sample, num, text, same}
 use Rattle.pads_sums.specs.declared.part_sum.PartSum.{PartSum}
 
+abbrev pub risen : ℕ → ℕ → ℕ
+risen more count = min (count + more) (2 ^ 64 - 1)
+
 abbrev pub next : ℕ → ℕ
-next count = min (count + 1) (2 ^ 64 - 1)
+next count = risen 1 count
 
 abbrev pub is_num : Sample → Bool
 is_num (num number) = true
@@ -25,15 +28,15 @@ Pairs = List (Sample × ℕ)
 abbrev pub is_among : Sample → Pairs → Bool
 is_among sample pairs = list_any (λ pair. same sample pair.0) pairs
 
--- one occurrence more of a value
-abbrev pub again : Sample → Pairs → Pairs
-again sample [] = []
-again sample (pair ∷ pairs) = if same sample pair.0 then (pair.0, next pair.1) ∷ pairs else pair ∷ again sample pairs
+-- so many occurrences more of a value
+abbrev pub again : ℕ → Sample → Pairs → Pairs
+again more sample [] = []
+again more sample (pair ∷ pairs) = if same sample pair.0 then (pair.0, risen more pair.1) ∷ pairs else pair ∷ again more sample pairs
 
 -- with a new value; numbers stand before texts
-abbrev pub with_new : Sample → Pairs → Pairs
-with_new (num number) pairs = filter (λ pair. is_num pair.0) pairs ++ (num number, 1) ∷ filter (λ pair. is_text pair.0) pairs
-with_new (text points) pairs = pairs ++ (text points, 1) ∷ []
+abbrev pub with_new : ℕ → Sample → Pairs → Pairs
+with_new more (num number) pairs = filter (λ pair. is_num pair.0) pairs ++ (num number, more) ∷ filter (λ pair. is_text pair.0) pairs
+with_new more (text points) pairs = pairs ++ (text points, more) ∷ []
 
 -- whether so many values leave room for one more
 abbrev pub has_room : Option ℕ → ℕ → Bool
@@ -41,15 +44,19 @@ has_room None count = true
 has_room (Some room) count = nat_lt count room
 
 -- among values of one kind; `free` where there is room for a new one
-abbrev pub counted_where : Bool → Sample → Pairs → Pairs
-counted_where free sample pairs = if is_among sample pairs then again sample pairs else if free then pairs ++ (sample, 1) ∷ [] else pairs
+abbrev pub counted_where : Bool → ℕ → Sample → Pairs → Pairs
+counted_where free more sample pairs = if is_among sample pairs then again more sample pairs else if free then pairs ++ (sample, more) ∷ [] else pairs
 
-module _ (room : Option ℕ) (sample : Sample) (pairs : Pairs) where
-  abbrev pub is_counted : Bool
-  is_counted = is_among sample pairs || has_room room (length pairs)
+module _ (room : Option ℕ) where
+  abbrev pub is_counted : Sample → Pairs → Bool
+  is_counted sample pairs = is_among sample pairs || has_room room (length pairs)
 
-  abbrev pub counted : Pairs
-  counted = if is_among sample pairs then again sample pairs else if has_room room (length pairs) then with_new sample pairs else pairs
+  -- so many occurrences more of a value
+  abbrev pub counted_by : ℕ → Sample → Pairs → Pairs
+  counted_by more sample pairs = if is_among sample pairs then again more sample pairs else if has_room room (length pairs) then with_new more sample pairs else pairs
+
+  abbrev pub counted : Sample → Pairs → Pairs
+  counted sample pairs = counted_by 1 sample pairs
 
 abbrev pub with_number : ℤ → PartSum → PartSum
 with_number number sum = record sum {

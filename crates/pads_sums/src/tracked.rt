@@ -2,7 +2,7 @@ ghost use Rattle.std.specs.Prelude.{◌≡◌, ◌↔◌, ◌||◌, [], length, 
 ghost use Rattle.std.specs.Bool.{OnFalse};
 ghost use Rattle.std.specs.Option.{option_map};
 ghost use Rattle.pads_sums.specs.Samples.{num, text};
-ghost use Rattle.pads_sums.specs.Adding.{again, counted, counted_where, has_room as has_room_of, is_among, is_counted};
+ghost use Rattle.pads_sums.specs.Adding.{again, counted, counted_by, counted_where, has_room as has_room_of, is_among, is_counted};
 ghost use Rattle.pads_sums.specs.Seen.{number_pair, pair_seen, sample_seen, text_pair};
 
 use indexmap::IndexMap;
@@ -17,72 +17,78 @@ pub enum Sample<'a> {
     Text(&'a [u8]),
 }
 
-/// Counts one occurrence more of a number, where it is tracked; whether it is.
-fn number_again(numbers: &mut IndexMap<i128, u64>, number: i128) -> bool
+/// Counts so many occurrences more of a number, where it is tracked; whether it is.
+fn number_again(numbers: &mut IndexMap<i128, u64>, more: u64, number: i128) -> bool
     ensures found { result ≡ is_among (num number) (map number_pair numbers.old.entries) }
-    ensures pairs { map number_pair numbers.new.entries ≡ again (num number) (map number_pair numbers.old.entries) }
+    ensures pairs { map number_pair numbers.new.entries ≡ again more (num number) (map number_pair numbers.old.entries) }
     ensures same { OnFalse result (map number_pair numbers.new.entries ≡ map number_pair numbers.old.entries) }
 {
     match numbers.get_index_of(&number) {
         None => false,
         Some(at) => {
-            numbers[at] = numbers[at].saturating_add(1);
+            numbers[at] = numbers[at].saturating_add(more);
             true
         }
     }
 }
 
-/// Counts one occurrence more of a text, where it is tracked; whether it is.
-fn text_again(texts: &mut IndexMap<Vec<u8>, u64>, points: &[u8]) -> bool
+/// Counts so many occurrences more of a text, where it is tracked; whether it is.
+fn text_again(texts: &mut IndexMap<Vec<u8>, u64>, more: u64, points: &[u8]) -> bool
     ensures found { result ≡ is_among (text points.now) (map text_pair texts.old.entries) }
-    ensures pairs { map text_pair texts.new.entries ≡ again (text points.now) (map text_pair texts.old.entries) }
+    ensures pairs { map text_pair texts.new.entries ≡ again more (text points.now) (map text_pair texts.old.entries) }
     ensures same { OnFalse result (map text_pair texts.new.entries ≡ map text_pair texts.old.entries) }
 {
     match texts.get_index_of(points) {
         None => false,
         Some(at) => {
-            texts[at] = texts[at].saturating_add(1);
+            texts[at] = texts[at].saturating_add(more);
             true
         }
     }
 }
 
-/// Counts an occurrence of a number: one more of a number that is there; a new one is put last where there
-/// is room. Whether it is there then.
-fn put_number(numbers: &mut IndexMap<i128, u64>, free: bool, number: i128) -> Result<bool, Memory>
+/// Counts so many occurrences of a number: more of a number that is there; a new one is put last where
+/// there is room. Whether it is there then.
+fn put_number(
+    numbers: &mut IndexMap<i128, u64>,
+    free: bool,
+    more: u64,
+    number: i128,
+) -> Result<bool, Memory>
     ensures found { IfOk result (λ found. found ≡ (is_among (num number) (map number_pair numbers.old.entries) || free)) }
-    ensures pairs { OnOk result (map number_pair numbers.new.entries ≡ counted_where free (num number) (map number_pair numbers.old.entries)) }
+    ensures pairs { OnOk result (map number_pair numbers.new.entries ≡ counted_where free more (num number) (map number_pair numbers.old.entries)) }
     ensures err { OnErr result (map number_pair numbers.new.entries ≡ map number_pair numbers.old.entries) }
 {
-    if number_again(numbers, number) {
+    if number_again(numbers, more, number) {
         return Ok(true);
     }
     if !free {
         return Ok(false);
     }
-    numbers.insert(number, 1)?;
+    numbers.insert(number, more)?;
     Ok(true)
 }
 
-/// Counts an occurrence of a text, as `put_number` does. A text that is there isn't copied.
+/// Counts so many occurrences of a text, as `put_number` does. A text that is there isn't copied.
 fn put_text(
     alloc: Global,
     texts: &mut IndexMap<Vec<u8>, u64>,
     free: bool,
+    more: u64,
     points: &[u8],
 ) -> Result<bool, Memory>
     ensures found { IfOk result (λ found. found ≡ (is_among (text points.now) (map text_pair texts.old.entries) || free)) }
-    ensures pairs { OnOk result (map text_pair texts.new.entries ≡ counted_where free (text points.now) (map text_pair texts.old.entries)) }
+    ensures pairs { OnOk result (map text_pair texts.new.entries ≡ counted_where free more (text points.now) (map text_pair texts.old.entries)) }
     ensures err { OnErr result (map text_pair texts.new.entries ≡ map text_pair texts.old.entries) }
 {
-    if text_again(texts, points) {
+    if text_again(texts, more, points) {
         return Ok(true);
     }
     if !free {
         return Ok(false);
     }
     let key = Vec::from_slice(alloc, points)?;
-    texts.insert(key, 1)?;
+    texts.insert(key, more)?;
     Ok(true)
 }
 
@@ -149,7 +155,7 @@ impl Tracked {
         ensures err { OnErr result (self.new ≡ self.old) }
     {
         let free = has_room(room, self.len());
-        put_number(&mut self.numbers, free, number)
+        put_number(&mut self.numbers, free, 1, number)
     }
 
     /// Counts one occurrence more of a text, as `count_number` does. A text that is tracked isn't copied.
@@ -159,7 +165,7 @@ impl Tracked {
         ensures err { OnErr result (self.new ≡ self.old) }
     {
         let free = has_room(room, self.len());
-        put_text(self.alloc, &mut self.texts, free, points)
+        put_text(self.alloc, &mut self.texts, free, 1, points)
     }
 
     /// The value number `at`, from 0, and the number of its occurrences; `None` exactly past the end.

@@ -17,7 +17,7 @@ pub returns-in-None-clause-pairs : goal.returns-in-None-clause-pairs
 returns-in-None-clause-pairs c =
     let found = rw (to_z-of_z w128 c.args.number c.ranges.number) at c.in-None.ensures.found in
     let none = among_lookup num (num c.args.number) (int_eq c.args.number) (λ k. refl) c.args.numbers.now.entries ∙ sym found in
-    sym (again_none num (num c.args.number) (int_eq c.args.number) (λ k. refl) c.args.numbers.now.entries none)
+    sym (again_none num (num c.args.number) (int_eq c.args.number) (λ k. refl) c.args.more c.args.numbers.now.entries none)
 
 pub returns-in-Some-clause-found : goal.returns-in-Some-clause-found
 returns-in-Some-clause-found c =
@@ -28,4 +28,4 @@ pub returns-in-Some-clause-pairs : goal.returns-in-Some-clause-pairs
 returns-in-Some-clause-pairs c =
     let index = rw (to_z-of_z w128 c.args.number c.ranges.number) at c.in-Some.ensures.index in
     ap (λ n. map number_pair (set_value_at c.args.numbers.now.entries c.in-Some.at n)) c.saturating_add.ensures
-    ∙ again_at num (num c.args.number) (int_eq c.args.number) (λ k. refl) c.args.numbers.now.entries c.in-Some.at c.index.result.now (sym index) c.index.ensures
+    ∙ again_at num (num c.args.number) (int_eq c.args.number) (λ k. refl) c.args.more c.args.numbers.now.entries c.in-Some.at c.index.result.now (sym index) c.index.ensures

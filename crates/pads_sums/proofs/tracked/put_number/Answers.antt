@@ -26,5 +26,5 @@ returns-clause-pairs c =
     let entries = rw (to_z-of_z w128 c.args.number c.ranges.number) at c.in_ok-insert.ensures.entries in
     rw (sym none, c.if-not-free.false)
     (ap (map number_pair) entries
-    ∙ insert_new num int_eq c.args.number (λ k. refl) 1 c.number_again.new.numbers.entries none_now
-    ∙ ap (λ pairs. pairs ++ (num c.args.number, 1) ∷ []) c.if-number_again.ensures.same)
+    ∙ insert_new num int_eq c.args.number (λ k. refl) c.args.more c.number_again.new.numbers.entries none_now
+    ∙ ap (λ pairs. pairs ++ (num c.args.number, c.args.more) ∷ []) c.if-number_again.ensures.same)

@@ -26,6 +26,6 @@ returns-clause-pairs c =
     let none_now = ap (is_among (text c.args.points.now)) c.if-text_again.ensures.same ∙ sym c.if-text_again.ensures.found in
     rw (sym c.if-text_again.ensures.found, c.if-not-free.false)
     (ap (map text_pair) c.in_ok-insert.ensures.entries
-    ∙ insert_new (λ k. text k.items) (λ x y. bytes_eq x.items y.items) c.in_ok-key.key (λ k. refl) 1 c.text_again.new.texts.entries
+    ∙ insert_new (λ k. text k.items) (λ x y. bytes_eq x.items y.items) c.in_ok-key.key (λ k. refl) c.args.more c.text_again.new.texts.entries
     (ap (λ points. is_among (text points) (map text_pair c.text_again.new.texts.entries)) c.in_ok-key.ensures.items ∙ none_now)
-    ∙ (λ i. c.if-text_again.ensures.same i ++ (text (c.in_ok-key.ensures.items i), 1) ∷ []))
+    ∙ (λ i. c.if-text_again.ensures.same i ++ (text (c.in_ok-key.ensures.items i), c.args.more) ∷ []))

@@ -14,7 +14,7 @@ returns-in-None-clause-found c =
 pub returns-in-None-clause-pairs : goal.returns-in-None-clause-pairs
 returns-in-None-clause-pairs c =
     let none = among_lookup (λ k. text k.items) (text c.args.points.now) (λ k. bytes_eq c.args.points.now k.items) (λ k. refl) c.args.texts.now.entries ∙ sym c.in-None.ensures.found in
-    sym (again_none (λ k. text k.items) (text c.args.points.now) (λ k. bytes_eq c.args.points.now k.items) (λ k. refl) c.args.texts.now.entries none)
+    sym (again_none (λ k. text k.items) (text c.args.points.now) (λ k. bytes_eq c.args.points.now k.items) (λ k. refl) c.args.more c.args.texts.now.entries none)
 
 pub returns-in-Some-clause-found : goal.returns-in-Some-clause-found
 returns-in-Some-clause-found c =
@@ -24,5 +24,5 @@ returns-in-Some-clause-found c =
 pub returns-in-Some-clause-pairs : goal.returns-in-Some-clause-pairs
 returns-in-Some-clause-pairs c =
     ap (λ n. map text_pair (set_value_at c.args.texts.now.entries c.in-Some.at n)) c.saturating_add.ensures
-    ∙ again_at (λ k. text k.items) (text c.args.points.now) (λ k. bytes_eq c.args.points.now k.items) (λ k. refl) c.args.texts.now.entries c.in-Some.at
+    ∙ again_at (λ k. text k.items) (text c.args.points.now) (λ k. bytes_eq c.args.points.now k.items) (λ k. refl) c.args.more c.args.texts.now.entries c.in-Some.at
     c.index.result.now (sym c.in-Some.ensures.index) c.index.ensures

@@ -21,6 +21,6 @@ returns-clause-counted c =
     let free = c.has_room-free.ensures.room ∙ ap (has_room c.args.room) (c.len.ensures.length ∙ ap length (sym c.self.view_is)) in
     rw (← c.self.view_is)
     (on_ok_weaker c.put_number.result
-    (λ h. number_put c.self.inside.numbers.entries c.self.inside.texts.entries c.args.room c.has_room-free.result free c.args.number _
+    (λ h. number_put c.self.inside.numbers.entries c.self.inside.texts.entries c.args.room c.has_room-free.result free 1 c.args.number _
     (rw (to_z-of_z w128 c.args.number c.ranges.number) at h))
     c.put_number.ensures.pairs)

@@ -17,5 +17,5 @@ returns-clause-counted c =
     let free = c.has_room-free.ensures.room ∙ ap (has_room c.args.room) (c.len.ensures.length ∙ ap length (sym c.self.view_is)) in
     rw (← c.self.view_is)
     (on_ok_weaker c.put_text.result
-    (λ h. text_put c.self.inside.numbers.entries c.self.inside.texts.entries c.args.room c.has_room-free.result free c.args.points.now _ h)
+    (λ h. text_put c.self.inside.numbers.entries c.self.inside.texts.entries c.args.room c.has_room-free.result free 1 c.args.points.now _ h)
     c.put_text.ensures.pairs)
