@@ -112,7 +112,7 @@ occurs-step : (sample x : Sample) (xs : List Sample) (b : Bool) → same sample 
 occurs-step sample x xs true is none rest = absurd (true≢false none)
 occurs-step sample x xs false is none rest = count_cons (same sample) x xs ∙ (λ i. cond (is i) 1 0 + rest none i)
 
-occurs_none : (sample : Sample) (xs : List Sample) → is_in sample xs ≡ false → occurrences xs sample ≡ 0
+pub occurs_none : (sample : Sample) (xs : List Sample) → is_in sample xs ≡ false → occurrences xs sample ≡ 0
 occurs_none sample [] none = refl
 occurs_none sample (x ∷ xs) none = occurs-step sample x xs (same sample x) refl none (occurs_none sample xs)
 

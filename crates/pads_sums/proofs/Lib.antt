@@ -2,9 +2,12 @@ pub mod SuitLaws
 pub mod AddingLaws
 pub mod Apart
 pub mod DistinctLaws
+pub mod Copies
 pub mod Entries
+pub mod Grouping
 pub mod Lists
 pub mod Members
+pub mod MergingLaws
 pub mod NumberLaws
 pub mod Positions
 pub mod Rows

@@ -1,9 +1,10 @@
-ghost use Rattle.std.specs.Prelude.{◌≡◌, [], ℕ, nat_eq, Option, OnOk, if◌then◌else◌};
+ghost use Rattle.std.specs.Prelude.{◌≡◌, [], ℕ, nat_eq, Option, IfOk, OnOk, if◌then◌else◌};
 ghost use Rattle.std.specs.Int.{int_min, int_max};
 ghost use Rattle.std.specs.Option.{option_copied};
 ghost use Rattle.pads_sums.specs.Samples.{num, text};
 ghost use Rattle.pads_sums.specs.declared.form.PartForm.{PartForm as FormOf};
 ghost use Rattle.pads_sums.specs.Adding.{with_class, with_node, with_number, with_value};
+ghost use Rattle.pads_sums.specs.Merging.{merged, outermost, with_counts};
 ghost use Rattle.pads_sums.specs.Sums.{part_sum};
 
 use crate::{Given, PartForm, Tracked, sample_given};
@@ -49,6 +50,32 @@ fn greater(count: u64, greatest: i128, number: i128) -> i128
         number
     } else {
         greatest.max(number)
+    }
+}
+
+/// The lesser of the least of so many numbers and of so many later ones, if there are any.
+fn least_of(count: u64, least: i128, more: u64, later: i128) -> i128
+    ensures least { result ≡ outermost int_min count least more later }
+{
+    if more == 0 {
+        least
+    } else if count == 0 {
+        later
+    } else {
+        least.min(later)
+    }
+}
+
+/// The greater of the greatest of both.
+fn greatest_of(count: u64, greatest: i128, more: u64, later: i128) -> i128
+    ensures greatest { result ≡ outermost int_max count greatest more later }
+{
+    if more == 0 {
+        greatest
+    } else if count == 0 {
+        later
+    } else {
+        greatest.max(later)
     }
 }
 
@@ -134,6 +161,39 @@ impl PartSum {
             Some(Given::Text(points)) => self.count_text(room, points),
             Some(Given::Address(points)) => self.count_text(room, points.as_slice()),
         }
+    }
+
+    fn add_counts(&mut self, later: &PartSum)
+        ensures counts { self.new ≡ with_counts later.now self.old }
+    {
+        self.least = least_of(self.nums, self.least, later.nums, later.least);
+        self.greatest = greatest_of(self.nums, self.greatest, later.nums, later.greatest);
+        self.sum = self.sum.saturating_add(later.sum);
+        self.good = self.good.saturating_add(later.good);
+        self.bad = self.bad.saturating_add(later.bad);
+        self.nums = self.nums.saturating_add(later.nums);
+    }
+
+    /// Adds the sum of later nodes of the same part, which tracks all its values. So many values are
+    /// tracked, or all (`None`). Without memory it is partly added.
+    pub fn merge(&mut self, room: Option<u64>, later: PartSum) -> Result<(), Memory>
+        ensures merged { OnOk result (self.new ≡ merged room self.old later) }
+    {
+        self.add_counts(&later);
+        let others = self.tracked.merge(room, self.others, later.tracked)?;
+        self.others = others.saturating_add(later.others);
+        Ok(())
+    }
+
+    /// A sum equal to this one.
+    pub fn copy(&self, alloc: Global) -> Result<PartSum, Memory>
+        ensures equal { IfOk result (λ copied. copied ≡ self.now) }
+    {
+        Ok(PartSum {
+            place: Items::from_slice(alloc, self.place.as_slice())?,
+            tracked: self.tracked.copy()?,
+            ..*self
+        })
     }
 }
 

@@ -3,6 +3,7 @@ ghost use Rattle.std.specs.Bool.{OnFalse};
 ghost use Rattle.std.specs.Option.{option_map};
 ghost use Rattle.pads_sums.specs.Samples.{num, text};
 ghost use Rattle.pads_sums.specs.Adding.{again, counted, counted_by, counted_where, has_room as has_room_of, is_among, is_counted};
+ghost use Rattle.pads_sums.specs.Merging.{joined};
 ghost use Rattle.pads_sums.specs.Seen.{number_pair, pair_seen, sample_seen, text_pair};
 
 use indexmap::IndexMap;
@@ -92,6 +93,26 @@ fn put_text(
     Ok(true)
 }
 
+/// The same of a text of its own, which isn't copied.
+fn take_text(
+    texts: &mut IndexMap<Vec<u8>, u64>,
+    free: bool,
+    more: u64,
+    points: Vec<u8>,
+) -> Result<bool, Memory>
+    ensures found { IfOk result (λ found. found ≡ (is_among (text points.items) (map text_pair texts.old.entries) || free)) }
+    ensures pairs { OnOk result (map text_pair texts.new.entries ≡ counted_where free more (text points.items) (map text_pair texts.old.entries)) }
+{
+    if text_again(texts, more, points.as_slice()) {
+        return Ok(true);
+    }
+    if !free {
+        return Ok(false);
+    }
+    texts.insert(points, more)?;
+    Ok(true)
+}
+
 /// Whether so many values leave room for one more.
 fn has_room(room: Option<u64>, count: u64) -> bool
     ensures room { result ≡ has_room_of room count }
@@ -154,8 +175,7 @@ impl Tracked {
         ensures counted { OnOk result (self.new ≡ counted room (num number) self.old) }
         ensures err { OnErr result (self.new ≡ self.old) }
     {
-        let free = has_room(room, self.len());
-        put_number(&mut self.numbers, free, 1, number)
+        self.count_number_by(room, 1, number)
     }
 
     /// Counts one occurrence more of a text, as `count_number` does. A text that is tracked isn't copied.
@@ -166,6 +186,90 @@ impl Tracked {
     {
         let free = has_room(room, self.len());
         put_text(self.alloc, &mut self.texts, free, 1, points)
+    }
+
+    /// Counts so many occurrences more of a number; whether it is tracked then.
+    fn count_number_by(
+        &mut self,
+        room: Option<u64>,
+        more: u64,
+        number: i128,
+    ) -> Result<bool, Memory>
+        ensures found { IfOk result (λ found. found ≡ is_counted room (num number) self.old) }
+        ensures counted { OnOk result (self.new ≡ counted_by room more (num number) self.old) }
+        ensures err { OnErr result (self.new ≡ self.old) }
+    {
+        let free = has_room(room, self.len());
+        put_number(&mut self.numbers, free, more, number)
+    }
+
+    /// Counts so many occurrences more of a text; whether it is tracked then. A new text is taken over as it
+    /// stands.
+    fn count_text_by(
+        &mut self,
+        room: Option<u64>,
+        more: u64,
+        points: Vec<u8>,
+    ) -> Result<bool, Memory>
+        ensures found { IfOk result (λ found. found ≡ is_counted room (text points.items) self.old) }
+        ensures counted { OnOk result (self.new ≡ counted_by room more (text points.items) self.old) }
+    {
+        let free = has_room(room, self.len());
+        take_text(&mut self.texts, free, more, points)
+    }
+
+    fn merge_numbers(
+        &mut self,
+        room: Option<u64>,
+        mut others: u64,
+        later: IndexMap<i128, u64>,
+    ) -> Result<u64, Memory>
+        ensures joined { IfOk result (λ left. (self.new, left) ≡ joined room (self.old, others) (map number_pair later.entries)) }
+    {
+        'numbers: for (number, count) in later {
+            if !self.count_number_by(room, count, number)? {
+                others = others.saturating_add(count);
+            }
+        }
+        Ok(others)
+    }
+
+    fn merge_texts(
+        &mut self,
+        room: Option<u64>,
+        mut others: u64,
+        later: IndexMap<Vec<u8>, u64>,
+    ) -> Result<u64, Memory>
+        ensures joined { IfOk result (λ left. (self.new, left) ≡ joined room (self.old, others) (map text_pair later.entries)) }
+    {
+        'texts: for (points, count) in later {
+            if !self.count_text_by(room, count, points)? {
+                others = others.saturating_add(count);
+            }
+        }
+        Ok(others)
+    }
+
+    /// Counts the values of later samples, which are all tracked there, in their order, each with its
+    /// occurrences. To the number of samples whose values aren't tracked here those are added that aren't
+    /// now. No text is copied. Without memory some of the values are counted.
+    pub fn merge(&mut self, room: Option<u64>, others: u64, later: Tracked) -> Result<u64, Memory>
+        ensures joined { IfOk result (λ left. (self.new, left) ≡ joined room (self.old, others) later) }
+    {
+        let Tracked { numbers, texts, .. } = later;
+        let others = self.merge_numbers(room, others, numbers)?;
+        self.merge_texts(room, others, texts)
+    }
+
+    /// Tracked values equal to these.
+    pub fn copy(&self) -> Result<Tracked, Memory>
+        ensures equal { IfOk result (λ copied. copied ≡ self.now) }
+    {
+        Ok(Tracked {
+            numbers: self.numbers.clone()?,
+            texts: self.texts.clone()?,
+            alloc: self.alloc,
+        })
     }
 
     /// The value number `at`, from 0, and the number of its occurrences; `None` exactly past the end.
