@@ -1,5 +1,5 @@
 -- Copies of maps have the same pairs.
-use Rattle.std.proofs.Common.{◌≡◌, ap, refl, ℕ, ℤ, List, [], ◌∷◌, map}
+use Rattle.std.proofs.Common.{◌≡◌, refl, ℕ, ℤ, List, [], ◌∷◌, map}
 use Rattle.std.specs.List.{AllZip}
 use Rattle.std.specs.declared.alloc.Global.{Global}
 use Rattle.std.specs.declared.vec.Vec.{Vec}

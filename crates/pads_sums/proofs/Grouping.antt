@@ -1,16 +1,14 @@
 -- The samples of a list, value by value: each value as often as it comes, in the order of first coming.
 -- They have the same distinct samples as the list, and as many of them pass any test.
-use Rattle.std.proofs.Common.{◌≡◌, ◌∙◌, sym, ap, refl, ℕ, zero, suc, ◌+◌, ◌≤◌, ◌<◌, Bool, true, false, cond, not, ◌||◌, ◌&&◌, true≢false, List, [], ◌∷◌, ◌++◌, arith}
+use Rattle.std.proofs.Common.{◌≡◌, ◌∙◌, sym, ap, refl, ℕ, zero, suc, ◌+◌, Bool, true, false, cond, not, ◌||◌, true≢false, List, [], ◌∷◌, ◌++◌, arith}
 use Rattle.std.specs.Cmp.{signed_Decides}
 use Rattle.std.specs.List.{count_by, filter}
 use Rattle.std.proofs.Math.ListN.{replicate}
-use Rattle.std.proofs.Math.Bool.{or-true}
-use Rattle.std.proofs.lemmas.List.Elements.{filter_agree}
 use Rattle.std.proofs.lemmas.Slice.Eq.{bytes_eq-Decides}
 use Rattle.pads_sums.specs.Adding.{Pairs}
 use Rattle.pads_sums.specs.Samples.{Sample, num, text, same}
 use Rattle.pads_sums.specs.Distinct.{distinct, occurrences}
-use Rattle.pads_sums.proofs.Lists.{count_append, count_cons, filter_both}
+use Rattle.pads_sums.proofs.Lists.{count_append, count_cons}
 use Rattle.pads_sums.proofs.Members.{Apart}
 use Rattle.pads_sums.proofs.DistinctLaws.{same_equiv, is_in, in_distinct}
 use Rattle.pads_sums.proofs.AddingLaws.{distinct_apart, occurs_none, paired}

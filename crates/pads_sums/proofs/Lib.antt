@@ -9,7 +9,10 @@ pub mod Lists
 pub mod Members
 pub mod MergingLaws
 pub mod NumberLaws
+pub mod NumberMerging
+pub mod OtherLaws
 pub mod Positions
+pub mod SumMerging
 pub mod Rows
 pub mod SampleKinds
 pub mod SumLaws

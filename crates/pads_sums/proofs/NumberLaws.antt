@@ -17,7 +17,7 @@ pub total_next : (ns : List ℤ) (n : ℤ) → total (ns ++ n ∷ []) ≡ total 
 total_next ns n = fold_push (λ so_far number. so_far +ℤ number) (pos 0) ns n
 
 -- from -m to m
-record Within (m : ℕ) (z : ℤ) : Type 0 where
+pub record Within (m : ℕ) (z : ℤ) : Type 0 where
   pub above : neg_ℤ (pos m) ≤ℤ z
   pub below : z ≤ℤ pos m
 
@@ -25,7 +25,7 @@ number-within : (n : ℤ) → in_range n ≡ true → Within (2 ^ 64) n
 number-within (pos n) range = let h = ltb-true n (2 ^ 64) range in record { above = omega (arith, ints); below = omega (arith, ints) }
 number-within (negsuc n) range = let h = ltb-true n (2 ^ 63) range in record { above = omega (arith, ints); below = omega (arith, ints) }
 
-plus-within : (a b : ℕ) (x y : ℤ) → Within a x → Within b y → Within (a + b) (x +ℤ y)
+pub plus-within : (a b : ℕ) (x y : ℤ) → Within a x → Within b y → Within (a + b) (x +ℤ y)
 plus-within a b x y hx hy =
     let x_above = hx.above in
     let x_below = hx.below in
@@ -45,13 +45,13 @@ fold-within (n ∷ ns) a m h all =
     let P : ℕ → Type 0 = λ k. Within k (fold (λ so_far number. so_far +ℤ number) (a +ℤ n) ns) in
     subst P e (fold-within ns (a +ℤ n) (m + 2 ^ 64) (plus-within m (2 ^ 64) a n h (number-within n both.0)) both.1)
 
-total_within : (ns : List ℤ) → list_all in_range ns ≡ true → Within (length ns * 2 ^ 64) (total ns)
+pub total_within : (ns : List ℤ) → list_all in_range ns ≡ true → Within (length ns * 2 ^ 64) (total ns)
 total_within ns all =
     let zero_within : Within 0 (pos 0) = record { above = omega (arith, ints); below = omega (arith, ints) } in
     let e : 0 + length ns * 2 ^ 64 ≡ length ns * 2 ^ 64 = omega arith in
     subst (λ k. Within k (total ns)) e (fold-within ns (pos 0) 0 zero_within all)
 
-fits-wide : (m : ℕ) (z : ℤ) → m ≤ 2 ^ 127 - 1 → Within m z → saturate_signed w128 z ≡ z
+pub fits-wide : (m : ℕ) (z : ℤ) → m ≤ 2 ^ 127 - 1 → Within m z → saturate_signed w128 z ≡ z
 fits-wide m (pos n) small h = let below = h.below in ap pos (omega (arith, ints))
 fits-wide m (negsuc n) small h = let above = h.above in ap negsuc (omega (arith, ints))
 

@@ -1,6 +1,7 @@
 -- Rows of sums, computed on their definitions.
 use Rattle.std.proofs.Common.{◌≡◌, refl, pos, negsuc, ◌^◌, ◌-◌, true, false, List, [], ◌∷◌, codes, Some, None}
 use Rattle.pads_sums.specs.Distinct.{distinct, tracked, others}
+use Rattle.pads_sums.specs.Merging.{joined, merged}
 use Rattle.pads_sums.specs.Nodes.{in_range, number_sample, name_sample}
 use Rattle.pads_sums.specs.Samples.{Sample, num, text}
 use Rattle.pads_sums.specs.Sums.{kept}
@@ -72,3 +73,21 @@ a-name = refl
 
 no-such-name : name_sample (codes "some" ∷ []) 1 ≡ None
 no-such-name = refl
+
+-- later values go behind those that are there; with room for two, the third counts among the others
+two-joined : joined (Some 2) ((num (pos 7), 3) ∷ [], 0) ((num (pos 5), 2) ∷ (num (pos 7), 1) ∷ (num (pos 9), 4) ∷ [])
+    ≡ ((num (pos 7), 4) ∷ (num (pos 5), 2) ∷ [], 4)
+two-joined = refl
+
+all-joined : joined None ((num (pos 7), 3) ∷ [], 0) ((num (pos 9), 4) ∷ (num (pos 7), 1) ∷ []) ≡ ((num (pos 7), 4) ∷ (num (pos 9), 4) ∷ [], 0)
+all-joined = refl
+
+-- the sum of the first samples, merged with that of the later ones, is that of all
+sums-merged : merged (Some 2) (kept (Some 2) (codes "n") 3 1 (num (pos 7) ∷ num (negsuc 1) ∷ num (pos 7) ∷ []))
+    (kept None (codes "n") 3 2 (num (pos 3) ∷ num (negsuc 1) ∷ num (pos 7) ∷ []))
+    ≡ kept (Some 2) (codes "n") 6 3 samples
+sums-merged = refl
+
+-- where no numbers have come, those of the later sum stand
+first-numbers : (merged None (kept None (codes "n") 0 1 []) (kept None (codes "n") 1 0 (num (pos 5) ∷ []))).least ≡ pos 5
+first-numbers = refl

@@ -42,10 +42,10 @@ samples_few form (node ∷ nodes) =
     let count = count_cons (λ node. node.clean) node nodes in
     omega (arith, here, rest, count)
 
-numbers-few : (xs : List Sample) → length (numbers xs) ≤ length xs
-numbers-few [] = omega arith
-numbers-few (num n ∷ xs) = let rest = numbers-few xs in omega (arith, rest)
-numbers-few (text points ∷ xs) = let rest = numbers-few xs in omega (arith, rest)
+pub numbers_few : (xs : List Sample) → length (numbers xs) ≤ length xs
+numbers_few [] = omega arith
+numbers_few (num n ∷ xs) = let rest = numbers_few xs in omega (arith, rest)
+numbers_few (text points ∷ xs) = let rest = numbers_few xs in omega (arith, rest)
 
 in-range : (numeric : Bool) (n : ℤ) → suits numeric (num n) ≡ true → in_range n ≡ true
 in-range true n one = one
@@ -57,7 +57,7 @@ module _ (room : Option ℕ) (place : List ℕ) (good bad : ℕ) (numeric : Bool
   small = omega arith
 
   few-numbers : length (numbers xs) ≤ 2 ^ 62
-  few-numbers = let fewer = numbers-few xs in omega (arith, fewer)
+  few-numbers = let fewer = numbers_few xs in omega (arith, fewer)
 
   kept-number : (n : ℤ) → suits numeric (num n) ≡ true → kept room place good bad (xs ++ num n ∷ []) ≡ with_sample room (Some (num n)) (kept room place good bad xs)
   kept-number n one =

@@ -39,12 +39,12 @@ module _ (room : Option ℕ) where
       (λ sample. ap (λ n. (sample, n)) (count_append (same sample) xs ys)) (within room (distinct xs ++ new_to xs (distinct ys)))
 
 -- tests that agree on all values of a list count alike
-count-agree : (p q : Sample → Bool) (xs : List Sample) → ((x : Sample) → is_in x xs ≡ true → p x ≡ q x) → count_by p xs ≡ count_by q xs
-count-agree p q [] agree = refl
-count-agree p q (x ∷ xs) agree =
+pub count_agree : (p q : Sample → Bool) (xs : List Sample) → ((x : Sample) → is_in x xs ≡ true → p x ≡ q x) → count_by p xs ≡ count_by q xs
+count_agree p q [] agree = refl
+count_agree p q (x ∷ xs) agree =
     count_cons p x xs
     ∙ (λ i. cond (agree x (ap (λ b. b || is_in x xs) (same_equiv.refl x)) i) 1 0
-    + count-agree p q xs (λ y there. agree y (ap (λ b. same y x || b) there ∙ or-true (same y x))) i)
+    + count_agree p q xs (λ y there. agree y (ap (λ b. same y x || b) there ∙ or-true (same y x))) i)
     ∙ sym (count_cons q x xs)
 
 -- the others of both are those of the first, and in the second the samples whose values aren't tracked
@@ -53,5 +53,5 @@ pub others_append : (room : Option ℕ) (xs ys : List Sample)
 others_append room xs ys =
     count_append (λ sample. not (is_tracked room (xs ++ ys) sample)) xs ys
     ∙ ap (λ n. n + count_by (λ sample. not (is_tracked room (xs ++ ys) sample)) ys)
-    (count-agree (λ sample. not (is_tracked room (xs ++ ys) sample)) (λ sample. not (is_tracked room xs sample)) xs
+    (count_agree (λ sample. not (is_tracked room (xs ++ ys) sample)) (λ sample. not (is_tracked room xs sample)) xs
     (λ sample there. ap not (tracked_already room sample xs ys there)))

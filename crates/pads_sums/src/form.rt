@@ -1,4 +1,7 @@
-use pads_value::{Bytes, Items};
+ghost use Rattle.std.specs.Prelude.{◌≡◌, IfOk};
+
+use pads_value::{Bytes, Items, Memory};
+use std::alloc::Global;
 
 /// Texts in their order, as the names of labels or branches.
 pub type Texts = Items<Bytes>;
@@ -25,4 +28,33 @@ pub enum PartForm {
     Branch(Texts),
     /// An array.
     Elements,
+}
+
+fn copy_texts(alloc: Global, texts: &[Bytes]) -> Result<Texts, Memory>
+    ensures equal { IfOk result (λ copied. copied ≡ texts.now) }
+{
+    let mut copied = Items::new(alloc);
+    for text in texts {
+        copied.push(Items::from_slice(alloc, text.as_slice())?)?;
+    }
+    Ok(copied)
+}
+
+impl PartForm {
+    /// A form equal to this one.
+    pub fn copy(&self, alloc: Global) -> Result<PartForm, Memory>
+        ensures equal { IfOk result (λ copied. copied ≡ self.now) }
+    {
+        Ok(match self {
+            PartForm::Record => PartForm::Record,
+            PartForm::Bare => PartForm::Bare,
+            PartForm::Number => PartForm::Number,
+            PartForm::Text => PartForm::Text,
+            PartForm::Address => PartForm::Address,
+            PartForm::Label(names) => PartForm::Label(copy_texts(alloc, names.as_slice())?),
+            PartForm::Fields => PartForm::Fields,
+            PartForm::Branch(names) => PartForm::Branch(copy_texts(alloc, names.as_slice())?),
+            PartForm::Elements => PartForm::Elements,
+        })
+    }
 }
