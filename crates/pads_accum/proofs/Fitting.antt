@@ -39,28 +39,28 @@ module _ (bound : ℕ) (placed : List Placed) where
       (fits_grown (at + 1) sums h.1)
 
 -- where no count would pass 2^62, all fit it
-or-none : (a b : Option Limit) → or_else a b ≡ None → (a ≡ None) × (b ≡ None)
-or-none None b h = (refl, h)
-or-none (Some x) b h = absurd (true≢false (ap is_some h))
+pub or_none : (a b : Option Limit) → or_else a b ≡ None → (a ≡ None) × (b ≡ None)
+or_none None b h = (refl, h)
+or_none (Some x) b h = absurd (true≢false (ap is_some h))
 
 over-step : (part count more : ℕ) (b : Bool) → nat_lt most (count + more) ≡ b → over part count more ≡ None → nat_le (count + more) most ≡ true
 over-step part count more true is none = absurd (true≢false (ap is_some (rw is at none)))
 over-step part count more false is none = le-leb (count + more) most (ltb-false most (count + more) is)
 
-over-none : (part count more : ℕ) → over part count more ≡ None → nat_le (count + more) most ≡ true
-over-none part count more none = over-step part count more (nat_lt most (count + more)) refl none
+pub over_none : (part count more : ℕ) → over part count more ≡ None → nat_le (count + more) most ≡ true
+over_none part count more none = over-step part count more (nat_lt most (count + more)) refl none
 
 pub fits_none : (before at : ℕ) (sums : List PartSum) (placed : List Placed) → placed_over before at sums placed ≡ None → fits_from most at sums placed ≡ true
 fits_none before at [] placed none = refl
 fits_none before at (sum ∷ sums) placed none =
-    let h = or-none (part_over (before + at) sum (picked at placed)) (placed_over before (at + 1) sums placed) none in
-    let counts = or-none (over (before + at) sum.good (count_by (λ node. node.clean) (picked at placed))) (over (before + at) sum.bad (count_by (λ node. not node.clean) (picked at placed))) h.0 in
-    both_true (both_true (over-none (before + at) sum.good _ counts.0) (over-none (before + at) sum.bad _ counts.1)) (fits_none before (at + 1) sums placed h.1)
+    let h = or_none (part_over (before + at) sum (picked at placed)) (placed_over before (at + 1) sums placed) none in
+    let counts = or_none (over (before + at) sum.good (count_by (λ node. node.clean) (picked at placed))) (over (before + at) sum.bad (count_by (λ node. not node.clean) (picked at placed))) h.0 in
+    both_true (both_true (over_none (before + at) sum.good _ counts.0) (over_none (before + at) sum.bad _ counts.1)) (fits_none before (at + 1) sums placed h.1)
 
 -- and where all fit it, no count would pass
 module _ (bound : ℕ) (small : bound ≤ most) where
-  none-over : (part count more : ℕ) → nat_le (count + more) bound ≡ true → over part count more ≡ None
-  none-over part count more fits =
+  pub none_over : (part count more : ℕ) → nat_le (count + more) bound ≡ true → over part count more ≡ None
+  none_over part count more fits =
       let h = leb-true (count + more) bound fits in
       rw (le-ltb most (count + more) (omega (arith, h, small))) refl
 
@@ -70,7 +70,7 @@ module _ (bound : ℕ) (small : bound ≤ most) where
       let h = both _ _ fits in
       let counts = both _ _ h.0 in
       rw (
-        none-over (before + at) sum.good (count_by (λ node. node.clean) (picked at placed)) counts.0,
-        none-over (before + at) sum.bad (count_by (λ node. not node.clean) (picked at placed)) counts.1,
+        none_over (before + at) sum.good (count_by (λ node. node.clean) (picked at placed)) counts.0,
+        none_over (before + at) sum.bad (count_by (λ node. not node.clean) (picked at placed)) counts.1,
       )
       (none_fits before (at + 1) sums placed h.1)

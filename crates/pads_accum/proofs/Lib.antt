@@ -1,9 +1,14 @@
+pub mod ChunkLaws
 pub mod Counting
 pub mod EmptyLaws
 pub mod Entries
+pub mod FewLists
 pub mod Fitting
 pub mod Indexed
 pub mod Layers
+pub mod MergeFitting
+pub mod Scans
+pub mod Turns
 pub mod ListFeeding
 pub mod PartFeeding
 pub mod Passing

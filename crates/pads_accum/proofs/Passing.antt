@@ -43,35 +43,35 @@ parts-pass : (sums : List PartSum) → list_any (λ part. nat_lt most part.good 
 parts-pass [] = refl
 parts-pass (sum ∷ sums) = (λ i. part-passes sum i || parts-pass sums i) ∙ or-not (part_within most sum) (parts_within most sums)
 
-passes-is : (lists : List SumList) → passes lists ≡ not (lists_within most lists)
-passes-is [] = refl
-passes-is (list ∷ lists) = (λ i. parts-pass list.parts i || passes-is lists i) ∙ or-not (parts_within most list.parts) (lists_within most lists)
+pub passes_is : (lists : List SumList) → passes lists ≡ not (lists_within most lists)
+passes_is [] = refl
+passes_is (list ∷ lists) = (λ i. parts-pass list.parts i || passes_is lists i) ∙ or-not (parts_within most list.parts) (lists_within most lists)
 
 within-from : (lists : List SumList) (b : Bool) → lists_within most lists ≡ b → passes lists ≡ false → lists_within most lists ≡ true
 within-from lists true is none = is
-within-from lists false is none = absurd (true≢false (sym (passes-is lists ∙ ap not is) ∙ none))
+within-from lists false is none = absurd (true≢false (sym (passes_is lists ∙ ap not is) ∙ none))
 
-within_unless : (lists : List SumList) → passes lists ≡ false → lists_within most lists ≡ true
+pub within_unless : (lists : List SumList) → passes lists ≡ false → lists_within most lists ≡ true
 within_unless lists none = within-from lists (lists_within most lists) refl none
 
-none-passes : (lists : List SumList) → lists_within most lists ≡ true → passes lists ≡ false
-none-passes lists within = passes-is lists ∙ ap not within
+pub none_passes : (lists : List SumList) → lists_within most lists ≡ true → passes lists ≡ false
+none_passes lists within = passes_is lists ∙ ap not within
 
 -- the summary of no rows passes nothing
 pub passes_none : (plan : List PlanList) → passes (summary_of plan []) ≡ false
-passes_none plan = none-passes (summary_of plan []) (lists_grown 0 most (omega arith) (summary_of plan []) (zero_within (Some tracked_most) plan))
+passes_none plan = none_passes (summary_of plan []) (lists_grown 0 most (omega arith) (summary_of plan []) (zero_within (Some tracked_most) plan))
 
 -- more rows give no smaller counts, so within with them is within without them
 module _ (room : Option ℕ) (rows more : List Row) where
-  nodes-more : (all : List PlanPart) (at : ℕ) → nodes_of all at (rows ++ more) ≡ nodes_of all at rows ++ nodes_of all at more
-  nodes-more all at =
+  pub nodes_more : (all : List PlanPart) (at : ℕ) → nodes_of all at (rows ++ more) ≡ nodes_of all at rows ++ nodes_of all at more
+  nodes_more all at =
       ap (picked at) (flat_map-append (row_nodes all) rows more) ∙ picked_append at (flat_map (row_nodes all) rows) (flat_map (row_nodes all) more)
 
   fewer : (test : Node → Bool) (all : List PlanPart) (at : ℕ)
       → nat_le (count_by test (nodes_of all at (rows ++ more))) most ≡ true → nat_le (count_by test (nodes_of all at rows)) most ≡ true
   fewer test all at within =
       let h = leb-true _ most within in
-      let all-nodes = ap (count_by test) (nodes-more all at) ∙ count_append test (nodes_of all at rows) (nodes_of all at more) in
+      let all-nodes = ap (count_by test) (nodes_more all at) ∙ count_append test (nodes_of all at rows) (nodes_of all at more) in
       le-leb _ most (omega (arith, h, all-nodes))
 
   parts-fewer : (all : List PlanPart) (at : ℕ) (parts : List PlanPart)
@@ -97,7 +97,7 @@ module _ (room : Option ℕ) (count : ℕ) (rows more : List Row) where
 passes-step : (plan : List PlanList) (rows more : List Row) (b : Bool) → passes (summary_of plan (rows ++ more)) ≡ b → passes (summary_of plan rows) ≡ true → b ≡ true
 passes-step plan rows more true is pass = refl
 passes-step plan rows more false is pass =
-    absurd (true≢false (sym pass ∙ none-passes (summary_of plan rows) (lists-fewer (Some tracked_most) (length plan) rows more 0 plan (within_unless (summary_of plan (rows ++ more)) is))))
+    absurd (true≢false (sym pass ∙ none_passes (summary_of plan rows) (lists-fewer (Some tracked_most) (length plan) rows more 0 plan (within_unless (summary_of plan (rows ++ more)) is))))
 
 -- a count that is above stays above
 pub passes_on : (plan : List PlanList) (rows more : List Row) → passes (summary_of plan rows) ≡ true → passes (summary_of plan (rows ++ more)) ≡ true
@@ -152,4 +152,4 @@ passes_next plan rows row none =
     let is = limit_is row plan (summary_of plan rows) within in
     let zero_more : at ≡ 0 + at = omega arith in
     let more = lists-limit (Some tracked_most) rows row (length plan) 0 at (before_list (summary_of plan rows) at) plan zero_more within in
-    (λ limit. none-passes (summary_of plan (rows ++ row ∷ [])) (more.0 (sym is ∙ limit)), λ after. is ∙ more.1 (within_unless (summary_of plan (rows ++ row ∷ [])) after))
+    (λ limit. none_passes (summary_of plan (rows ++ row ∷ [])) (more.0 (sym is ∙ limit)), λ after. is ∙ more.1 (within_unless (summary_of plan (rows ++ row ∷ [])) after))

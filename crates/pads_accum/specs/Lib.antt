@@ -1,6 +1,7 @@
 pub mod Feeding
 pub mod Guides
 pub mod Limits
+pub mod Merging
 pub mod Placed
 pub mod Routes
 pub mod States

@@ -1,5 +1,5 @@
--- Whether a row would make a count pass the limit: the first such part of all lists numbered together,
--- its clean nodes looked at before the others, with the count that was wanted.
+-- Whether a row or a chunk would make a count pass the limit: the first such part of all lists numbered
+-- together, its clean nodes looked at before the others, with the count that was wanted.
 use Rattle.std.specs.Prelude.{ℕ, ◌+◌, ◌-◌, ◌^◌, min, nat_lt, Bool, not, ◌||◌, List, [], ◌∷◌, length, count_by, Option, Some, None, if◌then◌else◌}
 use Rattle.std.specs.List.{list_any}
 use Rattle.pads_value.specs.declared.row.Row.{Row}
@@ -42,6 +42,23 @@ lists_over count before at (plan ∷ plans) (list ∷ lists) rows =
 -- what the next row would make of a summary with this plan
 abbrev pub limit_of : List PlanList → List SumList → Row → Option Limit
 limit_of plan lists row = lists_over (length plan) 0 0 plan lists (row ∷ [])
+
+-- what later sums of the same parts would make of sums, part by part, from part number `number` of all on
+abbrev pub sums_over : ℕ → List PartSum → List PartSum → Option Limit
+sums_over number [] more = None
+sums_over number (sum ∷ sums) [] = None
+sums_over number (sum ∷ sums) (later ∷ more) =
+    or_else (or_else (over number sum.good later.good) (over number sum.bad later.bad)) (sums_over (number + 1) sums more)
+
+abbrev pub merging_over : ℕ → List SumList → List SumList → Option Limit
+merging_over before [] more = None
+merging_over before (list ∷ lists) [] = None
+merging_over before (list ∷ lists) (later ∷ more) =
+    or_else (sums_over before list.parts later.parts) (merging_over (before + length list.parts) lists more)
+
+-- what a chunk would make of a summary or of a chunk
+abbrev pub merge_limit : List SumList → List SumList → Option Limit
+merge_limit lists more = merging_over 0 lists more
 
 -- whether good or bad of some part is above 2^62
 abbrev pub passes : List SumList → Bool

@@ -1,7 +1,7 @@
 -- The summary of rows: for each part of a plan what is kept of all its nodes in the rows that feed its
 -- list. Where there are two lists, row 0 feeds the first, which is the header type's, and each other row
 -- the second.
-use Rattle.std.specs.Prelude.{ℕ, zero, suc, ◌+◌, nat_eq, List, [], ◌∷◌, length, map, flat_map, Option, Some}
+use Rattle.std.specs.Prelude.{ℕ, zero, suc, ◌+◌, nat_eq, List, [], ◌∷◌, length, map, flat_map, Option, None, Some}
 use Rattle.std.specs.List.{filter}
 use Rattle.pads_value.specs.declared.row.Row.{Row}
 use Rattle.pads_plan.specs.declared.part.PlanList.{PlanList}
@@ -52,3 +52,7 @@ module _ (room : Option ℕ) where
 -- a summary tracks the first 1,000 values of each part
 abbrev pub summary_of : List PlanList → List Row → List SumList
 summary_of plan rows = summed (Some most) plan rows
+
+-- a chunk tracks all values of each part, in the order in which they first come
+abbrev pub all_of : List PlanList → List Row → List SumList
+all_of plan rows = summed None plan rows

@@ -26,7 +26,7 @@ fn fed(count: usize, number: u64) -> usize
 }
 
 /// How many parts stand before the first or the second list.
-fn before(lists: &[SumList], at: usize) -> u64
+pub(crate) fn before(lists: &[SumList], at: usize) -> u64
     requires few { at ≤ 1 }
     ensures before { result ≡ before_list lists.now at }
     ensures small { result < 2 ^ 63 }

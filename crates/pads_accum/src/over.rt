@@ -9,10 +9,10 @@ use crate::place::Found;
 use pads_sums::PartSum;
 
 /// The most that a count may be.
-const MOST: u64 = 1 << 62;
+pub(crate) const MOST: u64 = 1 << 62;
 
 /// A count that rises by so many, where it would pass 2^62.
-fn over(part: u64, count: u64, more: u64) -> Option<Limit>
+pub(crate) fn over(part: u64, count: u64, more: u64) -> Option<Limit>
     ensures over { result ≡ over_of part count more }
 {
     let wanted = count.saturating_add(more);

@@ -1,4 +1,4 @@
-ghost use Rattle.std.specs.Prelude.{◌≡◌, ◌≤◌, ◌^◌, ◌++◌, ◌∷◌, [], List, map, true, false, IfOk, OnOk, None, Some};
+ghost use Rattle.std.specs.Prelude.{◌≡◌, ◌≤◌, ◌^◌, ◌++◌, ◌∷◌, [], List, length, map, true, false, IfOk, OnOk, None, Some};
 ghost use Rattle.pads_value.specs.Refusals.{OnFault};
 ghost use Rattle.pads_value.specs.declared.row.Row.{Row as RowOf};
 ghost use Rattle.pads_accum.specs.Feeding.{lists_within};
@@ -27,6 +27,8 @@ pub(crate) struct Sums {
     pub(crate) bound: u64,
     pub(crate) spent: bool,
     pub(crate) alloc: Global,
+    pub(crate) ghost few: { length guides ≤ 2 },
+    pub(crate) ghost few_lists: { spent ≡ false → length lists ≤ 2 },
     pub(crate) ghost small: { bound ≤ 2 ^ 62 },
     pub(crate) ghost within: { spent ≡ false → lists_within bound lists ≡ true },
 }
@@ -34,6 +36,7 @@ pub(crate) struct Sums {
 impl Sums {
     /// The sums of no rows.
     pub(crate) fn new(alloc: Global, plan: PlanLists, room: Option<u64>) -> Result<Sums, Memory>
+        requires few { length plan ≤ 2 }
         ensures plan { IfOk result (λ sums. map plan_of sums.guides ≡ plan) }
         ensures room { IfOk result (λ sums. sums.room ≡ room) }
         ensures empty { IfOk result (λ sums. sums.lists ≡ summed room plan []) }
