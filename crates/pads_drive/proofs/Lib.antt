@@ -9,5 +9,6 @@ pub mod Outputs
 pub mod Progress
 pub mod ReadSteps
 pub mod Refilling
+pub mod Sharing
 pub mod Small
 pub mod Waiting

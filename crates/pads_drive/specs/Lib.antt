@@ -8,5 +8,6 @@ pub mod LittleAhead
 pub mod Moments
 pub mod Outputs
 pub mod Progress
+pub mod Sharing
 pub mod Stopping
 pub mod Writing

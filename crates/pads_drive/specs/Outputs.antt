@@ -5,6 +5,10 @@ use Rattle.std.specs.List.{flat_map}
 use Rattle.pads_value.specs.Cuts.{Cut}
 use Rattle.pads_drive.specs.declared.output.Output.{Output}
 
+-- output with later output behind it
+abbrev pub joined : Output → Output → Output
+joined output later = record { out = output.out ++ later.out; notes = output.notes ++ later.notes }
+
 -- A command as plain data.
 pub record Work (Row Tally : Type 0) : Type 0 where
   -- the row of the record of a number in a frame

@@ -1,136 +1,90 @@
-ghost use Rattle.std.specs.Prelude.{◌≡◌, ◌+◌, ◌<◌, ◌^◌, [], ◌∷◌, ◌++◌, List, true, length, map, IfOk, OnOk};
-ghost use Rattle.pads_value.specs.Cuts.{cut_of_kept};
+ghost use Rattle.std.specs.Prelude.{◌≡◌, [], ◌∷◌, ◌++◌, List, true, IfOk, OnOk};
+ghost use Rattle.pads_value.specs.Cuts.{cut_of_frame};
 ghost use Rattle.pads_drive.specs.Counting.{Counts};
-ghost use Rattle.pads_drive.specs.Outputs.{Work, Tallies, added, output_of, rows_of};
+ghost use Rattle.pads_drive.specs.Outputs.{Work, Tallies, added};
+ghost use Rattle.pads_drive.specs.Sharing.{IsShare, Shares};
 
 use crate::limit::Limit;
 use crate::output::Output;
-use pads_value::{Items, Kept, Memory, Refusal};
+use pads_value::{Frame, Memory, Refusal};
 use std::alloc::Global;
 
-/// What is done with the records of an input, in two steps: the rows of some frames are made, and then
-/// for each row it is said what is written on the sinks `out` and notes, and what the row adds to a tally,
-/// by which a command learns of all rows, as whether each is clean. A row follows from its record's
-/// number, counted from 0, and its frame, whose offsets are bytes in the whole input; what is written
-/// for it follows from the row; and the tally from the list of all rows. Each call leaves the command as it
-/// was, whatever it answers: what it changes, as the stacks that it reads with, is no part of its value.
-pub trait Command {
-    /// What a record reads as.
-    type Row: Drop;
+/// What is done with the records of an input. The records of a batch are divided into pieces, and each
+/// piece is done by a worker, which shares the command with the others: it makes a reader, and reads one
+/// record after another and gives its row, that is, it says what the row writes on the sinks `out` and
+/// notes and counts the row in the worker's share. The shares are added, in the order of the pieces, to a tally, by
+/// which a command learns of all rows, as whether each is clean. A row follows from its record's number,
+/// counted from 0, and its frame, whose offsets are bytes in the whole input; what is written for it
+/// follows from the row; and a share and the tally from the list of their rows. So it doesn't matter
+/// how many workers there are.
+pub trait Command: Sync {
+    /// What a record reads as. It stays with the worker that read it.
+    type Row: Send + Drop;
 
     /// What is counted over all rows.
-    type Tally: Drop;
+    type Tally: Send + Drop;
+
+    /// What a worker counts over the rows of its piece.
+    type Share: Send + Drop;
+
+    /// What a worker reads by, such as the stacks of a machine: one for each piece.
+    type Reader: Send + Drop;
 
     // All that the command does, as plain data.
     ghost work: { Self → Work Self.Row Self.Tally };
 
-    /// The rows of the records in these frames, the first of which has this number.
-    fn read(
-        &mut self,
-        alloc: Global,
-        number: u64,
-        frames: &[Kept],
-    ) -> Result<Items<Self::Row>, Memory>
-        requires numbered { number + length frames.now < 2 ^ 64 }
-        ensures rows { IfOk result (λ rows. rows ≡ rows_of (work self.old) number (map cut_of_kept frames.now)) }
-        ensures same { self.new ≡ self.old };
+    // The share of rows that follow each other.
+    ghost share_of: { Self → List Self.Row → Self.Share };
 
-    /// Puts what is to be written for a row behind the output, and counts it. `Limit` comes exactly
-    /// where the tally can't count it beside the rows before it. Where the call refuses, the reading
-    /// stops and nothing of the output is written, so no clause says what then stands in it.
-    fn give(
-        &mut self,
+    // Records can be read by this reader.
+    ghost suits: { Self → Self.Reader → Type 0 };
+
+    /// A reader for the records of a piece.
+    fn reader(&self, alloc: Global) -> Result<Self::Reader, Memory>
+        ensures suits { IfOk result (suits self.now) };
+
+    /// The share of no rows.
+    fn none(&self, alloc: Global) -> Result<Self::Share, Memory>
+        ensures none { IfOk result (IsShare (work self.now) (share_of self.now) []) };
+
+    /// The row of the record of this number in a frame.
+    fn read(
+        &self,
         alloc: Global,
+        reader: &mut Self::Reader,
+        number: u64,
+        frame: &Frame,
+    ) -> Result<Self::Row, Memory>
+        requires suits { suits self.now reader.old }
+        ensures row { IfOk result (λ row. row ≡ (work self.now).row number (cut_of_frame frame.now)) }
+        ensures suits { suits self.now reader.new };
+
+    /// Puts what is to be written for a row behind the output, and counts the row in the share. `Limit` comes exactly
+    /// where it and the rows before it in the share are more than the tally can count. Where the call refuses, the
+    /// reading stops and nothing of the output is written, so no clause says what then stands in it.
+    fn give(
+        &self,
+        alloc: Global,
+        reader: &mut Self::Reader,
         row: &Self::Row,
         output: &mut Output,
-        tally: &mut Self::Tally,
+        share: &mut Self::Share,
     ) -> Result<(), Refusal<Limit>>
-        ensures output { OnOk result (output.new ≡ added (work self.old) row.now output.old) }
-        ensures tally { (before : List Self.Row) → Tallies (work self.old) before tally.old
-            → Counts (work self.old) before (row.now ∷ []) tally.new result }
-        ensures same { self.new ≡ self.old };
+        requires suits { suits self.now reader.old }
+        requires shared { (rows : List Self.Row) × IsShare (work self.now) (share_of self.now) rows share.old }
+        ensures output { OnOk result (output.new ≡ added (work self.now) row.now output.old) }
+        ensures share { (rows : List Self.Row) → IsShare (work self.now) (share_of self.now) rows share.old
+            → Shares (work self.now) (share_of self.now) (rows ++ row.now ∷ []) share.new result }
+        ensures suits { suits self.now reader.new };
 
-    // Rows that the tally can't count aren't counted with more behind them.
-    ghost stays_over: { (command : Self) (rows more : List Self.Row) → (work command).is_over rows ≡ true
-        → (work command).is_over (rows ++ more) ≡ true };
-}
+    /// Adds the share of later rows to the tally of those before them. `Limit` comes exactly where it can't count them all.
+    fn add(&self, tally: &mut Self::Tally, share: Self::Share) -> Result<(), Refusal<Limit>>
+        requires counted { (before : List Self.Row) × Tallies (work self.now) before tally.old }
+        requires shared { (rows : List Self.Row) × IsShare (work self.now) (share_of self.now) rows share }
+        ensures tally { (before rows : List Self.Row) → Tallies (work self.now) before tally.old
+            → IsShare (work self.now) (share_of self.now) rows share → Counts (work self.now) before rows tally.new result };
 
-/// Of so many frames at most the rows are made before they are given. The values of a few rows take the
-/// memory that the rows before them gave back, where those of a whole batch would take new memory.
-const GROUP: usize = 2;
-
-/// Puts what is to be written for these rows behind the output, and counts them behind the rows before
-/// them.
-fn give_rows<C: Command>(
-    command: &mut C,
-    alloc: Global,
-    rows: &[C::Row],
-    output: &mut Output,
-    tally: &mut C::Tally,
-) -> Result<(), Refusal<Limit>>
-    ensures output { (before : List C.Row) → output.old ≡ output_of (C.work command.old) before
-        → OnOk result (output.new ≡ output_of (C.work command.old) (before ++ rows.now)) }
-    ensures tally { (before : List C.Row) → Tallies (C.work command.old) before tally.old
-        → Counts (C.work command.old) before rows.now tally.new result }
-    ensures same { command.new ≡ command.old }
-{
-    'rows: for row in rows {
-        if let Err(refusal) = command.give(alloc, row, output, tally) {
-            return Err(refusal);
-        }
-    }
-    Ok(())
-}
-
-/// Makes the rows of these frames, the first of which has this number, and gives them.
-fn give_group<C: Command>(
-    command: &mut C,
-    alloc: Global,
-    number: u64,
-    frames: &[Kept],
-    output: &mut Output,
-    tally: &mut C::Tally,
-) -> Result<(), Refusal<Limit>>
-    requires numbered { number + length frames.now < 2 ^ 64 }
-    ensures output { (before : List C.Row) → output.old ≡ output_of (C.work command.old) before
-        → OnOk result (output.new ≡ output_of (C.work command.old)
-        (before ++ rows_of (C.work command.old) number (map cut_of_kept frames.now))) }
-    ensures tally { (before : List C.Row) → Tallies (C.work command.old) before tally.old
-        → Counts (C.work command.old) before (rows_of (C.work command.old) number (map cut_of_kept frames.now)) tally.new result }
-    ensures same { command.new ≡ command.old }
-{
-    let Ok(rows) = command.read(alloc, number, frames) else {
-        return Err(Refusal::Memory);
-    };
-    give_rows(command, alloc, rows.as_slice(), output, tally)
-}
-
-/// What is to be written for the rows of these frames, the first of which has this number. The tally
-/// counts them behind the rows before them.
-pub(crate) fn give_batch<C: Command>(
-    command: &mut C,
-    alloc: Global,
-    number: u64,
-    frames: &[Kept],
-    tally: &mut C::Tally,
-) -> Result<Output, Refusal<Limit>>
-    requires numbered { number + length frames.now < 2 ^ 64 }
-    ensures output { IfOk result (λ output. output ≡ output_of (C.work command.old)
-        (rows_of (C.work command.old) number (map cut_of_kept frames.now))) }
-    ensures tally { (before : List C.Row) → Tallies (C.work command.old) before tally.old
-        → Counts (C.work command.old) before (rows_of (C.work command.old) number (map cut_of_kept frames.now)) tally.new result }
-    ensures same { command.new ≡ command.old }
-{
-    let mut output = Output::new(alloc);
-    let mut left = frames;
-    let mut next = number;
-    'groups: while !left.is_empty() {
-        let (group, more) = left.split_at(left.len().min(GROUP));
-        if let Err(refusal) = give_group(command, alloc, next, group, &mut output, tally) {
-            return Err(refusal);
-        }
-        next += group.len() as u64;
-        left = more;
-    }
-    Ok(output)
+    // Rows that can't be counted aren't counted among others either.
+    ghost stays_over: { (command : Self) (before rows more : List Self.Row) → (work command).is_over rows ≡ true
+        → (work command).is_over (before ++ rows ++ more) ≡ true };
 }

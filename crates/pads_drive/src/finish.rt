@@ -1,8 +1,9 @@
-ghost use Rattle.std.specs.Prelude.{◌≡◌, ◌+◌, ◌^◌, ◌≤◌, [], length, OnOk, IfErr};
+ghost use Rattle.std.specs.Prelude.{List, ◌<◌, ◌≡◌, ◌+◌, ◌^◌, ◌≤◌, [], length, OnOk, IfErr};
 ghost use Rattle.pads_frame.specs.State.{MayCome, reach};
 ghost use Rattle.pads_drive.specs.Driving.{IsWaiting};
 ghost use Rattle.pads_drive.specs.Halting.{Halts, IsFilled};
 ghost use Rattle.pads_drive.specs.Moments.{moment_of};
+ghost use Rattle.pads_drive.specs.Outputs.{Tallies};
 ghost use Rattle.pads_drive.specs.Progress.{Progresses, Stops};
 ghost use Rattle.pads_drive.specs.Stopping.{AtSink, HasSinkCause};
 
@@ -11,40 +12,46 @@ use crate::driving::Reading;
 use crate::flush::flush;
 use crate::pump::pump;
 use crate::stop::Stop;
+use pads_batch::Gate;
 use pads_io::Sink;
 use std::alloc::Global;
+use std::thread::Threads;
 
 /// Reads and writes all frames that are closed.
-pub(crate) fn finish<C: Command, K: Sink, E: Sink>(
-    command: &mut C,
+pub(crate) fn finish<R: Threads + Sync, C: Command, G: Gate + Sync, K: Sink, E: Sink>(
+    rt: &R,
+    command: &C,
     alloc: Global,
+    jobs: u32,
+    gate: &G,
     reading: &mut Reading<C::Tally>,
     out: &mut K,
     notes: &mut E,
 ) -> Result<(), Stop>
+    requires jobs { 0 < jobs }
     requires small { reading.old.number + length reading.old.batch.frames ≤ reading.old.framer.first }
     requires within { reach reading.old.framer ≤ 2 ^ 62 }
     requires filled { IsFilled reading.old.batch }
-    ensures ok { OnOk result (Progresses (C.work command.old)
+    requires counted { (before : List C.Row) × Tallies (C.work command.now) before reading.old.tally }
+    ensures ok { OnOk result (Progresses (C.work command.now)
         (K.written out.old) (K.written out.new) (E.written notes.old) (E.written notes.new)
         (moment_of reading.old) (moment_of reading.new) []) }
     ensures emptied { OnOk result (reading.new.batch.frames ≡ []) }
     ensures waiting { OnOk result (IsWaiting reading.new.framer) }
     ensures ended { OnOk result (reading.new.framer.ended ≡ reading.old.framer.ended) }
-    ensures err { IfErr result (Stops (C.work command.old)
+    ensures err { IfErr result (Stops (C.work command.now)
         (K.written out.old) (K.written out.new) (E.written notes.old) (E.written notes.new)
         (moment_of reading.old) [] (MayCome reading.old.framer)) }
-    ensures halts { IfErr result (AtSink (Halts (C.work command.old)
+    ensures halts { IfErr result (AtSink (Halts (C.work command.now)
         (K.written out.old) (K.written out.new) (E.written notes.old) (E.written notes.new)
         (moment_of reading.old) [] (MayCome reading.old.framer))) }
     ensures cause { HasSinkCause (K.faults out.old) (K.faults out.new) (E.faults notes.old) (E.faults notes.new)
-        ((row : C.Row) → (C.work command.old).notes row ≡ []) result }
-    ensures same { command.new ≡ command.old }
+        ((row : C.Row) → (C.work command.now).notes row ≡ []) result }
 {
-    if let Err(stop) = pump(command, alloc, reading, out, notes) {
+    if let Err(stop) = pump(rt, command, alloc, jobs, gate, reading, out, notes) {
         return Err(stop);
     }
-    if let Err(stop) = flush(command, alloc, reading, out, notes) {
+    if let Err(stop) = flush(rt, command, alloc, jobs, gate, reading, out, notes) {
         return Err(stop);
     }
     Ok(())

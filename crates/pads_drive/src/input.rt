@@ -14,9 +14,11 @@ use crate::finish::finish;
 use crate::refill::Refill;
 use crate::source::read_to_end;
 use crate::stop::Stop;
+use pads_batch::Gate;
 use pads_frame::{Discipline, Framer};
 use pads_io::{Sink, Source};
 use std::alloc::Global;
+use std::thread::Threads;
 
 /// Reads a source to its end, cuts its bytes into records, and writes on `out` and the notes what the
 /// command says of the row of each, in the order of the input. The tally, of no rows yet, counts them. What is left of the source is the whole input: its
@@ -34,11 +36,13 @@ use std::alloc::Global;
 /// tally can't count the rows of all records, and `Ended::Finished` only where it can. At `Stop::Out`
 /// and `Stop::Notes`, where no record of the input is too long or broken, the output of all records
 /// that the bytes read complete was written on both sinks, but for those in at most 2 `max` +
-/// 4,259,840 of the last bytes. What a source or sink doesn't tell, nothing is said of. At each answer the
-/// command is as it was.
-pub fn drive<C: Command, S: Source, K: Sink, E: Sink>(
-    command: &mut C,
+/// 4,259,840 of the last bytes. What a source or sink doesn't tell, nothing is said of.
+pub fn drive<R: Threads + Sync, C: Command, G: Gate + Sync, S: Source, K: Sink, E: Sink>(
+    rt: &R,
+    command: &C,
     alloc: Global,
+    jobs: u32,
+    gate: &G,
     tally: C::Tally,
     discipline: Discipline,
     max: u64,
@@ -46,21 +50,21 @@ pub fn drive<C: Command, S: Source, K: Sink, E: Sink>(
     out: &mut K,
     notes: &mut E,
 ) -> Result<Ended<C::Tally>, Stop>
+    requires jobs { 0 < jobs }
     requires some { 0 < max }
     requires limit { max ≤ 16777216 }
     requires fits_limit { FitsLimit discipline max }
-    requires none_counted { Tallies (C.work command.old) [] tally }
-    ensures gives { IfSome (S.left source.old) (λ input. DriveGives (C.work command.old) discipline max input (S.left source.new)
+    requires none_counted { Tallies (C.work command.now) [] tally }
+    ensures gives { IfSome (S.left source.old) (λ input. DriveGives (C.work command.now) discipline max input (S.left source.new)
         (K.written out.old) (K.written out.new) (E.written notes.old) (E.written notes.new) result) }
-    ensures ahead { IfErr result (AtSink (IfSome (S.left source.old) (IsLittleAhead (C.work command.old) discipline max
+    ensures ahead { IfErr result (AtSink (IfSome (S.left source.old) (IsLittleAhead (C.work command.now) discipline max
         (S.left source.new) (K.written out.old) (K.written out.new) (E.written notes.old) (E.written notes.new)))) }
-    ensures limit { IfErr result (AtLimit ((rows : List C.Row) × ((C.work command.old).is_over rows ≡ true))) }
+    ensures limit { IfErr result (AtLimit ((rows : List C.Row) × ((C.work command.now).is_over rows ≡ true))) }
     ensures read_fault { result ≡ Ok ended.ReadFault → Rose (S.faults source.old) (S.faults source.new) }
     ensures later { S.faults source.old ≤ S.faults source.new }
     ensures kept { IfOk result (λ outcome. outcome ≢ ended.ReadFault → S.faults source.new ≡ S.faults source.old) }
     ensures cause { HasSinkCause (K.faults out.old) (K.faults out.new) (E.faults notes.old) (E.faults notes.new)
-        ((row : C.Row) → (C.work command.old).notes row ≡ []) result }
-    ensures same { command.new ≡ command.old }
+        ((row : C.Row) → (C.work command.now).notes row ≡ []) result }
 {
     let Ok(framer) = Framer::new(alloc, discipline, max, 0) else {
         return Err(Stop::Memory);
@@ -71,11 +75,11 @@ pub fn drive<C: Command, S: Source, K: Sink, E: Sink>(
         number: 0,
         tally,
     };
-    let refill = match read_to_end(command, alloc, &mut reading, source, out, notes) {
+    let refill = match read_to_end(rt, command, alloc, jobs, gate, &mut reading, source, out, notes) {
         Ok(refill) => refill,
         Err(stop) => return Err(stop),
     };
-    if let Err(stop) = finish(command, alloc, &mut reading, out, notes) {
+    if let Err(stop) = finish(rt, command, alloc, jobs, gate, &mut reading, out, notes) {
         return Err(stop);
     }
     match refill {

@@ -11,6 +11,8 @@ mod driving;
 mod ended;
 mod finish;
 mod flush;
+mod gather;
+mod given;
 mod input;
 mod laws;
 mod limit;

@@ -1,4 +1,4 @@
-use pads_value::Bytes;
+use pads_value::{Bytes, Memory};
 use std::alloc::Global;
 
 /// What is to be written for some rows, in order.
@@ -11,7 +11,8 @@ pub struct Output {
 }
 
 impl Output {
-    ghost use Rattle.std.specs.Prelude.{◌≡◌, []};
+    ghost use Rattle.std.specs.Prelude.{◌≡◌, [], OnOk};
+    ghost use Rattle.pads_drive.specs.Outputs.{joined};
 
     /// What is to be written for no row.
     pub(crate) fn new(alloc: Global) -> Output
@@ -21,5 +22,16 @@ impl Output {
             out: Bytes::new(alloc),
             notes: Bytes::new(alloc),
         }
+    }
+    /// Puts later output behind this one. Behind nothing it isn't copied.
+    pub(crate) fn put_behind(&mut self, later: Output) -> Result<(), Memory>
+        ensures joined { OnOk result (self.new ≡ joined self.old later) }
+    {
+        if self.out.is_empty() && self.notes.is_empty() {
+            *self = later;
+            return Ok(());
+        }
+        self.out.extend_from_slice(later.out.as_slice())?;
+        self.notes.extend_from_slice(later.notes.as_slice())
     }
 }

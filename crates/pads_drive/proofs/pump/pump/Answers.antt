@@ -7,7 +7,7 @@ use Rattle.pads_drive.proofs.Waiting.{same_end}
 use Rattle.pads_drive.proofs.pump.pump.Goals as goal
 
 pub batches-init : goal.batches-init
-batches-init g c = record { same = refl; progress = progresses-same _ _ _ _; ended = refl; out_kept = refl; notes_kept = refl; kept = omega arith; filled = c.requires.filled }
+batches-init g c = record { progress = progresses-same _ _ _ _; ended = refl; out_kept = refl; notes_kept = refl; kept = omega arith; filled = c.requires.filled }
 
 pub returns-in-Err-clause-err : goal.returns-in-Err-clause-err
 returns-in-Err-clause-err g c =
@@ -25,7 +25,7 @@ returns-in-Err-flush-clause-err g c =
     let last = c.collect.new.framer in
     stops-after _ _ _ _ _ _ _ _ _ [] [] (MayCome start) _ (same_end start last ended)
     (progresses-trans _ _ _ _ _ _ _ _ _ _ [] [] c.batches.invariant.progress collected)
-    (stops-when _ _ _ _ _ _ [] (MayCome last) (MayCome start) _ (same_end start last ended) (rw c.batches.invariant.same at c.in-Err-flush.ensures.err))
+    (stops-when _ _ _ _ _ _ [] (MayCome last) (MayCome start) _ (same_end start last ended) c.in-Err-flush.ensures.err)
 
 pub returns-in-Err-flush-clause-halts : goal.returns-in-Err-flush-clause-halts
 returns-in-Err-flush-clause-halts g c =
@@ -37,14 +37,13 @@ returns-in-Err-flush-clause-halts g c =
     (progresses-trans _ _ _ _ _ _ _ _ _ _ [] [] c.batches.invariant.progress collected)
     (omega (arith, c.batches.invariant.kept, c.in-Ok-true.ensures.collects.kept))
     (halts-when _ _ _ _ _ _ [] (MayCome last) (MayCome start) (same_end start last ended) h))
-    (rw c.batches.invariant.same at c.in-Err-flush.ensures.halts)
+    c.in-Err-flush.ensures.halts
 
 pub batches-preserved : goal.batches-preserved
 batches-preserved g c =
     let collected = progresses-collected _ _ _ _ _ refl refl c.in-Ok-true.ensures.collects in
     record {
-      same = c.in_default.ensures.same ∙ c.batches.invariant.same;
-      progress = progresses-trans _ _ _ _ _ _ _ _ _ _ [] [] (progresses-trans _ _ _ _ _ _ _ _ _ _ [] [] c.batches.invariant.progress collected) (rw c.batches.invariant.same at c.in_default.ensures.ok);
+      progress = progresses-trans _ _ _ _ _ _ _ _ _ _ [] [] (progresses-trans _ _ _ _ _ _ _ _ _ _ [] [] c.batches.invariant.progress collected) c.in_default.ensures.ok;
       ended = ap (λ (s : State). s.ended) c.in_default.ensures.framer ∙ c.in-Ok-true.ensures.collects.input.ended ∙ c.batches.invariant.ended;
       out_kept = (none-counted _ _ _ _ _ _ c.in_default.ensures.cause).0 ∙ c.batches.invariant.out_kept;
       notes_kept = (none-counted _ _ _ _ _ _ c.in_default.ensures.cause).1 ∙ c.batches.invariant.notes_kept;

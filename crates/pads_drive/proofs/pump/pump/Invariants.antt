@@ -5,10 +5,9 @@ use Rattle.pads_drive.specs.Halting.{IsSized, met}
 use Rattle.pads_drive.specs.Moments.{moment_of}
 use Rattle.pads_drive.proofs.pump.pump.Given as goal
 
--- the command is as it was, no frame was lost so far, what was read is written, the input is open or ended as before, and no sink has counted a failure
-pub record Pumped {Command Row Tally : Type 0} (work : Command → Work Row Tally) (command last_command : Command) (o o' n n' : Option (List ℕ)) (old new : Moment Tally) (fo fo' fn fn' size : ℕ) : Type 0 where
-  pub same : last_command ≡ command
-  pub progress : Progresses (work command) o o' n n' old new []
+-- no frame was lost so far, what was read is written, the input is open or ended as before, and no sink has counted a failure
+pub record Pumped {Row Tally : Type 0} (work : Work Row Tally) (o o' n n' : Option (List ℕ)) (old new : Moment Tally) (fo fo' fn fn' size : ℕ) : Type 0 where
+  pub progress : Progresses work o o' n n' old new []
   pub ended : new.framer.ended ≡ old.framer.ended
   pub out_kept : fo' ≡ fo
   pub notes_kept : fn' ≡ fn
@@ -20,7 +19,7 @@ invariant-batches g l =
     let command = g.C.Command in
     let k = g.K.Sink in
     let e = g.E.Sink in
-    Pumped command.work l.initial.command l.command (k.written l.initial.out) (k.written l.out) (e.written l.initial.notes) (e.written l.notes)
+    Pumped (command.work l.command) (k.written l.initial.out) (k.written l.out) (e.written l.initial.notes) (e.written l.notes)
     (moment_of l.initial.reading) (moment_of l.reading) (k.faults l.initial.out) (k.faults l.out) (e.faults l.initial.notes) (e.faults l.notes) l.reading.batch.size
 
 abbrev pub decreases-batches : goal.decreases-batches

@@ -10,7 +10,6 @@ use Rattle.pads_drive.proofs.source.read_to_end.Goals as goal
 
 pub reads-init : goal.reads-init
 reads-init g c = record {
-  same = refl;
   reads = reads-none _ _ _ _ _;
   within = c.requires.within;
   open_still = c.requires.open;
@@ -23,36 +22,35 @@ reads-init g c = record {
 
 pub returns-in-Err-clause-err : goal.returns-in-Err-clause-err
 returns-in-Err-clause-err g c =
-    reads-stopped _ _ _ _ _ _ _ _ _ _ _ _ _ (λ ended more e. absurd (true≢false (sym e ∙ c.reads.invariant.open_still))) c.reads.invariant.open_still c.reads.invariant.reads (rw c.reads.invariant.same at c.in-Err.ensures.err)
+    reads-stopped _ _ _ _ _ _ _ _ _ _ _ _ _ (λ ended more e. absurd (true≢false (sym e ∙ c.reads.invariant.open_still))) c.reads.invariant.open_still c.reads.invariant.reads c.in-Err.ensures.err
 
 pub returns-in-Err-clause-halts : goal.returns-in-Err-clause-halts
 returns-in-Err-clause-halts g c =
     let never = λ (ended : Bool) (more : List ℕ) (any : Unit {0}) (over : c.reads.reading.framer.ended ≡ true). absurd (true≢false (sym over ∙ c.reads.invariant.open_still)) in
     at-sink-map _ _ _ (λ h. halts-read _ _ _ _ _ _ _ _ _ _ _ [] Anything never c.reads.invariant.reads c.reads.invariant.caught
-    (halts-when _ _ _ _ _ _ [] (MayCome c.reads.reading.framer) Anything never h)) (rw c.reads.invariant.same at c.in-Err.ensures.halts)
+    (halts-when _ _ _ _ _ _ [] (MayCome c.reads.reading.framer) Anything never h)) c.in-Err.ensures.halts
 
 pub returns-in-End-clause-caught : goal.returns-in-End-clause-caught
 returns-in-End-clause-caught g c =
-    let pumped = reads-pumped _ _ _ _ _ _ _ _ _ _ _ _ c.reads.invariant.reads (rw c.reads.invariant.same at c.in_default.ensures.ok) in
+    let pumped = reads-pumped _ _ _ _ _ _ _ _ _ _ _ _ c.reads.invariant.reads c.in_default.ensures.ok in
     caught-kept _ _ _ _ _ _ _ _ _ _ _ pumped (c.in_default.ensures.ended ∙ c.reads.invariant.open_still) c.in_default.ensures.waiting c.in-End.ensures.gives.0 refl
 
 pub returns-in-ReadFault-clause-caught : goal.returns-in-ReadFault-clause-caught
 returns-in-ReadFault-clause-caught g c =
-    let pumped = reads-pumped _ _ _ _ _ _ _ _ _ _ _ _ c.reads.invariant.reads (rw c.reads.invariant.same at c.in_default.ensures.ok) in
+    let pumped = reads-pumped _ _ _ _ _ _ _ _ _ _ _ _ c.reads.invariant.reads c.in_default.ensures.ok in
     caught-kept _ _ _ _ _ _ _ _ _ _ _ pumped (c.in_default.ensures.ended ∙ c.reads.invariant.open_still) c.in_default.ensures.waiting c.in-ReadFault.ensures.gives.0 refl
 
 pub returns-in-TooLong-clause-caught : goal.returns-in-TooLong-clause-caught
 returns-in-TooLong-clause-caught g c =
-    let pumped = reads-pumped _ _ _ _ _ _ _ _ _ _ _ _ c.reads.invariant.reads (rw c.reads.invariant.same at c.in_default.ensures.ok) in
+    let pumped = reads-pumped _ _ _ _ _ _ _ _ _ _ _ _ c.reads.invariant.reads c.in_default.ensures.ok in
     caught-took _ _ _ _ _ _ _ _ _ _ _ _ _ pumped (c.in_default.ensures.ended ∙ c.reads.invariant.open_still) c.in_default.ensures.waiting c.in-TooLong.ensures.gives.2 refl
 
 pub reads-preserved : goal.reads-preserved
 reads-preserved g c =
-    let pumped = reads-pumped _ _ _ _ _ _ _ _ _ _ _ _ c.reads.invariant.reads (rw c.reads.invariant.same at c.in_default.ensures.ok) in
+    let pumped = reads-pumped _ _ _ _ _ _ _ _ _ _ _ _ c.reads.invariant.reads c.in_default.ensures.ok in
     let still = c.in_default.ensures.ended ∙ c.reads.invariant.open_still in
     let took = c.in-More.ensures.gives.1 in
     record {
-      same = c.in_default.ensures.same ∙ c.reads.invariant.same;
       reads = reads-more _ _ _ _ _ _ _ _ _ _ _ _ [] pumped refl refl refl still took;
       within = took.within;
       open_still = took.input.ended ∙ still;
@@ -65,7 +63,7 @@ reads-preserved g c =
 
 pub returns-in-End-clause-ok : goal.returns-in-End-clause-ok
 returns-in-End-clause-ok g c =
-    let pumped = reads-pumped _ _ _ _ _ _ _ _ _ _ _ _ c.reads.invariant.reads (rw c.reads.invariant.same at c.in_default.ensures.ok) in
+    let pumped = reads-pumped _ _ _ _ _ _ _ _ _ _ _ _ c.reads.invariant.reads c.in_default.ensures.ok in
     let still = c.in_default.ensures.ended ∙ c.reads.invariant.open_still in
     let gives = c.in-End.ensures.gives in (
       reads-kept _ _ _ _ _ _ _ _ _ _ _ pumped gives.0 refl refl refl still (λ ended more. ap (λ (s : State). rest ended s more) gives.2) (ap reach gives.2) (ap (λ (s : State). s.first) gives.2),
@@ -75,7 +73,7 @@ returns-in-End-clause-ok g c =
 
 pub returns-in-ReadFault-clause-ok : goal.returns-in-ReadFault-clause-ok
 returns-in-ReadFault-clause-ok g c =
-    let pumped = reads-pumped _ _ _ _ _ _ _ _ _ _ _ _ c.reads.invariant.reads (rw c.reads.invariant.same at c.in_default.ensures.ok) in
+    let pumped = reads-pumped _ _ _ _ _ _ _ _ _ _ _ _ c.reads.invariant.reads c.in_default.ensures.ok in
     let still = c.in_default.ensures.ended ∙ c.reads.invariant.open_still in
     let gives = c.in-ReadFault.ensures.gives in
     let rose = gives.1 in (
@@ -86,7 +84,7 @@ returns-in-ReadFault-clause-ok g c =
 
 pub returns-in-TooLong-clause-ok : goal.returns-in-TooLong-clause-ok
 returns-in-TooLong-clause-ok g c =
-    let pumped = reads-pumped _ _ _ _ _ _ _ _ _ _ _ _ c.reads.invariant.reads (rw c.reads.invariant.same at c.in_default.ensures.ok) in
+    let pumped = reads-pumped _ _ _ _ _ _ _ _ _ _ _ _ c.reads.invariant.reads c.in_default.ensures.ok in
     let still = c.in_default.ensures.ended ∙ c.reads.invariant.open_still in
     let gives = c.in-TooLong.ensures.gives in
     (gives.1, reads-more _ _ _ _ _ _ _ _ _ _ _ _ _ pumped refl refl refl still gives.2, gives.3, gives.4, gives.2.input.ended ∙ still)

@@ -7,10 +7,9 @@ use Rattle.pads_drive.specs.Halting.{Caught, IsSized}
 use Rattle.pads_drive.specs.Moments.{moment_of}
 use Rattle.pads_drive.proofs.source.read_to_end.Given as goal
 
--- the command is as it was, no byte was lost so far, the input is open, and nothing has counted a failure
-pub record ReadSoFar {Command Row Tally : Type 0} (work : Command → Work Row Tally) (command last_command : Command) (left left' o o' n n' : Option (List ℕ)) (old new : Moment Tally) (fs fs' fo fo' fn fn' size : ℕ) : Type 0 where
-  pub same : last_command ≡ command
-  pub reads : Reads (work command) left left' o o' n n' old new []
+-- no byte was lost so far, the input is open, and nothing has counted a failure
+pub record ReadSoFar {Row Tally : Type 0} (work : Work Row Tally) (left left' o o' n n' : Option (List ℕ)) (old new : Moment Tally) (fs fs' fo fo' fn fn' size : ℕ) : Type 0 where
+  pub reads : Reads work left left' o o' n n' old new []
   pub within : reach new.framer ≤ 2 ^ 62
   pub open_still : new.framer.ended ≡ false
   pub source_kept : fs' ≡ fs
@@ -25,7 +24,7 @@ invariant-reads g l =
     let s = g.S.Source in
     let k = g.K.Sink in
     let e = g.E.Sink in
-    ReadSoFar command.work l.initial.command l.command (s.left l.initial.source) (s.left l.source) (k.written l.initial.out) (k.written l.out)
+    ReadSoFar (command.work l.command) (s.left l.initial.source) (s.left l.source) (k.written l.initial.out) (k.written l.out)
     (e.written l.initial.notes) (e.written l.notes) (moment_of l.initial.reading) (moment_of l.reading) (s.faults l.initial.source) (s.faults l.source) (k.faults l.initial.out) (k.faults l.out)
     (e.faults l.initial.notes) (e.faults l.notes) l.reading.batch.size
 
