@@ -1,15 +1,9 @@
 -- The rows of frames that follow each other, what is written for them, and for one more.
-use Rattle.std.proofs.Common.{◌≡◌, ℕ, ◌+◌, ◌^◌, ◌<◌, true, List, [], ◌∷◌, ◌++◌, length, take, drop, get_or, map, refl, sym, ap, subst, ◌∙◌, append_assoc, append-nil, take-append-drop, length-append, length-take, arith}
-use Rattle.std.proofs.lemmas.Grind.{flat_map-append}
+use Rattle.std.proofs.Common.{◌≡◌, ℕ, ◌+◌, ◌<◌, List, [], ◌∷◌, ◌++◌, length, take, drop, get_or, map, refl, sym, ap, ◌∙◌, append_assoc, append-nil, take-append-drop, length-take, arith}
 use Rattle.std.proofs.lemmas.List.{take_more, map-append, length-map}
 use Rattle.pads_value.specs.Cuts.{Cut, cut_of_kept}
 use Rattle.pads_value.specs.declared.frame.Kept.{Kept}
-use Rattle.pads_value.specs.declared.memory.Refusal.{Refusal}
-use Rattle.pads_value.specs.declared.memory.Refusal.TheVariants as refusal
-use Rattle.pads_drive.specs.Counting.{Refuses}
-use Rattle.pads_drive.specs.Outputs.{Work, Tallies, added, output_of, rows_of}
-use Rattle.pads_drive.specs.declared.limit.Limit.{Limit}
-use Rattle.pads_drive.specs.declared.output.Output.{Output}
+use Rattle.pads_drive.specs.Outputs.{Work, Tallies, rows_of}
 
 module _ {Row Tally : Type 0} (work : Work Row Tally) where
   pub rows_of-append : (number : ℕ) (xs ys : List Cut) → rows_of work number (xs ++ ys) ≡ rows_of work number xs ++ rows_of work (number + length xs) ys
@@ -49,7 +43,7 @@ module _ {Row Tally : Type 0} (work : Work Row Tally) where
   -- the rows of all frames are those of the first and of the others
   pub rows-apart : (number i : ℕ) (frames : List Kept)
       → rows_of work number (map cut_of_kept frames)
-        ≡ rows_of work number (map cut_of_kept (take i frames)) ++ rows_of work (number + length (map cut_of_kept (take i frames))) (map cut_of_kept (drop i frames))
+      ≡ rows_of work number (map cut_of_kept (take i frames)) ++ rows_of work (number + length (map cut_of_kept (take i frames))) (map cut_of_kept (drop i frames))
   rows-apart number i frames =
       ap (λ l. rows_of work number (map cut_of_kept l)) (sym (take-append-drop i frames)) ∙ ap (rows_of work number) (map-append cut_of_kept (take i frames) (drop i frames))
       ∙ rows_of-append number (map cut_of_kept (take i frames)) (map cut_of_kept (drop i frames))

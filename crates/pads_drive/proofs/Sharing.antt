@@ -1,13 +1,13 @@
 -- What one worker gives of one record more, and what is put together of the parts that workers give.
-use Rattle.std.proofs.Common.{◌≡◌, ℕ, ◌+◌, ◌<◌, true, List, [], ◌∷◌, ◌++◌, length, take, drop, get_or, map, refl, sym, ap, subst, ◌∙◌, append_assoc, append-nil, length-take, arith}
+use Rattle.std.proofs.Common.{◌≡◌, ℕ, ◌+◌, ◌<◌, true, List, [], ◌∷◌, ◌++◌, length, take, drop, get_or, map, refl, sym, ap, subst, ◌∙◌, append_assoc, append-nil, arith}
 use Rattle.std.proofs.lemmas.Grind.{flat_map-append}
 use Rattle.std.proofs.lemmas.List.{length-map, map-append}
-use Rattle.std.specs.Prelude.{Result, Ok, Err}
+use Rattle.std.specs.Prelude.{Result}
 use Rattle.std.specs.List.{flat_map}
 use denote.Ref.{Bor}
 use denote.Param.Members.{Shared}
 use Rattle.pads_batch.specs.Pieces.{GivesEach, GivesPieces}
-use Rattle.pads_value.specs.Cuts.{Cut, cut_of_kept}
+use Rattle.pads_value.specs.Cuts.{cut_of_kept}
 use Rattle.pads_value.specs.declared.frame.Kept.{Kept}
 use Rattle.pads_value.specs.declared.memory.Refusal.{Refusal}
 use Rattle.pads_value.specs.declared.memory.Refusal.TheVariants as refusal
@@ -132,7 +132,7 @@ module _ {Row Tally Share : Type 0} (work : Work Row Tally) (share_of : List Row
   -- what a function gives of pieces of frames is given of the rows of all of them
   module _ {F : Type 0} (calls : Shared F (ℕ × (Bor (List Kept) × Unit {0})) (Result (Given Share) (Refusal Limit))) (f : F) (number : ℕ)
       (gives : (place : ℕ) (piece : Bor (List Kept)) (r : Result (Given Share) (Refusal Limit)) → calls.post f (place, (piece, tt)) r
-        → IsGiven work share_of (rows_of work (number + place) (map cut_of_kept piece.now)) r) where
+      → IsGiven work share_of (rows_of work (number + place) (map cut_of_kept piece.now)) r) where
     pieces-given : (place : ℕ) (pieces : List (List Kept)) (results : List (Result (Given Share) (Refusal Limit))) → GivesEach calls f place pieces results
         → AreGiven work share_of (rows_of work (number + place) (map cut_of_kept (flat_map (λ piece. piece) pieces))) results
     pieces-given place [] [] given = rows_of-none work (number + place)
@@ -154,7 +154,7 @@ module _ {Row Tally Share : Type 0} (work : Work Row Tally) (share_of : List Row
   pub batch-given : {F : Type 0} (calls : Shared F (ℕ × (Bor (List Kept) × Unit {0})) (Result (Given Share) (Refusal Limit))) (f : F) (number most : ℕ) (frames : List Kept)
       (results : List (Result (Given Share) (Refusal Limit))) → GivesPieces calls f most frames results
       → ((place : ℕ) (piece : Bor (List Kept)) (r : Result (Given Share) (Refusal Limit)) → calls.post f (place, (piece, tt)) r
-        → IsGiven work share_of (rows_of work (number + place) (map cut_of_kept piece.now)) r)
+      → IsGiven work share_of (rows_of work (number + place) (map cut_of_kept piece.now)) r)
       → AreGiven work share_of (rows_of work number (map cut_of_kept frames)) results
   batch-given calls f number most frames results given gives =
       let here : number + 0 ≡ number = omega arith in

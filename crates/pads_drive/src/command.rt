@@ -10,13 +10,13 @@ use pads_value::{Frame, Memory, Refusal};
 use std::alloc::Global;
 
 /// What is done with the records of an input. The records of a batch are divided into pieces, and each
-/// piece is done by a worker, which shares the command with the others: it makes a reader, and reads one
-/// record after another and gives its row, that is, it says what the row writes on the sinks `out` and
-/// notes and counts the row in the worker's share. The shares are added, in the order of the pieces, to a tally, by
-/// which a command learns of all rows, as whether each is clean. A row follows from its record's number,
-/// counted from 0, and its frame, whose offsets are bytes in the whole input; what is written for it
-/// follows from the row; and a share and the tally from the list of their rows. So it doesn't matter
-/// how many workers there are.
+/// piece is done by a worker, which shares the command with the others: it makes a reader, and reads
+/// one record after another and gives its row, that is, it says what the row writes on the sinks `out`
+/// and notes and counts the row in the worker's share. The shares are added, in the order of the
+/// pieces, to a tally, by which a command learns of all rows, as whether each is clean. A row follows
+/// from its record's number, counted from 0, and its frame, whose offsets are bytes in the whole input;
+/// what is written for it follows from the row; and a share and the tally from the list of their rows.
+/// So it doesn't matter how many workers there are.
 pub trait Command: Sync {
     /// What a record reads as. It stays with the worker that read it.
     type Row: Send + Drop;
@@ -59,9 +59,10 @@ pub trait Command: Sync {
         ensures row { IfOk result (λ row. row ≡ (work self.now).row number (cut_of_frame frame.now)) }
         ensures suits { suits self.now reader.new };
 
-    /// Puts what is to be written for a row behind the output, and counts the row in the share. `Limit` comes exactly
-    /// where it and the rows before it in the share are more than the tally can count. Where the call refuses, the
-    /// reading stops and nothing of the output is written, so no clause says what then stands in it.
+    /// Puts what is to be written for a row behind the output, and counts the row in the share. `Limit`
+    /// comes exactly where it and the rows before it in the share are more than the tally can count.
+    /// Where the call refuses, the reading stops and nothing of the output is written, so no clause
+    /// says what then stands in it.
     fn give(
         &self,
         alloc: Global,
@@ -77,7 +78,8 @@ pub trait Command: Sync {
             → Shares (work self.now) (share_of self.now) (rows ++ row.now ∷ []) share.new result }
         ensures suits { suits self.now reader.new };
 
-    /// Adds the share of later rows to the tally of those before them. `Limit` comes exactly where it can't count them all.
+    /// Adds the share of later rows to the tally of those before them. `Limit` comes exactly where it
+    /// can't count them all.
     fn add(&self, tally: &mut Self::Tally, share: Self::Share) -> Result<(), Refusal<Limit>>
         requires counted { (before : List Self.Row) × Tallies (work self.now) before tally.old }
         requires shared { (rows : List Self.Row) × IsShare (work self.now) (share_of self.now) rows share }

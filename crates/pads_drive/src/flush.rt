@@ -49,7 +49,16 @@ pub(crate) fn flush<R: Threads + Sync, C: Command, G: Gate + Sync, K: Sink, E: S
         ((row : C.Row) → (C.work command.now).notes row ≡ []) result }
 {
     let frames = reading.batch.frames.as_slice();
-    let output = match give_batch(rt, command, alloc, jobs, gate, reading.number, frames, &mut reading.tally) {
+    let output = match give_batch(
+        rt,
+        command,
+        alloc,
+        jobs,
+        gate,
+        reading.number,
+        frames,
+        &mut reading.tally,
+    ) {
         Ok(output) => output,
         Err(Refusal::Fault(Limit)) => return Err(Stop::Limit),
         Err(Refusal::Memory) => return Err(Stop::Memory),

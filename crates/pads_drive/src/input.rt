@@ -21,9 +21,12 @@ use std::alloc::Global;
 use std::thread::Threads;
 
 /// Reads a source to its end, cuts its bytes into records, and writes on `out` and the notes what the
-/// command says of the row of each, in the order of the input. The tally, of no rows yet, counts them. What is left of the source is the whole input: its
-/// first byte has offset 0, and its first record number 0. A record has at most `max` bytes, or else
-/// is marked as too long.
+/// command says of the row of each, in the order of the input. The tally, of no rows yet, counts them.
+/// What is left of the source is the whole input: its first byte has offset 0, and its first record
+/// number 0. A record has at most `max` bytes, or else is marked as too long.
+///
+/// The records of a batch are read by at most `jobs` workers, which pass the gate before each. What
+/// comes of it is the same for any number of them.
 ///
 /// The source is read in pieces of at most 4,096 bytes, and the frames that they complete are gathered
 /// into batches: one has at most 256 frames, and takes no more once they have 4,194,304 bytes. A full
@@ -75,7 +78,17 @@ pub fn drive<R: Threads + Sync, C: Command, G: Gate + Sync, S: Source, K: Sink, 
         number: 0,
         tally,
     };
-    let refill = match read_to_end(rt, command, alloc, jobs, gate, &mut reading, source, out, notes) {
+    let refill = match read_to_end(
+        rt,
+        command,
+        alloc,
+        jobs,
+        gate,
+        &mut reading,
+        source,
+        out,
+        notes,
+    ) {
         Ok(refill) => refill,
         Err(stop) => return Err(stop),
     };

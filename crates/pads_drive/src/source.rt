@@ -19,7 +19,14 @@ use std::thread::Threads;
 
 /// Reads a source to its end, in pieces of at most 4,096 bytes. Each full batch is read and written
 /// before more is read.
-pub(crate) fn read_to_end<R: Threads + Sync, C: Command, G: Gate + Sync, S: Source, K: Sink, E: Sink>(
+pub(crate) fn read_to_end<
+    R: Threads + Sync,
+    C: Command,
+    G: Gate + Sync,
+    S: Source,
+    K: Sink,
+    E: Sink,
+>(
     rt: &R,
     command: &C,
     alloc: Global,

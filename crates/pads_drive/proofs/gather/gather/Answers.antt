@@ -1,4 +1,4 @@
-use Rattle.std.proofs.Common.{◌∙◌, ◌∷◌, List, length, subst, sym}
+use Rattle.std.proofs.Common.{◌∙◌, subst, sym}
 use Rattle.pads_drive.proofs.Sharing.{Gathered, gathered-all, gathered-more, gathered-none, gathered-refused, next-counted, next-given}
 use Rattle.pads_drive.proofs.gather.gather.Goals as goal
 

@@ -1,6 +1,4 @@
-use Rattle.std.proofs.Common.{refl, ap, arith, length, map, take, ◌+◌}
-use Rattle.pads_value.specs.Cuts.{cut_of_kept}
-use Rattle.pads_drive.specs.Outputs.{rows_of}
+use Rattle.std.proofs.Common.{arith}
 use Rattle.pads_drive.proofs.Outputs.{front-rows, rows_of-none}
 use Rattle.pads_drive.proofs.Sharing.{gives-more, refuses-frames}
 use Rattle.pads_drive.proofs.given.give_piece.Goals as goal
@@ -18,8 +16,10 @@ pub returns-in-Err : goal.returns-in-Err
 returns-in-Err g c =
     let so_far = c.frames.invariant in
     let laws = g.met.C.Command g.world.𝓛 g.world.𝓜 g.world.𝓡 ((λ s x. x), (λ x. x), (λ x. x), λ x. x) in
-    record { given = refuses-frames (g.C.Command.work c.args.command.now) (g.C.Command.share_of c.args.command.now) (laws.stays_over c.args.command.now) c.args.first_no c.frames.number c.frames.kept-index c.args.frames.now c.kept-item.result
-        c.frames-test.true c.kept-item.is so_far.counted c.in-Err.refusal (c.in-Err.ensures.share _ so_far.given.shared) }
+    record {
+      given = refuses-frames (g.C.Command.work c.args.command.now) (g.C.Command.share_of c.args.command.now) (laws.stays_over c.args.command.now) c.args.first_no c.frames.number c.frames.kept-index c.args.frames.now c.kept-item.result
+          c.frames-test.true c.kept-item.is so_far.counted c.in-Err.refusal (c.in-Err.ensures.share _ so_far.given.shared);
+    }
 
 pub frames-preserved : goal.frames-preserved
 frames-preserved g c =
