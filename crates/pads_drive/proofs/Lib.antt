@@ -2,6 +2,7 @@
 pub mod Ahead
 pub mod Behind
 pub mod Blame
+pub mod Chunks
 pub mod Driven
 pub mod Growing
 pub mod Halting

@@ -6,7 +6,7 @@ use Rattle.std.specs.Prelude.{Result}
 use Rattle.std.specs.List.{flat_map}
 use denote.Ref.{Bor}
 use denote.Param.Members.{Shared}
-use Rattle.pads_batch.specs.Pieces.{GivesEach, GivesPieces}
+use Rattle.pads_drive.specs.Pieces.{GivesEach, GivesPieces}
 use Rattle.pads_value.specs.Cuts.{cut_of_kept}
 use Rattle.pads_value.specs.declared.frame.Kept.{Kept}
 use Rattle.pads_value.specs.declared.memory.Refusal.{Refusal}

@@ -7,6 +7,7 @@ pub mod Halting
 pub mod LittleAhead
 pub mod Moments
 pub mod Outputs
+pub mod Pieces
 pub mod Progress
 pub mod Sharing
 pub mod Stopping

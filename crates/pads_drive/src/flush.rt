@@ -8,10 +8,10 @@ ghost use Rattle.pads_drive.specs.Stopping.{AtSink, HasSinkCause};
 
 use crate::command::Command;
 use crate::driving::{Batch, Reading, write_output};
+use crate::gate::Gate;
 use crate::gather::give_batch;
 use crate::limit::Limit;
 use crate::stop::Stop;
-use pads_batch::Gate;
 use pads_io::Sink;
 use pads_value::Refusal;
 use std::alloc::Global;

@@ -5,10 +5,11 @@ ghost use Rattle.pads_drive.specs.Outputs.{Tallies, output_of, rows_of};
 ghost use Rattle.pads_drive.specs.Sharing.{AreGiven, IsGiven, IsShare};
 
 use crate::command::Command;
+use crate::gate::Gate;
 use crate::given::{Given, give_piece};
 use crate::limit::Limit;
 use crate::output::Output;
-use pads_batch::{Gate, in_pieces};
+use crate::pieces::in_pieces;
 use pads_value::{Items, Kept, Refusal};
 use std::alloc::Global;
 use std::thread::Threads;

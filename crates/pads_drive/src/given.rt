@@ -4,9 +4,9 @@ ghost use Rattle.pads_drive.specs.Outputs.{added, rows_of};
 ghost use Rattle.pads_drive.specs.Sharing.{IsGiven, IsShare, Shares};
 
 use crate::command::Command;
+use crate::gate::Gate;
 use crate::limit::Limit;
 use crate::output::Output;
-use pads_batch::Gate;
 use pads_value::{Kept, Refusal};
 use std::alloc::Global;
 

@@ -9,10 +9,10 @@ ghost use Rattle.pads_drive.specs.Stopping.{AtSink, HasSinkCause};
 
 use crate::command::Command;
 use crate::driving::{Reading, refill};
+use crate::gate::Gate;
 use crate::pump::pump;
 use crate::refill::Refill;
 use crate::stop::Stop;
-use pads_batch::Gate;
 use pads_io::{Sink, Source};
 use std::alloc::Global;
 use std::thread::Threads;

@@ -1,5 +1,5 @@
 ghost use Rattle.std.specs.Prelude.{◌≡◌, ◌<◌, ◌≤◌, [], ◌∷◌, length, IfOk};
-ghost use Rattle.pads_batch.specs.Pieces.{Gives, GivesPieces, TakesPieces};
+ghost use Rattle.pads_drive.specs.Pieces.{Gives, GivesPieces, TakesPieces};
 
 use pads_value::{Items, Memory};
 use std::alloc::Global;

@@ -1,8 +1,8 @@
 use Rattle.std.proofs.Common.{rules, ◌≡◌, ◌<◌, ◌≤◌, [], ◌∷◌, length, IfOk, ℕ, ◌+◌, ◌-◌, ◌*◌, ◌/◌, ◌%◌, List, ◌++◌, false, true, zero, suc, sym, ◌∙◌, arith}
 use Rattle.std.specs.Bool.{◌==◌}
-use Rattle.pads_batch.specs.Pieces.{Gives, GivesPieces, TakesPieces}
-use Rattle.pads_batch.proofs.Chunks.{accepts-chunks, gives-chunks, gives-if-one}
-use Rattle.pads_batch.proofs.pieces.in_pieces.Goals as goal
+use Rattle.pads_drive.specs.Pieces.{Gives, GivesPieces, TakesPieces}
+use Rattle.pads_drive.proofs.Chunks.{accepts-chunks, gives-chunks, gives-if-one}
+use Rattle.pads_drive.proofs.pieces.in_pieces.Goals as goal
 
 pub map_chunks-requires-clause-accepts : goal.map_chunks-requires-clause-accepts
 map_chunks-requires-clause-accepts g c κs within = accepts-chunks g.F.Fn c.args.f.now c.div_ceil-size.result c.args.items.now c.requires.takes
