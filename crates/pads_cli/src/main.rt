@@ -8,6 +8,7 @@ ghost use Rattle.pads_cli.specs.Codes.{code_of};
 ghost use Rattle.pads_orders.specs.Orders.{order_of};
 ghost use Rattle.pads_tool.specs.declared.status.Status.TheVariants as status;
 
+use pads_drive::NoGate;
 use pads_io::{RealFiles, RealSink, RealSource};
 use pads_orders::{Word, Words};
 use pads_tool::{Status, run};
@@ -15,6 +16,7 @@ use pads_value::Memory;
 use std::env;
 use std::io::ErrorKind;
 use std::process::ExitCode;
+use std::thread::Threads;
 
 /// The words of the command line. Where one isn't UTF-8 there are none, which is no order.
 fn words(rt: &HostRuntime) -> Result<Words, Memory> {
@@ -31,7 +33,11 @@ fn words(rt: &HostRuntime) -> Result<Words, Memory> {
 }
 
 /// Runs the words over the streams of the process and its file system.
-fn run_words(rt: &HostRuntime, words: &Words) -> Result<Status, Memory>
+fn run_words<R: Threads + Sync>(
+    rt: &HostRuntime,
+    threads: &R,
+    words: &Words,
+) -> Result<Status, Memory>
     ensures usage { IfOk result (λ ended. (ended ≡ status.Usage) ↔ (order_of words.now ≡ None)) }
 {
     let Ok(system) = rt.clone() else {
@@ -42,19 +48,21 @@ fn run_words(rt: &HostRuntime, words: &Words) -> Result<Status, Memory>
     let mut out = RealSink::new(rt.stdout());
     let mut notes = RealSink::new(rt.stderr());
     Ok(run(
+        threads,
         rt.alloc(),
         words,
         &mut files,
         &mut source,
         &mut out,
         &mut notes,
+        &NoGate,
     ))
 }
 
 /// Runs the words of the command line.
-fn run_line(rt: &HostRuntime) -> Result<Status, Memory> {
+fn run_line<R: Threads + Sync>(rt: &HostRuntime, threads: &R) -> Result<Status, Memory> {
     let words = words(rt)?;
-    run_words(rt, &words)
+    run_words(rt, threads, &words)
 }
 
 /// The exit status of a run, or that of want of memory where none was begun.
@@ -68,5 +76,5 @@ fn exit_code(ended: Result<Status, Memory>) -> u8
 }
 
 fn main(rt: HostRuntime) -> ExitCode {
-    ExitCode::from(exit_code(run_line(&rt)))
+    ExitCode::from(exit_code(run_line(&rt, &rt)))
 }

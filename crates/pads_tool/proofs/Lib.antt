@@ -1,5 +1,6 @@
 -- The lemmas of this crate.
 pub mod Counted
+pub mod Crossing
 pub mod Told
 pub mod Texts
 pub mod Records
@@ -9,7 +10,7 @@ pub mod Described
 pub mod Accepted
 pub mod Readers
 pub mod Tested
-pub mod Alike
+pub mod Chunks
 pub mod Masked
 pub mod Promises
 pub mod Queries

@@ -1,3 +1,4 @@
+pub mod Among
 pub mod Causes
 pub mod Checking
 pub mod Closing

@@ -4,7 +4,7 @@ use Rattle.std.specs.Prelude.{◌≡◌, ℕ, ◌^◌, ◌<◌, ◌≤◌, Bool,
 use Rattle.std.specs.Io.KnownBytes.{Appends, Consumes, IsAtEnd}
 use Rattle.std.specs.List.{list_all}
 use Rattle.pads_accum.specs.Limits.{passes}
-use Rattle.pads_accum.specs.Summaries.{summary_of}
+use Rattle.pads_accum.specs.Summaries.{all_of, summary_of}
 use Rattle.pads_module.specs.Modules.{Contents}
 use Rattle.pads_code.specs.declared.Coding.{Coding}
 use Rattle.pads_drive.specs.Outputs.{Work, rows_of}
@@ -26,6 +26,7 @@ use Rattle.pads_tool.specs.declared.ending.Ending.TheVariants as ending
 use Rattle.pads_tool.specs.declared.reason.Reason.{Reason}
 use Rattle.pads_tool.specs.declared.reason.Reason.TheVariants as reason
 use Rattle.pads_tool.specs.declared.summed.Summed.{Summed}
+use Rattle.pads_tool.specs.declared.summed.PieceSummed.{PieceSummed}
 
 module _ (m : Contents) where
   -- the sums of rows, by the parts of the module's record types
@@ -46,6 +47,10 @@ module _ (m : Contents) where
     tally = λ rows. record { summary = record { plan = lists_of m; lists = sums_of rows; spent = false }; clean = list_all is_clean rows };
     is_over = are_too_many;
   }
+
+  -- what a worker learns of the rows of its piece
+  abbrev pub piece_summed : List Row → PieceSummed
+  piece_summed rows = record { chunk = record { plan = lists_of m; lists = all_of (lists_of m) rows; spent = false }; clean = list_all is_clean rows }
 
 module _ (d : Description) where
   abbrev pub rows_summed : List Cut → List Row

@@ -1,5 +1,5 @@
 ghost use Rattle.std.specs.Prelude.{◌≡◌, ◌≢◌, ℕ, List, Option, false};
-ghost use Rattle.pads_orders.specs.Orders.{IsWithinLimits};
+ghost use Rattle.pads_orders.specs.Orders.{KeepSettings};
 ghost use Rattle.pads_tool.specs.Describing.{described, lines};
 ghost use Rattle.pads_tool.specs.Endings.{status_of};
 ghost use Rattle.pads_tool.specs.Reading.{RecordsGive};
@@ -10,17 +10,18 @@ ghost use Rattle.pads_module.specs.Modules.{contents};
 
 use crate::ending::Ending;
 use crate::reader::Reader;
-use crate::rows::{are_clean, ending_of, rows_in};
+use crate::rows::{are_clean, ending_of};
 use crate::text::read_under;
 use crate::unused::unused;
-use pads_code::Coding;
-use pads_drive::{Command, Limit, Output, drive};
+use pads_drive::{Command, Gate, Limit, Output, drive};
 use pads_erase::Mask;
 use pads_io::{Files, Sink, Source};
 use pads_json::record_line;
+use pads_machine::Machine;
 use pads_orders::{Cutting, Settings};
-use pads_value::{Kept, Memory, Refusal, Row, Rows};
+use pads_value::{Frame, Memory, Refusal, Row};
 use std::alloc::Global;
+use std::thread::Threads;
 
 /// The command that writes one line for each record.
 #[derive(Drop)]
@@ -29,8 +30,9 @@ pub(crate) struct Lines {
 }
 
 impl Command for Lines {
-    ghost use Rattle.std.specs.Prelude.{false};
-    ghost use Rattle.pads_tool.specs.Describing.{lines};
+    ghost use Rattle.std.specs.List.{list_all};
+    ghost use Rattle.std.specs.Prelude.{◌≤◌};
+    ghost use Rattle.pads_tool.specs.Describing.{is_clean, lines};
     ghost use Rattle.pads_module.specs.Modules.{contents};
 
     type Row = Row;
@@ -38,18 +40,42 @@ impl Command for Lines {
     /// Whether all records are clean.
     type Tally = bool;
 
+    /// The same of the records of a piece.
+    type Share = bool;
+
+    type Reader = Machine;
+
     ghost work = { λ command. lines (contents command.reader.module) };
 
-    fn read(&mut self, alloc: Global, number: u64, frames: &[Kept]) -> Result<Rows, Memory> {
-        rows_in(alloc, &mut self.reader, number, frames)
+    ghost share_of = { λ command rows. list_all is_clean rows };
+
+    ghost suits = { λ command machine. command.reader.image.need ≤ machine };
+
+    fn reader(&self, alloc: Global) -> Result<Machine, Memory> {
+        self.reader.machine(alloc)
+    }
+
+    fn none(&self, _alloc: Global) -> Result<bool, Memory> {
+        Ok(true)
+    }
+
+    fn read(
+        &self,
+        alloc: Global,
+        machine: &mut Machine,
+        number: u64,
+        frame: &Frame,
+    ) -> Result<Row, Memory> {
+        self.reader.read(alloc, machine, number, frame)
     }
 
     fn give(
-        &mut self,
+        &self,
         alloc: Global,
+        _machine: &mut Machine,
         row: &Row,
         output: &mut Output,
-        tally: &mut bool,
+        share: &mut bool,
     ) -> Result<(), Refusal<Limit>> {
         let Ok(line) = record_line(alloc, &self.reader.module, row) else {
             return Err(Refusal::Memory);
@@ -57,33 +83,43 @@ impl Command for Lines {
         let Ok(()) = output.out.extend_from_slice(line.as_slice()) else {
             return Err(Refusal::Memory);
         };
-        *tally = are_clean(*tally, row);
+        *share = are_clean(*share, row);
         Ok(())
     }
 
-    ghost stays_over = { λ _ _ _ over. over };
+    fn add(&self, tally: &mut bool, share: bool) -> Result<(), Refusal<Limit>> {
+        *tally = *tally && share;
+        Ok(())
+    }
+
+    ghost stays_over = { λ _ _ _ _ over. over };
 }
 
 /// Writes one line for each record of the source. While it reads, nothing is noted, and so the notes
 /// of the run aren't handed in.
-fn write_lines<S: Source, K: Sink>(
+fn write_lines<R: Threads + Sync, S: Source, K: Sink, G: Gate + Sync>(
+    rt: &R,
     alloc: Global,
-    command: &mut Lines,
-    cutting: Cutting,
+    command: &Lines,
+    settings: &Settings,
     source: &mut S,
     out: &mut K,
+    gate: &G,
 ) -> Ending
-    requires limits { IsWithinLimits cutting }
-    ensures gives { (noted : Option (List ℕ)) (notes : ℕ) → RecordsGive (λ d. lines d.made) false (described (contents command.old.reader.module) cutting)
+    requires limits { KeepSettings settings.now }
+    ensures gives { (noted : Option (List ℕ)) (notes : ℕ) → RecordsGive (λ d. lines d.made) false (described (contents command.now.reader.module) settings.now.cutting)
         (S.left source.old) (S.left source.new) (K.written out.old) (K.written out.new) noted noted
         (S.faults source.old) (S.faults source.new) (K.faults out.old) (K.faults out.new) notes notes result }
     ensures out_kept { result ≢ ending.WriteFault → K.faults out.new ≡ K.faults out.old }
     ensures source_kept { result ≢ ending.ReadFault → result ≢ ending.WriteFault → result ≢ ending.Memory → S.faults source.new ≡ S.faults source.old }
 {
-    let Cutting { discipline, max } = cutting;
+    let Cutting { discipline, max } = settings.cutting;
     ending_of(drive(
+        rt,
         command,
         alloc,
+        settings.jobs,
+        gate,
         true,
         discipline,
         max,
@@ -94,7 +130,8 @@ fn write_lines<S: Source, K: Sink>(
 }
 
 /// Writes one line for each record of the source, by the description in a file under a mask.
-pub(crate) fn parse<F: Files, S: Source, K: Sink>(
+pub(crate) fn parse<R: Threads + Sync, F: Files, S: Source, K: Sink, G: Gate + Sync>(
+    rt: &R,
     alloc: Global,
     name: &str,
     settings: &Settings,
@@ -102,8 +139,9 @@ pub(crate) fn parse<F: Files, S: Source, K: Sink>(
     files: &mut F,
     source: &mut S,
     out: &mut K,
+    gate: &G,
 ) -> Ending
-    requires limits { IsWithinLimits settings.now.cutting }
+    requires limits { KeepSettings settings.now }
     ensures gives { (noted : Option (List ℕ)) (notes : ℕ) → Keeps (parsing name.now settings.now mask.now)
         (seen (F.content files.old) (S.left source.old) (S.left source.new) (K.written out.old) (K.written out.new) noted noted)
         (counts (F.faults files.old) (F.faults files.new) (S.faults source.old) (S.faults source.new) (K.faults out.old) (K.faults out.new)
@@ -114,7 +152,7 @@ pub(crate) fn parse<F: Files, S: Source, K: Sink>(
     ensures source_kept { result ≢ ending.ReadFault → result ≢ ending.WriteFault → result ≢ ending.Memory → S.faults source.new ≡ S.faults source.old }
 {
     match read_under(alloc, files, name, settings.coding, mask) {
-        Ok(reader) => write_lines(alloc, &mut Lines { reader }, settings.cutting, source, out),
+        Ok(reader) => write_lines(rt, alloc, &Lines { reader }, settings, source, out, gate),
         Err(ending) => ending,
     }
 }

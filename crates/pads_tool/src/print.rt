@@ -1,7 +1,7 @@
 ghost use Rattle.std.specs.Prelude.{◌≡◌, ◌≢◌, ◌<◌, ◌≤◌, true, IfOk};
 ghost use Rattle.pads_module.specs.Modules.{contents};
 ghost use Rattle.pads_frame.specs.Fits.{FitsLimit};
-ghost use Rattle.pads_orders.specs.Orders.{IsWithinLimits};
+ghost use Rattle.pads_orders.specs.Orders.{KeepSettings};
 ghost use Rattle.pads_tool.specs.Describing.{described};
 ghost use Rattle.pads_tool.specs.Endings.{status_of};
 ghost use Rattle.pads_tool.specs.Limits.{FitsLimit-prop};
@@ -13,15 +13,17 @@ ghost use Rattle.pads_tool.specs.declared.ending.Ending.TheVariants as ending;
 
 use crate::ending::Ending;
 use crate::reader::Reader;
-use crate::rows::{ending_of, is_clean, rows_in};
+use crate::rows::{ending_of, is_clean};
 use crate::telling::Told;
 use crate::text::read_in;
-use pads_drive::{Command, Limit, Output, drive};
+use pads_drive::{Command, Gate, Limit, Output, drive};
 use pads_io::{Files, Sink, Source};
+use pads_machine::Machine;
 use pads_orders::{Cutting, Settings};
 use pads_print::Printed;
-use pads_value::{Bytes, Kept, Memory, Refusal, Row, Rows};
+use pads_value::{Bytes, Frame, Memory, Refusal, Row};
 use std::alloc::Global;
+use std::thread::Threads;
 
 /// The command that prints each clean record whose canonical bytes read back.
 #[derive(Drop)]
@@ -34,9 +36,10 @@ pub(crate) struct Prints {
 }
 
 impl Command for Prints {
-    ghost use Rattle.std.specs.Prelude.{false};
+    ghost use Rattle.std.specs.List.{list_all};
+    ghost use Rattle.std.specs.Prelude.{◌≤◌};
     ghost use Rattle.pads_tool.specs.Describing.{described};
-    ghost use Rattle.pads_tool.specs.Printing.{prints};
+    ghost use Rattle.pads_tool.specs.Printing.{is_printed, prints, told_of};
     ghost use Rattle.pads_module.specs.Modules.{contents};
 
     type Row = Row;
@@ -44,36 +47,71 @@ impl Command for Prints {
     /// Whether all records are printed.
     type Tally = bool;
 
+    /// The same of the records of a piece.
+    type Share = bool;
+
+    type Reader = Machine;
+
     ghost work = { λ command. prints (described (contents command.reader.module) command.cutting) };
 
-    fn read(&mut self, alloc: Global, number: u64, frames: &[Kept]) -> Result<Rows, Memory> {
-        rows_in(alloc, &mut self.reader, number, frames)
+    ghost share_of = { λ command rows. list_all (λ row. is_printed (told_of (described (contents command.reader.module) command.cutting) row)) rows };
+
+    ghost suits = { λ command machine. command.reader.image.need ≤ machine };
+
+    fn reader(&self, alloc: Global) -> Result<Machine, Memory> {
+        self.reader.machine(alloc)
+    }
+
+    fn none(&self, _alloc: Global) -> Result<bool, Memory> {
+        Ok(true)
+    }
+
+    fn read(
+        &self,
+        alloc: Global,
+        machine: &mut Machine,
+        number: u64,
+        frame: &Frame,
+    ) -> Result<Row, Memory> {
+        self.reader.read(alloc, machine, number, frame)
     }
 
     fn give(
-        &mut self,
+        &self,
         alloc: Global,
+        machine: &mut Machine,
         row: &Row,
         output: &mut Output,
-        tally: &mut bool,
+        share: &mut bool,
     ) -> Result<(), Refusal<Limit>> {
-        let Ok(told) = told(alloc, self, row) else {
+        let Ok(told) = told(alloc, self, machine, row) else {
             return Err(Refusal::Memory);
         };
         let Ok(()) = told.put(row.number, output) else {
             return Err(Refusal::Memory);
         };
-        *tally = told.are_printed(*tally);
+        *share = told.are_printed(*share);
         Ok(())
     }
 
-    ghost stays_over = { λ _ _ _ over. over };
+    fn add(&self, tally: &mut bool, share: bool) -> Result<(), Refusal<Limit>> {
+        *tally = *tally && share;
+        Ok(())
+    }
+
+    ghost stays_over = { λ _ _ _ _ over. over };
 }
 
 /// What is told of a record.
-pub(crate) fn told(alloc: Global, command: &mut Prints, row: &Row) -> Result<Told, Memory>
-    ensures told { IfOk result (λ told. told ≡ told_of (described (contents command.old.reader.module) command.old.cutting) row.now) }
-    ensures same { command.new ≡ command.old }
+pub(crate) fn told(
+    alloc: Global,
+    command: &Prints,
+    machine: &mut Machine,
+    row: &Row,
+) -> Result<Told, Memory>
+    requires room { command.now.reader.image.need ≤ machine.old }
+    ensures told { IfOk result (λ told. told ≡ told_of (described (contents command.now.reader.module) command.now.cutting) row.now) }
+    ensures room { machine.new ≡ machine.old }
 {
     if !is_clean(row) {
         return Ok(Told::NotClean);
@@ -81,7 +119,7 @@ pub(crate) fn told(alloc: Global, command: &mut Prints, row: &Row) -> Result<Tol
     let Cutting { discipline, max } = command.cutting;
     match pads_print::print(
         alloc,
-        &mut command.reader.machine,
+        machine,
         &command.reader.image,
         &command.reader.module,
         discipline,
@@ -97,14 +135,18 @@ pub(crate) fn told(alloc: Global, command: &mut Prints, row: &Row) -> Result<Tol
 }
 
 /// Prints each clean record of the source whose canonical bytes read back, and notes the others.
-fn print_records<S: Source, K: Sink, E: Sink>(
+fn print_records<R: Threads + Sync, S: Source, K: Sink, E: Sink, G: Gate + Sync>(
+    rt: &R,
     alloc: Global,
-    command: &mut Prints,
+    command: &Prints,
+    jobs: u32,
     source: &mut S,
     out: &mut K,
     notes: &mut E,
+    gate: &G,
 ) -> Ending
-    ensures gives { RecordsGive prints true (described (contents command.old.reader.module) command.old.cutting)
+    requires jobs { 0 < jobs }
+    ensures gives { RecordsGive prints true (described (contents command.now.reader.module) command.now.cutting)
         (S.left source.old) (S.left source.new) (K.written out.old) (K.written out.new) (E.written notes.old) (E.written notes.new)
         (S.faults source.old) (S.faults source.new) (K.faults out.old) (K.faults out.new) (E.faults notes.old) (E.faults notes.new) result }
     ensures out_kept { result ≢ ending.WriteFault → K.faults out.new ≡ K.faults out.old }
@@ -113,8 +155,11 @@ fn print_records<S: Source, K: Sink, E: Sink>(
 {
     let cutting = command.cutting;
     ending_of(drive(
+        rt,
         command,
         alloc,
+        jobs,
+        gate,
         true,
         cutting.discipline,
         cutting.max,
@@ -126,7 +171,8 @@ fn print_records<S: Source, K: Sink, E: Sink>(
 
 /// Prints each clean record of the source whose canonical bytes read back, by the description in a file, and notes the
 /// others.
-pub(crate) fn print<F: Files, S: Source, K: Sink, E: Sink>(
+pub(crate) fn print<R: Threads + Sync, F: Files, S: Source, K: Sink, E: Sink, G: Gate + Sync>(
+    rt: &R,
     alloc: Global,
     name: &str,
     settings: &Settings,
@@ -134,8 +180,9 @@ pub(crate) fn print<F: Files, S: Source, K: Sink, E: Sink>(
     source: &mut S,
     out: &mut K,
     notes: &mut E,
+    gate: &G,
 ) -> Ending
-    requires limits { IsWithinLimits settings.now.cutting }
+    requires limits { KeepSettings settings.now }
     ensures gives { Keeps (printing name.now settings.now)
         (seen (F.content files.old) (S.left source.old) (S.left source.new) (K.written out.old) (K.written out.new)
         (E.written notes.old) (E.written notes.new))
@@ -150,7 +197,16 @@ pub(crate) fn print<F: Files, S: Source, K: Sink, E: Sink>(
 {
     let cutting = settings.cutting;
     match read_in(alloc, files, name, settings.coding) {
-        Ok(reader) => print_records(alloc, &mut Prints { reader, cutting }, source, out, notes),
+        Ok(reader) => print_records(
+            rt,
+            alloc,
+            &Prints { reader, cutting },
+            settings.jobs,
+            source,
+            out,
+            notes,
+            gate,
+        ),
         Err(ending) => ending,
     }
 }

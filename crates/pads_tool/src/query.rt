@@ -1,6 +1,6 @@
 ghost use Rattle.std.specs.Prelude.{◌≡◌, ◌≢◌, ◌++◌, ℕ, List, Option, false, OnOk};
 ghost use Rattle.pads_module.specs.Modules.{contents};
-ghost use Rattle.pads_orders.specs.Orders.{IsWithinLimits};
+ghost use Rattle.pads_orders.specs.Orders.{KeepSettings};
 ghost use Rattle.pads_tool.specs.Describing.{described};
 ghost use Rattle.pads_tool.specs.Endings.{status_of};
 ghost use Rattle.pads_tool.specs.Promises.{Keeps, counts, querying, seen};
@@ -11,20 +11,22 @@ ghost use Rattle.pads_tool.specs.declared.ending.Ending.TheVariants as ending;
 
 use crate::ending::Ending;
 use crate::reader::Reader;
-use crate::rows::{are_clean, ending_of, rows_in};
+use crate::rows::{are_clean, ending_of};
 use crate::text::asked_in;
 use crate::unused::unused;
 use pads_calc::Shape;
-use pads_drive::{Command, Limit, Output, drive};
+use pads_drive::{Command, Gate, Limit, Output, drive};
 use pads_erase::Mask;
 use pads_expr::Expr;
 use pads_io::{Files, Sink, Source};
 use pads_json::node_line;
+use pads_machine::Machine;
 use pads_nodes::Cursor;
 use pads_orders::{Cutting, Question, Settings};
 use pads_question::{Asked, keeps};
-use pads_value::{Kept, Memory, Pd, Refusal, Row, Rows, Val};
+use pads_value::{Frame, Memory, Pd, Refusal, Row, Val};
 use std::alloc::Global;
+use std::thread::Threads;
 
 /// The command that writes one line for each node that is asked for.
 #[derive(Drop)]
@@ -34,8 +36,10 @@ pub(crate) struct Answers {
 }
 
 impl Command for Answers {
-    ghost use Rattle.std.specs.Prelude.{false};
+    ghost use Rattle.std.specs.List.{list_all};
+    ghost use Rattle.std.specs.Prelude.{◌≤◌};
     ghost use Rattle.pads_module.specs.Modules.{contents};
+    ghost use Rattle.pads_tool.specs.Describing.{is_clean};
     ghost use Rattle.pads_tool.specs.Querying.{answers};
 
     type Row = Row;
@@ -43,27 +47,56 @@ impl Command for Answers {
     /// Whether all records are clean.
     type Tally = bool;
 
+    /// The same of the records of a piece.
+    type Share = bool;
+
+    type Reader = Machine;
+
     ghost work = { λ command. answers (contents command.reader.module) command.asked };
 
-    fn read(&mut self, alloc: Global, number: u64, frames: &[Kept]) -> Result<Rows, Memory> {
-        rows_in(alloc, &mut self.reader, number, frames)
+    ghost share_of = { λ command rows. list_all is_clean rows };
+
+    ghost suits = { λ command machine. command.reader.image.need ≤ machine };
+
+    fn reader(&self, alloc: Global) -> Result<Machine, Memory> {
+        self.reader.machine(alloc)
+    }
+
+    fn none(&self, _alloc: Global) -> Result<bool, Memory> {
+        Ok(true)
+    }
+
+    fn read(
+        &self,
+        alloc: Global,
+        machine: &mut Machine,
+        number: u64,
+        frame: &Frame,
+    ) -> Result<Row, Memory> {
+        self.reader.read(alloc, machine, number, frame)
     }
 
     fn give(
-        &mut self,
+        &self,
         alloc: Global,
+        _machine: &mut Machine,
         row: &Row,
         output: &mut Output,
-        tally: &mut bool,
+        share: &mut bool,
     ) -> Result<(), Refusal<Limit>> {
         let Ok(()) = put_answer(alloc, self, row, output) else {
             return Err(Refusal::Memory);
         };
-        *tally = are_clean(*tally, row);
+        *share = are_clean(*share, row);
         Ok(())
     }
 
-    ghost stays_over = { λ _ _ _ over. over };
+    fn add(&self, tally: &mut bool, share: bool) -> Result<(), Refusal<Limit>> {
+        *tally = *tally && share;
+        Ok(())
+    }
+
+    ghost stays_over = { λ _ _ _ _ over. over };
 }
 
 /// Whether the record of this number is a header.
@@ -127,24 +160,29 @@ fn put_answer(
 
 /// Writes one line for each node of a record of the source that is asked for. While it reads, nothing is noted, and so
 /// the notes of the run aren't handed in.
-fn write_answers<S: Source, K: Sink>(
+fn write_answers<R: Threads + Sync, S: Source, K: Sink, G: Gate + Sync>(
+    rt: &R,
     alloc: Global,
-    command: &mut Answers,
-    cutting: Cutting,
+    command: &Answers,
+    settings: &Settings,
     source: &mut S,
     out: &mut K,
+    gate: &G,
 ) -> Ending
-    requires limits { IsWithinLimits cutting }
-    ensures gives { (noted : Option (List ℕ)) (notes : ℕ) → RecordsGive (λ d. answers d.made command.old.asked) false (described (contents command.old.reader.module) cutting)
+    requires limits { KeepSettings settings.now }
+    ensures gives { (noted : Option (List ℕ)) (notes : ℕ) → RecordsGive (λ d. answers d.made command.now.asked) false (described (contents command.now.reader.module) settings.now.cutting)
         (S.left source.old) (S.left source.new) (K.written out.old) (K.written out.new) noted noted
         (S.faults source.old) (S.faults source.new) (K.faults out.old) (K.faults out.new) notes notes result }
     ensures out_kept { result ≢ ending.WriteFault → K.faults out.new ≡ K.faults out.old }
     ensures source_kept { result ≢ ending.ReadFault → result ≢ ending.WriteFault → result ≢ ending.Memory → S.faults source.new ≡ S.faults source.old }
 {
-    let Cutting { discipline, max } = cutting;
+    let Cutting { discipline, max } = settings.cutting;
     ending_of(drive(
+        rt,
         command,
         alloc,
+        settings.jobs,
+        gate,
         true,
         discipline,
         max,
@@ -156,7 +194,8 @@ fn write_answers<S: Source, K: Sink>(
 
 /// Writes one line for each node of a record of the source that a question asks for, by the description in a file under a
 /// mask.
-pub(crate) fn query<F: Files, S: Source, K: Sink>(
+pub(crate) fn query<R: Threads + Sync, F: Files, S: Source, K: Sink, G: Gate + Sync>(
+    rt: &R,
     alloc: Global,
     question: &Question,
     settings: &Settings,
@@ -164,8 +203,9 @@ pub(crate) fn query<F: Files, S: Source, K: Sink>(
     files: &mut F,
     source: &mut S,
     out: &mut K,
+    gate: &G,
 ) -> Ending
-    requires limits { IsWithinLimits settings.now.cutting }
+    requires limits { KeepSettings settings.now }
     ensures gives { (noted : Option (List ℕ)) (notes : ℕ) → Keeps (querying question.now settings.now mask.now)
         (seen (F.content files.old) (S.left source.old) (S.left source.new) (K.written out.old) (K.written out.new) noted noted)
         (counts (F.faults files.old) (F.faults files.new) (S.faults source.old) (S.faults source.new) (K.faults out.old) (K.faults out.new)
@@ -176,7 +216,7 @@ pub(crate) fn query<F: Files, S: Source, K: Sink>(
     ensures source_kept { result ≢ ending.ReadFault → result ≢ ending.WriteFault → result ≢ ending.Memory → S.faults source.new ≡ S.faults source.old }
 {
     match asked_in(alloc, files, question, settings.coding, mask) {
-        Ok(mut answers) => write_answers(alloc, &mut answers, settings.cutting, source, out),
+        Ok(answers) => write_answers(rt, alloc, &answers, settings, source, out, gate),
         Err(ending) => ending,
     }
 }

@@ -1,5 +1,5 @@
 ghost use Rattle.std.specs.Coded.{Coded-set, coded_list};
-ghost use Rattle.std.specs.Prelude.{◌≡◌, ◌≤◌};
+ghost use Rattle.std.specs.Prelude.{◌≡◌};
 ghost use Rattle.pads_image.specs.Code.{code_of, entries_of};
 ghost use Rattle.pads_image.specs.contracts.entry.Entry as entry;
 ghost use Rattle.pads_image.specs.contracts.op.Op as op;
@@ -13,20 +13,18 @@ use pads_module::Module;
 use pads_value::{Frame, Memory, Refusal, Row};
 use std::alloc::Global;
 
-/// What reads records: a module, its image, and a machine with room for that.
+/// What records are read by: a module and its image. Workers share it, and each has a machine of its own.
 #[derive(Drop)]
 pub(crate) struct Reader {
     pub(crate) module: Module,
     pub(crate) image: Image,
-    pub(crate) machine: Machine,
     pub(crate) ghost code: { image.code ≡ code_of module.decls } by { Coded-set (coded_list op.the_row.coded) image.code (code_of module.decls) },
     pub(crate) ghost entries: { image.entries ≡ entries_of module.decls } by { Coded-set (coded_list entry.the_row.coded) image.entries (entries_of module.decls) },
     pub(crate) ghost shape: { image.shape ≡ module.shape },
-    pub(crate) ghost room: { image.need ≤ machine },
 }
 
 impl Reader {
-    ghost use Rattle.std.specs.Prelude.{IfOk, IfErr};
+    ghost use Rattle.std.specs.Prelude.{◌≤◌, IfOk, IfErr};
     ghost use Rattle.pads_module.specs.Modules.{contents};
     ghost use Rattle.pads_tool.specs.Describing.{row_in};
     ghost use Rattle.pads_tool.specs.Images.{HasImage, IsImageFault};
@@ -44,21 +42,31 @@ impl Reader {
             Err(Refusal::Fault(_)) => return Err(Ending::Refused(Reason::ImageTooLarge)),
             Err(Refusal::Memory) => return Err(Ending::Memory),
         };
-        let Ok(machine) = Machine::new(alloc, &image) else {
-            return Err(Ending::Memory);
-        };
         Ok(Reader {
             module: made,
             image,
-            machine,
         })
     }
 
-    /// The row of the record of this number in a frame.
-    pub(crate) fn read(&mut self, alloc: Global, number: u64, frame: &Frame) -> Result<Row, Memory>
-        ensures row { IfOk result (λ row. row ≡ row_in (contents self.old.module) number (cut_of_frame frame.now)) }
-        ensures same { self.new ≡ self.old }
+    /// A machine with room for the image.
+    pub(crate) fn machine(&self, alloc: Global) -> Result<Machine, Memory>
+        ensures room { IfOk result (λ machine. self.now.image.need ≤ machine) }
     {
-        self.machine.read_record(alloc, &self.image, number, frame)
+        Machine::new(alloc, &self.image)
+    }
+
+    /// The row of the record of this number in a frame.
+    pub(crate) fn read(
+        &self,
+        alloc: Global,
+        machine: &mut Machine,
+        number: u64,
+        frame: &Frame,
+    ) -> Result<Row, Memory>
+        requires room { self.now.image.need ≤ machine.old }
+        ensures row { IfOk result (λ row. row ≡ row_in (contents self.now.module) number (cut_of_frame frame.now)) }
+        ensures room { machine.new ≡ machine.old }
+    {
+        machine.read_record(alloc, &self.image, number, frame)
     }
 }

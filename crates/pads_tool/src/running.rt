@@ -17,19 +17,23 @@ use crate::query::query;
 use crate::selftest::selftest;
 use crate::status::Status;
 use crate::summary::summary;
+use pads_drive::Gate;
 use pads_io::{Files, Sink, Source};
 use pads_orders::{Order, Words, read_order};
 use pads_value::Refusal;
 use std::alloc::Global;
+use std::thread::Threads;
 
 /// Does what is ordered, up to the last words.
-fn perform<F: Files, S: Source, K: Sink, E: Sink>(
+fn perform<R: Threads + Sync, F: Files, S: Source, K: Sink, E: Sink, G: Gate + Sync>(
+    rt: &R,
     alloc: Global,
     order: &Order,
     files: &mut F,
     source: &mut S,
     out: &mut K,
     notes: &mut E,
+    gate: &G,
 ) -> Ending
     requires limits { KeepsLimits order.now }
     ensures gives { Keeps (promise_of order.now)
@@ -58,6 +62,7 @@ fn perform<F: Files, S: Source, K: Sink, E: Sink>(
             settings,
             mask,
         } => parse(
+            rt,
             alloc,
             description.as_str(),
             settings,
@@ -65,11 +70,13 @@ fn perform<F: Files, S: Source, K: Sink, E: Sink>(
             files,
             source,
             out,
+            gate,
         ),
         Order::Print {
             description,
             settings,
         } => print(
+            rt,
             alloc,
             description.as_str(),
             settings,
@@ -77,12 +84,14 @@ fn perform<F: Files, S: Source, K: Sink, E: Sink>(
             source,
             out,
             notes,
+            gate,
         ),
         Order::Summary {
             description,
             settings,
             mask,
         } => summary(
+            rt,
             alloc,
             description.as_str(),
             settings,
@@ -90,24 +99,31 @@ fn perform<F: Files, S: Source, K: Sink, E: Sink>(
             files,
             source,
             out,
+            gate,
         ),
         Order::Query {
             question,
             settings,
             mask,
-        } => query(alloc, question, settings, mask, files, source, out),
-        Order::Selftest { records, settings } => selftest(alloc, *records, settings, out),
+        } => query(
+            rt, alloc, question, settings, mask, files, source, out, gate,
+        ),
+        Order::Selftest { records, settings } => {
+            selftest(rt, alloc, *records, settings, out, gate)
+        }
     }
 }
 
 /// A run up to its last words.
-fn obey<F: Files, S: Source, K: Sink, E: Sink>(
+fn obey<R: Threads + Sync, F: Files, S: Source, K: Sink, E: Sink, G: Gate + Sync>(
+    rt: &R,
     alloc: Global,
     words: &Words,
     files: &mut F,
     source: &mut S,
     out: &mut K,
     notes: &mut E,
+    gate: &G,
 ) -> Ending
     ensures gives { RunGives words.now
         (seen (F.content files.old) (S.left source.old) (S.left source.new) (K.written out.old) (K.written out.new)
@@ -126,7 +142,7 @@ fn obey<F: Files, S: Source, K: Sink, E: Sink>(
     ensures without_files { Ordered words.now (λ promise. promise.reads_files ≡ false) → files.new ≡ files.old }
 {
     match read_order(alloc, words) {
-        Ok(order) => perform(alloc, &order, files, source, out, notes),
+        Ok(order) => perform(rt, alloc, &order, files, source, out, notes, gate),
         Err(Refusal::Fault(_)) => Ending::Usage,
         Err(Refusal::Memory) => Ending::Memory,
     }
@@ -135,13 +151,19 @@ fn obey<F: Files, S: Source, K: Sink, E: Sink>(
 /// Does what the words of the command line ask for, and tells how it ended. The description is read
 /// from the files and the records from the source; the output goes to `out` and, where the command
 /// has some for them, to the notes, and behind it the last words go to the notes.
-pub fn run<F: Files, S: Source, K: Sink, E: Sink>(
+///
+/// Records are read by as many workers as `--jobs` asks for. All that is said here holds whatever their
+/// number, and where a thread can't be started its work is done without it. Each worker passes the gate
+/// before a record, which changes nothing.
+pub fn run<R: Threads + Sync, F: Files, S: Source, K: Sink, E: Sink, G: Gate + Sync>(
+    rt: &R,
     alloc: Global,
     words: &Words,
     files: &mut F,
     source: &mut S,
     out: &mut K,
     notes: &mut E,
+    gate: &G,
 ) -> Status
     // All was read and written that the order asks for.
     ensures done { result ≡ status.Done → Ordered words.now (λ promise. promise.finishes true
@@ -213,6 +235,6 @@ pub fn run<F: Files, S: Source, K: Sink, E: Sink>(
     ensures last_words { BeforeLastWords words.now (F.content files.old) result (E.written notes.new) (E.faults notes.new)
         (λ noted count. IsQuiet words.now result → (noted ≡ E.written notes.old) × (count ≡ E.faults notes.old)) }
 {
-    let ending = obey(alloc, words, files, source, out, notes);
+    let ending = obey(rt, alloc, words, files, source, out, notes, gate);
     close(ending, notes)
 }

@@ -1,6 +1,6 @@
-ghost use Rattle.std.specs.Prelude.{◌≡◌, ◌≢◌, ◌^◌, ◌≤◌, ℕ, List, Option, Some, IfErr, IfOk, length};
+ghost use Rattle.std.specs.Prelude.{◌≡◌, ◌≢◌, ◌^◌, ◌<◌, ◌≤◌, ℕ, List, Option, Some, IfErr, IfOk, length};
 ghost use Rattle.pads_module.specs.Modules.{contents};
-ghost use Rattle.pads_orders.specs.Orders.{IsWithinLimits};
+ghost use Rattle.pads_orders.specs.Orders.{KeepSettings};
 ghost use Rattle.pads_selftest.specs.Description.{description as description_text};
 ghost use Rattle.pads_selftest.specs.Records.{made};
 ghost use Rattle.pads_tool.specs.Describing.{described};
@@ -19,12 +19,14 @@ use crate::test_tally::TestTally;
 use crate::text::described_by;
 use crate::unused::unused;
 use pads_code::Coding;
-use pads_drive::{Command, Ended, Limit, Output, Stop, drive};
+use pads_drive::{Command, Ended, Gate, Limit, Output, Stop, drive};
 use pads_io::Sink;
+use pads_machine::Machine;
 use pads_orders::Settings;
 use pads_selftest::{MadeRecords, bytes_made, description};
-use pads_value::{Kept, Memory, Refusal, Row, Rows};
+use pads_value::{Frame, Memory, Refusal, Row};
 use std::alloc::Global;
+use std::thread::Threads;
 
 /// The command that counts records, and the bytes that are printed of them.
 #[derive(Drop)]
@@ -33,53 +35,92 @@ pub(crate) struct Tests {
 }
 
 impl Command for Tests {
-    ghost use Rattle.std.specs.Prelude.{◌^◌, length};
+    ghost use Rattle.std.specs.Prelude.{◌≤◌, ◌^◌, length};
     ghost use Rattle.pads_module.specs.Modules.{contents};
-    ghost use Rattle.pads_selftest.proofs.Limits.{above-still};
+    ghost use Rattle.pads_tool.specs.Among.{over-among};
     ghost use Rattle.pads_tool.specs.Describing.{described};
-    ghost use Rattle.pads_tool.specs.Printing.{prints};
-    ghost use Rattle.pads_tool.specs.Testing.{tests};
+    ghost use Rattle.pads_tool.specs.Testing.{tallied, tests};
 
     type Row = Row;
 
     type Tally = TestTally;
 
+    type Share = TestTally;
+
+    type Reader = Machine;
+
     ghost work = { λ command. tests (described (contents command.prints.reader.module) command.prints.cutting) };
 
-    fn read(&mut self, alloc: Global, number: u64, frames: &[Kept]) -> Result<Rows, Memory> {
-        self.prints.read(alloc, number, frames)
+    ghost share_of = { λ command. tallied (described (contents command.prints.reader.module) command.prints.cutting) };
+
+    ghost suits = { λ command machine. command.prints.reader.image.need ≤ machine };
+
+    fn reader(&self, alloc: Global) -> Result<Machine, Memory> {
+        self.prints.reader.machine(alloc)
+    }
+
+    fn none(&self, _alloc: Global) -> Result<TestTally, Memory> {
+        Ok(TestTally::none())
+    }
+
+    fn read(
+        &self,
+        alloc: Global,
+        machine: &mut Machine,
+        number: u64,
+        frame: &Frame,
+    ) -> Result<Row, Memory> {
+        self.prints.reader.read(alloc, machine, number, frame)
     }
 
     fn give(
-        &mut self,
+        &self,
         alloc: Global,
+        machine: &mut Machine,
         row: &Row,
         _output: &mut Output,
-        tally: &mut TestTally,
+        share: &mut TestTally,
     ) -> Result<(), Refusal<Limit>> {
-        let Ok(told) = told(alloc, &mut self.prints, row) else {
+        let Ok(told) = told(alloc, &self.prints, machine, row) else {
             return Err(Refusal::Memory);
         };
-        match tally.add(is_clean(row), told.size()) {
+        match share.add(TestTally::one(is_clean(row), told.size())) {
             Ok(()) => Ok(()),
             Err(limit) => Err(Refusal::Fault(limit)),
         }
     }
 
-    ghost stays_over = { λ command rows more over. above-still
-        (λ row. length ((prints (described (contents command.prints.reader.module) command.prints.cutting)).out row)) (2 ^ 62) rows more over };
+    fn add(&self, tally: &mut TestTally, share: TestTally) -> Result<(), Refusal<Limit>> {
+        match tally.add(share) {
+            Ok(()) => Ok(()),
+            Err(limit) => Err(Refusal::Fault(limit)),
+        }
+    }
+
+    ghost stays_over = { λ command before rows more over. over-among (described (contents command.prints.reader.module) command.prints.cutting) before rows more over };
 }
 
 /// What the records that are made for a self-test come to.
-fn tested(alloc: Global, command: &mut Tests, records: u32) -> Result<TestTally, Memory>
+fn tested<R: Threads + Sync, G: Gate + Sync>(
+    rt: &R,
+    alloc: Global,
+    command: &Tests,
+    jobs: u32,
+    records: u32,
+    gate: &G,
+) -> Result<TestTally, Memory>
+    requires jobs { 0 < jobs }
     requires few { length (made records) ≤ 2 ^ 27 }
-    ensures tally { IfOk result (λ tally. tally ≡ tallied (described (contents command.old.prints.reader.module) command.old.prints.cutting)
-        (rows_tested (described (contents command.old.prints.reader.module) command.old.prints.cutting) records)) }
+    ensures tally { IfOk result (λ tally. tally ≡ tallied (described (contents command.now.prints.reader.module) command.now.prints.cutting)
+        (rows_tested (described (contents command.now.prints.reader.module) command.now.prints.cutting) records)) }
 {
     let cutting = command.prints.cutting;
     match drive(
+        rt,
         command,
         alloc,
+        jobs,
+        gate,
         TestTally::none(),
         cutting.discipline,
         cutting.max,
@@ -109,13 +150,15 @@ fn test_reader(alloc: Global, coding: Coding) -> Result<Reader, Ending>
 }
 
 /// Tells what so many records come to that are made for this.
-pub(crate) fn selftest<K: Sink>(
+pub(crate) fn selftest<R: Threads + Sync, K: Sink, G: Gate + Sync>(
+    rt: &R,
     alloc: Global,
     records: u32,
     settings: &Settings,
     out: &mut K,
+    gate: &G,
 ) -> Ending
-    requires limits { IsWithinLimits settings.now.cutting }
+    requires limits { KeepSettings settings.now }
     requires few { records ≤ 1000000 }
     ensures gives { (content : List ℕ → Option (List ℕ)) (left left' noted noted' : Option (List ℕ)) (files files' source source' notes notes' : ℕ)
         → Keeps (testing records settings.now)
@@ -129,10 +172,10 @@ pub(crate) fn selftest<K: Sink>(
     };
     let cutting = settings.cutting;
     let bytes = bytes_made(records);
-    let mut tests = Tests {
+    let tests = Tests {
         prints: Prints { reader, cutting },
     };
-    match tested(alloc, &mut tests, records) {
+    match tested(rt, alloc, &tests, settings.jobs, records, gate) {
         Ok(tally) => tell(out, tally.line(bytes).as_slice(), tally.are_clean()),
         Err(Memory) => Ending::Memory,
     }

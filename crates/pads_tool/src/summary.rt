@@ -1,8 +1,10 @@
+ghost use Rattle.std.specs.Coded.{Coded-set, coded_list};
 ghost use Rattle.std.specs.Prelude.{◌≡◌, ◌≢◌, ℕ, [], List, Option, false, IfErr, IfOk, OnErr};
 ghost use Rattle.pads_accum.specs.States.{IsSummaryOf};
 ghost use Rattle.pads_module.specs.Modules.{contents};
-ghost use Rattle.pads_orders.specs.Orders.{IsWithinLimits};
+ghost use Rattle.pads_orders.specs.Orders.{KeepSettings};
 ghost use Rattle.pads_plan.specs.Plans.{lists_of, most, size};
+ghost use Rattle.pads_plan.specs.contracts.part.PlanList as plan_list;
 ghost use Rattle.pads_report.specs.Reports.{report_text};
 ghost use Rattle.pads_tool.specs.Describing.{described};
 ghost use Rattle.pads_tool.specs.Endings.{status_of};
@@ -15,56 +17,83 @@ ghost use Rattle.pads_tool.specs.declared.ending.Ending.TheVariants as ending;
 use crate::ending::Ending;
 use crate::reader::Reader;
 use crate::reason::Reason;
-use crate::rows::{are_clean, rows_in};
-use crate::summed::Summed;
+use crate::rows::{are_both, are_clean};
+use crate::summed::{PieceSummed, Summed};
 use crate::tell::tell;
 use crate::text::read_under;
 use crate::unused::unused;
 use pads_accum::Summary;
-use pads_drive::{Command, Ended, Limit, Output, Stop, drive};
+use pads_drive::{Command, Ended, Gate, Limit, Output, Stop, drive};
 use pads_erase::Mask;
 use pads_io::{Files, Sink, Source};
+use pads_machine::Machine;
 use pads_module::Module;
 use pads_orders::{Cutting, Settings};
 use pads_report::report;
-use pads_value::{Kept, Memory, Refusal, Row, Rows};
+use pads_value::{Frame, Memory, Refusal, Row};
 use std::alloc::Global;
+use std::thread::Threads;
 
 /// The command that sums up what the parts of records gave.
 #[derive(Drop)]
 pub(crate) struct Sums {
     pub(crate) reader: Reader,
+    /// The summary of no records, which makes the workers' chunks.
+    pub(crate) blank: Summary,
+    pub(crate) ghost plan: { blank.plan ≡ lists_of (contents reader.module) } by { Coded-set (coded_list plan_list.the_row.coded) blank.plan (lists_of (contents reader.module)) },
 }
 
 impl Command for Sums {
-    ghost use Rattle.pads_accum.proofs.Passing.{passes_on};
+    ghost use Rattle.std.specs.Prelude.{◌≤◌};
     ghost use Rattle.pads_module.specs.Modules.{contents};
+    ghost use Rattle.pads_tool.specs.Among.{passes-among};
+    ghost use Rattle.pads_tool.specs.Summing.{piece_summed, sums};
     ghost use Rattle.pads_plan.specs.Plans.{lists_of};
-    ghost use Rattle.pads_tool.specs.Summing.{sums};
 
     type Row = Row;
 
     type Tally = Summed;
 
+    type Share = PieceSummed;
+
+    type Reader = Machine;
+
     ghost work = { λ command. sums (contents command.reader.module) };
 
-    fn read(&mut self, alloc: Global, number: u64, frames: &[Kept]) -> Result<Rows, Memory> {
-        rows_in(alloc, &mut self.reader, number, frames)
+    ghost share_of = { λ command. piece_summed (contents command.reader.module) };
+
+    ghost suits = { λ command machine. command.reader.image.need ≤ machine };
+
+    fn reader(&self, alloc: Global) -> Result<Machine, Memory> {
+        self.reader.machine(alloc)
+    }
+
+    fn none(&self, _alloc: Global) -> Result<PieceSummed, Memory> {
+        let chunk = self.blank.blank_chunk()?;
+        Ok(PieceSummed { chunk, clean: true })
+    }
+
+    fn read(
+        &self,
+        alloc: Global,
+        machine: &mut Machine,
+        number: u64,
+        frame: &Frame,
+    ) -> Result<Row, Memory> {
+        self.reader.read(alloc, machine, number, frame)
     }
 
     fn give(
-        &mut self,
+        &self,
         _alloc: Global,
+        _machine: &mut Machine,
         row: &Row,
         _output: &mut Output,
-        tally: &mut Summed,
+        share: &mut PieceSummed,
     ) -> Result<(), Refusal<Limit>> {
-        if tally.summary.is_spent() {
-            return Err(Refusal::Memory);
-        }
-        match tally.summary.add(row) {
+        match share.chunk.add(row) {
             Ok(()) => {
-                tally.clean = are_clean(tally.clean, row);
+                share.clean = are_clean(share.clean, row);
                 Ok(())
             }
             Err(Refusal::Fault(_)) => Err(Refusal::Fault(Limit)),
@@ -72,34 +101,51 @@ impl Command for Sums {
         }
     }
 
-    ghost stays_over = { λ command rows more over. passes_on (lists_of (contents command.reader.module)) rows more over };
+    fn add(&self, tally: &mut Summed, share: PieceSummed) -> Result<(), Refusal<Limit>> {
+        let PieceSummed { chunk, clean } = share;
+        match tally.summary.merge(chunk) {
+            Ok(()) => {
+                tally.clean = are_both(tally.clean, clean);
+                Ok(())
+            }
+            Err(Refusal::Fault(_)) => Err(Refusal::Fault(Limit)),
+            Err(Refusal::Memory) => Err(Refusal::Memory),
+        }
+    }
+
+    ghost stays_over = { λ command before rows more over. passes-among (lists_of (contents command.reader.module)) before rows more over };
 }
 
 /// Sums up all records of the source.
-fn summed<S: Source>(
+fn summed<R: Threads + Sync, S: Source, G: Gate + Sync>(
+    rt: &R,
     alloc: Global,
-    command: &mut Sums,
+    command: &Sums,
     summary: Summary,
-    cutting: Cutting,
+    settings: &Settings,
     source: &mut S,
+    gate: &G,
 ) -> Result<Summed, Ending>
-    requires limits { IsWithinLimits cutting }
-    requires plan { summary.plan ≡ lists_of (contents command.old.reader.module) }
+    requires limits { KeepSettings settings.now }
+    requires plan { summary.plan ≡ lists_of (contents command.now.reader.module) }
     requires empty { IsSummaryOf summary [] }
     requires unspent { summary.spent ≡ false }
     ensures gives { SumsGive (S.left source.new) (S.left source.old) (S.faults source.old) (S.faults source.new)
-        (described (contents command.old.reader.module) cutting) result }
+        (described (contents command.now.reader.module) settings.now.cutting) result }
     ensures source_kept { IfErr result (λ stop. stop ≢ ending.ReadFault → stop ≢ ending.Memory → stop ≢ ending.Limit → S.faults source.new ≡ S.faults source.old) }
     ensures source_well { IfOk result (λ all. S.faults source.new ≡ S.faults source.old) }
 {
-    let Cutting { discipline, max } = cutting;
+    let Cutting { discipline, max } = settings.cutting;
     let none = Summed {
         summary,
         clean: true,
     };
     match drive(
+        rt,
         command,
         alloc,
+        settings.jobs,
+        gate,
         none,
         discipline,
         max,
@@ -143,7 +189,8 @@ fn tell_report<K: Sink>(alloc: Global, summed: &Summed, top: u32, out: &mut K) -
 }
 
 /// Reports what all records of the source come to, by the description in a file under a mask.
-pub(crate) fn summary<F: Files, S: Source, K: Sink>(
+pub(crate) fn summary<R: Threads + Sync, F: Files, S: Source, K: Sink, G: Gate + Sync>(
+    rt: &R,
     alloc: Global,
     name: &str,
     settings: &Settings,
@@ -151,8 +198,9 @@ pub(crate) fn summary<F: Files, S: Source, K: Sink>(
     files: &mut F,
     source: &mut S,
     out: &mut K,
+    gate: &G,
 ) -> Ending
-    requires limits { IsWithinLimits settings.now.cutting }
+    requires limits { KeepSettings settings.now }
     ensures gives { (noted noted' : Option (List ℕ)) (notes notes' : ℕ) → Keeps (summarizing name.now settings.now mask.now)
         (seen (F.content files.old) (S.left source.old) (S.left source.new) (K.written out.old) (K.written out.new) noted noted')
         (counts (F.faults files.old) (F.faults files.new) (S.faults source.old) (S.faults source.new) (K.faults out.old) (K.faults out.new)
@@ -171,7 +219,19 @@ pub(crate) fn summary<F: Files, S: Source, K: Sink>(
         Ok(none) => none,
         Err(ending) => return ending,
     };
-    match summed(alloc, &mut Sums { reader }, none, settings.cutting, source) {
+    let blank = match empty_summary(alloc, &reader.module) {
+        Ok(blank) => blank,
+        Err(ending) => return ending,
+    };
+    match summed(
+        rt,
+        alloc,
+        &Sums { reader, blank },
+        none,
+        settings,
+        source,
+        gate,
+    ) {
         Ok(summed) => tell_report(alloc, &summed, settings.top, out),
         Err(ending) => ending,
     }

@@ -40,23 +40,34 @@ impl TestTally {
         }
     }
 
-    /// Counts one record more, and the bytes that are printed of it.
-    pub(crate) fn add(&mut self, is_clean: bool, printed: u64) -> Result<(), Limit>
-        ensures added { OnOk result (self.old.clean ≤ self.old.records → self.new ≡ record {
-          records = self.old.records + 1;
-          clean = self.old.clean + (if is_clean then 1 else 0);
-          printed = self.old.printed + printed;
-        }) }
-        ensures within { OnOk result (self.old.records + 1 + (self.old.printed + printed) ≤ 2 ^ 62) }
-        ensures over { OnErr result (2 ^ 62 < self.old.records + 1 + (self.old.printed + printed)) }
+    /// The tally of one record, and the bytes that are printed of it.
+    pub(crate) fn one(is_clean: bool, printed: u64) -> TestTally
+        ensures one { result ≡ record { records = 1; clean = if is_clean then 1 else 0; printed = printed } }
     {
-        let records = self.records.saturating_add(1);
-        let printed = self.printed.saturating_add(printed);
+        TestTally {
+            records: 1,
+            clean: u64::from(is_clean),
+            printed,
+        }
+    }
+
+    /// Counts what later records come to.
+    pub(crate) fn add(&mut self, later: TestTally) -> Result<(), Limit>
+        ensures added { OnOk result (self.old.clean ≤ self.old.records → later.clean ≤ later.records → self.new ≡ record {
+          records = self.old.records + later.records;
+          clean = self.old.clean + later.clean;
+          printed = self.old.printed + later.printed;
+        }) }
+        ensures within { OnOk result (self.old.records + later.records + (self.old.printed + later.printed) ≤ 2 ^ 62) }
+        ensures over { OnErr result (2 ^ 62 < self.old.records + later.records + (self.old.printed + later.printed)) }
+    {
+        let records = self.records.saturating_add(later.records);
+        let printed = self.printed.saturating_add(later.printed);
         if records.saturating_add(printed) > MOST {
             return Err(Limit);
         }
         self.records = records;
-        self.clean = self.clean.saturating_add(u64::from(is_clean));
+        self.clean = self.clean.saturating_add(later.clean);
         self.printed = printed;
         Ok(())
     }

@@ -1,12 +1,14 @@
 //! What a run leaves.
 
 use crate::row::{Asked, Moves};
+use pads_drive::{Gate, NoGate};
 use pads_io::{
     MemFiles, MemSink, MemSource, NamedFile, NamedFiles, SureFiles, SureSink, SureSource,
 };
 use pads_tool::{Status, run};
 use pads_value::{Bytes, Items, Memory};
 use std::alloc::Global;
+use std::thread::Threads;
 
 /// How a run ended, and what stands on its objects.
 #[derive(Drop)]
@@ -49,7 +51,12 @@ fn left_on(
 }
 
 /// Makes the run over objects that fail at listed calls.
-fn left_over_failing(alloc: Global, asked: Asked) -> Result<Left, Memory> {
+pub(crate) fn left_over_failing<R: Threads + Sync, G: Gate + Sync>(
+    rt: &R,
+    alloc: Global,
+    asked: Asked,
+    gate: &G,
+) -> Result<Left, Memory> {
     let Moves { most, failing } = asked.source;
     let mut source = MemSource::new(asked.input, most, failing);
     let Moves { most, failing } = asked.out;
@@ -58,12 +65,14 @@ fn left_over_failing(alloc: Global, asked: Asked) -> Result<Left, Memory> {
     let mut notes = MemSink::new(alloc, most, failing);
     let mut files = MemFiles::new(files_of(alloc, asked.description)?, asked.files);
     let status = run(
+        rt,
         alloc,
         &asked.words,
         &mut files,
         &mut source,
         &mut out,
         &mut notes,
+        gate,
     );
     let faults = files
         .fault_count()
@@ -81,18 +90,25 @@ fn left_over_failing(alloc: Global, asked: Asked) -> Result<Left, Memory> {
 }
 
 /// Makes the run over objects that never fail but where the room is used up.
-fn left_over_sure(alloc: Global, asked: Asked, room: u64) -> Result<Left, Memory> {
+fn left_over_sure<R: Threads + Sync>(
+    rt: &R,
+    alloc: Global,
+    asked: Asked,
+    room: u64,
+) -> Result<Left, Memory> {
     let mut source = SureSource::new(asked.input, asked.source.most);
     let mut out = SureSink::new(alloc, asked.out.most, room)?;
     let mut notes = SureSink::new(alloc, asked.notes.most, room)?;
     let mut files = SureFiles::new(files_of(alloc, asked.description)?);
     let status = run(
+        rt,
         alloc,
         &asked.words,
         &mut files,
         &mut source,
         &mut out,
         &mut notes,
+        &NoGate,
     );
     let faults = out.fault_count().saturating_add(notes.fault_count());
     left_on(
@@ -106,9 +122,13 @@ fn left_over_sure(alloc: Global, asked: Asked, room: u64) -> Result<Left, Memory
 }
 
 /// Makes the run.
-pub(crate) fn left_by(alloc: Global, asked: Asked) -> Result<Left, Memory> {
+pub(crate) fn left_by<R: Threads + Sync>(
+    rt: &R,
+    alloc: Global,
+    asked: Asked,
+) -> Result<Left, Memory> {
     match asked.room {
-        None => left_over_failing(alloc, asked),
-        Some(room) => left_over_sure(alloc, asked, room),
+        None => left_over_failing(rt, alloc, asked, &NoGate),
+        Some(room) => left_over_sure(rt, alloc, asked, room),
     }
 }

@@ -1,18 +1,21 @@
 //! Tries each row of the tables `records.txt`, `refusals.txt`, `failures.txt`, `turns.txt`, `prints.txt`,
-//! `summaries.txt`, `masks.txt`, `queries.txt` and `selftests.txt`: a run of the program over objects in memory, and what
-//! it must leave. What a row says was worked out by hand. Prints each row whose run leaves something else, and how many
+//! `summaries.txt`, `masks.txt`, `queries.txt`, `selftests.txt` and `jobs.txt`: a run of the program over objects in memory,
+//! and what it must leave. What a row says was worked out by hand. Prints each row whose run leaves something else, and how many
 //! rows each table has.
 #![tactic(auto)]
 
 mod head;
 mod left;
+mod meeting;
 mod row;
 mod turns;
 
 use crate::left::{Left, left_by};
+use crate::meeting::workers_meet;
 use crate::row::{Row, Wanted, row_of};
 use crate::turns::{Turns, put_turns};
 use std::alloc::{AllocError, Global};
+use std::thread::Threads;
 use std::{fs, io};
 use test_rows::{Tally, Trouble, difference, lines_of};
 
@@ -83,10 +86,10 @@ fn differences(alloc: Global, left: &Left, wanted: &Wanted<'_>) -> Result<String
 
 /// What the run of a row left in place of what it wants, and where its calls fail in turn what those runs left; nothing
 /// where each left that.
-fn tried(alloc: Global, lines: &[&str]) -> Result<String, Trouble> {
+fn tried<R: Threads + Sync>(rt: &R, alloc: Global, lines: &[&str]) -> Result<String, Trouble> {
     let Row { asked, wanted } = row_of(alloc, lines)?;
     let length = asked.input.len();
-    let whole = left_by(alloc, asked)?;
+    let whole = left_by(rt, alloc, asked)?;
     let mut text = differences(alloc, &whole, &wanted)?;
     if wanted.calls.is_empty() {
         return Ok(text);
@@ -97,31 +100,36 @@ fn tried(alloc: Global, lines: &[&str]) -> Result<String, Trouble> {
         length,
         whole,
     };
-    put_turns(alloc, &mut text, &turns)?;
+    put_turns(rt, alloc, &mut text, &turns)?;
     Ok(text)
 }
 
 /// Tries the rows of a table.
-fn try_table(rt: &HostRuntime, name: &str) -> io::Result<()> {
+fn try_table<R: Threads + Sync>(rt: &HostRuntime, threads: &R, name: &str) -> io::Result<()> {
     let table = fs::read_to_string(rt, name)?;
     let mut tally = Tally::new();
     for block in table.split("\n\n") {
         let lines = lines_of(rt.alloc(), block)?;
         if let [first, ..] = lines.as_slice() {
-            tally.count(rt, first, tried(rt.alloc(), lines.as_slice()))?;
+            tally.count(rt, first, tried(threads, rt.alloc(), lines.as_slice()))?;
         }
     }
     tally.print(rt, name)
 }
 
 fn main(rt: HostRuntime) -> io::Result<()> {
-    try_table(&rt, "records.txt")?;
-    try_table(&rt, "refusals.txt")?;
-    try_table(&rt, "failures.txt")?;
-    try_table(&rt, "turns.txt")?;
-    try_table(&rt, "prints.txt")?;
-    try_table(&rt, "summaries.txt")?;
-    try_table(&rt, "masks.txt")?;
-    try_table(&rt, "queries.txt")?;
-    try_table(&rt, "selftests.txt")
+    try_table(&rt, &rt, "records.txt")?;
+    try_table(&rt, &rt, "refusals.txt")?;
+    try_table(&rt, &rt, "failures.txt")?;
+    try_table(&rt, &rt, "turns.txt")?;
+    try_table(&rt, &rt, "prints.txt")?;
+    try_table(&rt, &rt, "summaries.txt")?;
+    try_table(&rt, &rt, "masks.txt")?;
+    try_table(&rt, &rt, "queries.txt")?;
+    try_table(&rt, &rt, "selftests.txt")?;
+    try_table(&rt, &rt, "jobs.txt")?;
+    match workers_meet(&rt, rt.alloc()) {
+        Ok(true) => println!(&rt; "meeting: two workers meet"),
+        _ => println!(&rt; "meeting: two workers don't meet"),
+    }
 }

@@ -6,6 +6,7 @@ use crate::row::{Asked, Row, Wanted, row_of};
 use pads_tool::Status;
 use pads_value::Memory;
 use std::alloc::{AllocError, Global};
+use std::thread::Threads;
 use test_rows::{Trouble, difference};
 
 /// More calls than an object of a row has.
@@ -58,13 +59,18 @@ fn put_failure(asked: &mut Asked, failure: Failure) -> Result<(), Memory> {
 }
 
 /// What the run of these lines leaves where these calls fail.
-fn left_at(alloc: Global, lines: &[&str], failures: &[Failure]) -> Result<Left, Trouble> {
+fn left_at<R: Threads + Sync>(
+    rt: &R,
+    alloc: Global,
+    lines: &[&str],
+    failures: &[Failure],
+) -> Result<Left, Trouble> {
     let Row { asked, .. } = row_of(alloc, lines)?;
     let mut asked = asked;
     for failure in failures {
         put_failure(&mut asked, *failure)?;
     }
-    Ok(left_by(alloc, asked)?)
+    Ok(left_by(rt, alloc, asked)?)
 }
 
 /// The first so many bytes, or all where there are fewer.
@@ -157,7 +163,8 @@ fn tell(
 
 /// Lets each call of the notes fail in turn, behind these failures, of which `met` is what they leave without that.
 /// Gives how many calls there were.
-fn notes_in_turn(
+fn notes_in_turn<R: Threads + Sync>(
+    rt: &R,
     alloc: Global,
     text: &mut String,
     lines: &[&str],
@@ -174,8 +181,8 @@ fn notes_in_turn(
             call,
         };
         let left = match first {
-            None => left_at(alloc, lines, &[note])?,
-            Some(first) => left_at(alloc, lines, &[first, note])?,
+            None => left_at(rt, alloc, lines, &[note])?,
+            Some(first) => left_at(rt, alloc, lines, &[first, note])?,
         };
         if left.faults == met.faults {
             if !is_same(&left, met) {
@@ -191,7 +198,8 @@ fn notes_in_turn(
 }
 
 /// Lets each call of an object fail in turn. Gives how many calls there were.
-fn calls_in_turn(
+fn calls_in_turn<R: Threads + Sync>(
+    rt: &R,
     alloc: Global,
     text: &mut String,
     turns: &Turns<'_>,
@@ -199,7 +207,7 @@ fn calls_in_turn(
 ) -> Result<u64, Trouble> {
     for call in 0..MOST_CALLS {
         let failure = Failure { object, call };
-        let left = left_at(alloc, turns.lines, &[failure])?;
+        let left = left_at(rt, alloc, turns.lines, &[failure])?;
         if left.faults == 0 {
             if !is_same(&left, &turns.whole) {
                 tell(alloc, text, &[failure], &left)?;
@@ -209,7 +217,7 @@ fn calls_in_turn(
         if !is_due(turns, object, &left) {
             tell(alloc, text, &[failure], &left)?;
         }
-        notes_in_turn(alloc, text, turns.lines, Some(failure), &left)?;
+        notes_in_turn(rt, alloc, text, turns.lines, Some(failure), &left)?;
     }
     Err(Trouble::Row("an object with more calls than are tried"))
 }
@@ -229,16 +237,17 @@ fn put_count(
 }
 
 /// Puts how the runs of a row whose calls fail in turn differ from what they must leave.
-pub(crate) fn put_turns(
+pub(crate) fn put_turns<R: Threads + Sync>(
+    rt: &R,
     alloc: Global,
     text: &mut String,
     turns: &Turns<'_>,
 ) -> Result<(), Trouble> {
     for (at, object) in [(0, Object::Files), (1, Object::Source), (2, Object::Out)] {
-        let calls = calls_in_turn(alloc, text, turns, object)?;
+        let calls = calls_in_turn(rt, alloc, text, turns, object)?;
         put_count(text, &turns.wanted, at, calls)?;
     }
-    let calls = notes_in_turn(alloc, text, turns.lines, None, &turns.whole)?;
+    let calls = notes_in_turn(rt, alloc, text, turns.lines, None, &turns.whole)?;
     put_count(text, &turns.wanted, 3, calls)?;
     Ok(())
 }

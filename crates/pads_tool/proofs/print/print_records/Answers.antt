@@ -1,7 +1,9 @@
+use denote.Param.Send.{sendable}
 use Rattle.pads_module.specs.Modules.{contents}
 use Rattle.pads_tool.specs.Describing.{described}
 use Rattle.pads_tool.specs.Printing.{prints}
 use Rattle.pads_tool.proofs.Records.{records-give, notes-kept, out-kept, source-kept}
+use Rattle.pads_tool.proofs.Crossing.{machine_send, prints_sync}
 use Rattle.pads_tool.proofs.print.print_records.Goals as goal
 
 pub returns : goal.returns
@@ -19,3 +21,9 @@ returns g c = record {
   source_kept = rw c.ending_of.ensures.ending
       (source-kept (g.S.Source.faults c.args.source.now) (g.S.Source.faults c.drive.new.source) c.drive.result c.drive.ensures.kept);
 }
+
+pub drive-requires-send-C-Reader : goal.drive-requires-send-C-Reader
+drive-requires-send-C-Reader g c κs within = search (machine_send, sendable) depth 60 fits 20000
+
+pub drive-requires-sync-C : goal.drive-requires-sync-C
+drive-requires-sync-C g c κs within = search (prints_sync, sendable) depth 60 fits 20000

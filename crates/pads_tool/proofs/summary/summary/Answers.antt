@@ -19,6 +19,13 @@ returns-in-Err-empty_summary-clause-gives g c = λ noted noted' notes notes'.
     (counts (g.F.Files.faults c.args.files.now) (g.F.Files.faults c.read_under.new.files) (g.S.Source.faults c.args.source.now) (g.S.Source.faults c.args.source.now)
     (g.K.Sink.faults c.args.out.now) (g.K.Sink.faults c.args.out.now) notes notes') (contents c.in-Ok.reader.module) c.in-Ok.ensures.read c.in-Err-empty_summary.ending refl c.in-Err-empty_summary.ensures.stops
 
+pub returns-in-Err-empty_summary-2-clause-gives : goal.returns-in-Err-empty_summary-2-clause-gives
+returns-in-Err-empty_summary-2-clause-gives g c = λ noted noted' notes notes'.
+    summary-none c.args.name.now c.args.settings.now c.args.mask.now
+    (seen (g.F.Files.content c.args.files.now) (g.S.Source.left c.args.source.now) (g.S.Source.left c.args.source.now) (g.K.Sink.written c.args.out.now) (g.K.Sink.written c.args.out.now) noted noted')
+    (counts (g.F.Files.faults c.args.files.now) (g.F.Files.faults c.read_under.new.files) (g.S.Source.faults c.args.source.now) (g.S.Source.faults c.args.source.now)
+    (g.K.Sink.faults c.args.out.now) (g.K.Sink.faults c.args.out.now) notes notes') (contents c.in-Ok.reader.module) c.in-Ok.ensures.read c.in-Err-empty_summary-2.ending refl c.in-Err-empty_summary-2.ensures.stops
+
 pub returns-clause-gives : goal.returns-clause-gives
 returns-clause-gives g c = λ noted noted' notes notes'.
     summary-ended c.args.name.now c.args.settings.now c.args.mask.now

@@ -5,8 +5,8 @@ use Rattle.pads_tool.specs.Describing.{described}
 use Rattle.pads_tool.specs.Printing.{is_printed, told_of}
 use Rattle.pads_tool.proofs.print.PrintsCommand.give.Goals as goal
 
-pub returns-clause-tally : goal.returns-clause-tally
-returns-clause-tally c = λ before t. record {
-  is = counted-more (λ row. is_printed (told_of (described (contents c.args.self.now.reader.module) c.args.self.now.cutting) row)) c.args.row.now _ _ (c.are_printed.ensures.printed ∙ ap (λ told. c.args.tally.now && is_printed told) c.in-Ok.ensures.told) before t.is;
+pub returns-clause-share : goal.returns-clause-share
+returns-clause-share c = λ before t. record {
+  is = counted-more (λ row. is_printed (told_of (described (contents c.args.self.now.reader.module) c.args.self.now.cutting) row)) c.args.row.now _ _ (c.are_printed.ensures.printed ∙ ap (λ told. c.args.share.now && is_printed told) c.in-Ok.ensures.told) before t.is;
   within = refl;
 }

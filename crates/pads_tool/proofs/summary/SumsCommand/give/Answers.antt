@@ -1,18 +1,18 @@
 use Rattle.pads_module.specs.Modules.{contents}
-use Rattle.pads_tool.proofs.Sums.{over-next, summed-more, within-next}
-use Rattle.pads_tool.specs.declared.summed.Summed.{Summed}
+use Rattle.pads_tool.proofs.Sums.{over-next, piece-more, within-next}
+use Rattle.pads_tool.specs.declared.summed.PieceSummed.{PieceSummed}
 use Rattle.pads_tool.proofs.summary.SumsCommand.give.Goals as goal
 
-pub returns-in-Ok-clause-tally : goal.returns-in-Ok-clause-tally
-returns-in-Ok-clause-tally c = λ before t.
+pub returns-in-Ok-clause-share : goal.returns-in-Ok-clause-share
+returns-in-Ok-clause-share c = λ rows s.
     let m = contents c.args.self.now.reader.module in
-    let new : Summed = record { summary = c.add.new.self; clean = c.are_clean-tally.result } in
+    let new : PieceSummed = record { chunk = c.add.new.self; clean = c.are_clean-share.result } in
     record {
-      is = summed-more m before c.args.row.now c.args.tally.now t.is new (c.in-Ok.ensures.added before) c.in-Ok.ensures.plan c.in-Ok.ensures.spent c.are_clean-tally.ensures.clean;
-      within = within-next m before c.args.row.now c.args.tally.now t.is t.within c.in-Ok.ensures.within;
+      is = piece-more m rows c.args.row.now c.args.share.now s.is new (c.in-Ok.ensures.added rows) c.in-Ok.ensures.plan c.in-Ok.ensures.spent c.are_clean-share.ensures.clean;
+      within = within-next m rows c.args.row.now c.args.share.now s.is s.within c.in-Ok.ensures.within;
     }
 
-pub returns-in-Err-Fault-clause-tally : goal.returns-in-Err-Fault-clause-tally
-returns-in-Err-Fault-clause-tally c = λ before t.
-    over-next (contents c.args.self.now.reader.module) before c.args.row.now c.args.tally.now t.is c.in-Err-Fault.field-0-0 t.within
+pub returns-in-Err-Fault-clause-share : goal.returns-in-Err-Fault-clause-share
+returns-in-Err-Fault-clause-share c = λ rows s.
+    over-next (contents c.args.self.now.reader.module) rows c.args.row.now c.args.share.now s.is c.in-Err-Fault.field-0-0 s.within
     (rw c.in-Err-Fault.field-0-is at c.in-Err-Fault.ensures.limit)
