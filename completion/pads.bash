@@ -25,10 +25,10 @@ _pads_words() {
 _pads_options() {
   case $1 in
     check) echo '--coding=' ;;
-    parse) echo '--records= --coding= --max= --mask= --jobs=' ;;
-    print) echo '--records= --coding= --max= --jobs=' ;;
-    summary) echo '--records= --coding= --max= --mask= --top= --jobs=' ;;
-    query) echo '--records= --coding= --max= --mask= --jobs=' ;;
+    parse) echo '--records= --coding= --max= --mask= --scan= --jobs=' ;;
+    print) echo '--records= --coding= --max= --scan= --jobs=' ;;
+    summary) echo '--records= --coding= --max= --mask= --scan= --top= --jobs=' ;;
+    query) echo '--records= --coding= --max= --mask= --scan= --jobs=' ;;
     selftest) echo '--jobs=' ;;
   esac
 }

@@ -247,8 +247,8 @@ module _ (worths : Worths) (agrees : AgreesOnSorted worths) where
   sorted-term subject decls sorts scope now are is_sorted has =
       evaluated-alone worths subject decls now (λ e env evaluated. agrees e env (evaluated-never_ill sorts decls are subject scope now e env is_sorted has evaluated))
 
-  pub sorted-record : (decls : List Decl) (number : ℕ) (cut : Cut) → Sorted decls → record_by worths decls number cut ≡ body_reading decls number cut
-  sorted-record decls number cut sorted =
-      evaluated-alone worths (subject_of_cut cut) decls (moment deepest (term.Call number []) [] 0)
-      (λ e env evaluated. agrees e env (row-never_ill sorted.0 decls sorted.1 (subject_of_cut cut) deepest number 0 e env evaluated))
-      ∙ read-Call (subject_of_cut cut) (caller (subject_of_cut cut) decls deepest) number [] [] 0
+  pub sorted-record : (decls : List Decl) (scan number : ℕ) (cut : Cut) → Sorted decls → record_by worths decls scan number cut ≡ body_reading decls scan number cut
+  sorted-record decls scan number cut sorted =
+      evaluated-alone worths (subject_of_cut scan cut) decls (moment deepest (term.Call number []) [] 0)
+      (λ e env evaluated. agrees e env (row-never_ill sorted.0 decls sorted.1 (subject_of_cut scan cut) deepest number 0 e env evaluated))
+      ∙ read-Call (subject_of_cut scan cut) (caller (subject_of_cut scan cut) decls deepest) number [] [] 0

@@ -12,7 +12,7 @@ use Rattle.pads_calc.specs.Arguments.{arg_told, and_more, arguments, is_true_tol
 use Rattle.pads_calc.specs.Calculus.{body_of}
 use Rattle.pads_calc.specs.Choices.{branch_of, alt_from, case_at, switch_of}
 use Rattle.pads_calc.specs.Readings.{Subject, Reader, fails, is_ok, blame}
-use Rattle.pads_calc.specs.Wrappers.{constrained, guard_of, found_at, scan, scan_from}
+use Rattle.pads_calc.specs.Wrappers.{constrained, guard_of, found_at, last_place, scan, scan_from}
 use Rattle.pads_calc.proofs.Choices.{slice_get-map}
 use Rattle.law_calculus.specs.ByWorths.{Worths, arguments_by, guard_by}
 use Rattle.law_calculus.specs.Agreement.{own_worths}
@@ -69,7 +69,7 @@ module _ (one other : Reader) (env : Pairs) (same : (j : ℕ) → one env j ≡ 
       ∙ ap (λ later. if is_ok (other env j) then found_at origin i j (other env j) else later) (scan_from-agrees origin places i (j + 1))
 
   pub scan-agrees : (subject : Subject) (i : ℕ) → scan subject one env i ≡ scan subject other env i
-  scan-agrees subject i = scan_from-agrees subject.origin (suc (length subject.bytes - i)) i i
+  scan-agrees subject i = scan_from-agrees subject.origin (suc (last_place subject i - i)) i i
 
 -- a call without arguments that have values, or of what isn't declared
 pub body-unargued : (origin : ℕ) (reader : Term → Reader) (decl : Option Decl) (args : Option (List Arg)) (i : ℕ) → args ≡ None

@@ -28,7 +28,7 @@ use Rattle.pads_calc.specs.Choices.{branch_of, alt_from, case_at, switch_of}
 use Rattle.pads_calc.specs.Leaves.{unit_of, lit_of, eor_of, at_end, base_node, base_of, computed_told, compute_node, compute_of}
 use Rattle.pads_calc.specs.Readings.{Subject, Reader, leaf, fails, is_ok, values}
 use Rattle.pads_calc.specs.Structs.{Named, bind, in_turn, struct_of}
-use Rattle.pads_calc.specs.Wrappers.{constrained, guard_of, absorb_of, found_at, scan, scan_from}
+use Rattle.pads_calc.specs.Wrappers.{constrained, guard_of, absorb_of, found_at, last_place, scan, scan_from}
 use Rattle.pads_calc.proofs.Cases.{pick}
 use Rattle.pads_calc.proofs.Choices.{slice_get-map}
 use Rattle.pads_calc.proofs.Induction.{EachPart, EachArm, EachCase}
@@ -108,7 +108,7 @@ module _ (declared : List Sort) (subject : Subject) where
       (λ _. found-has sort i j (inner env j) (h env j)) (λ _. scan_from-has sort inner h env i places (j + 1))
 
   pub scan-has : (sort : Sort) (inner : Reader) → ReadsAs sort inner → (env : Pairs) (i : ℕ) → Of sort (scan subject inner env i)
-  scan-has sort inner h env i = scan_from-has sort inner h env i (suc (length subject.bytes - i)) i
+  scan-has sort inner h env i = scan_from-has sort inner h env i (suc (last_place subject i - i)) i
 
   -- where terms read so
   module _ (reads : Term → Reader) where

@@ -34,11 +34,11 @@ module _ (declared : List Sort) (decls : List Decl) (are : AreSorts declared dec
   row_by-has mark.Long number cut r sort h = has-Missing declared sort
   row_by-has mark.Broken number cut r sort h = has-Missing declared sort
 
-  pub row-has : (shape : Shape) (number : ℕ) (cut : Cut) → has_sort declared (row_of decls shape number cut).value (sort_at declared (type_of shape number)) ≡ true
-  row-has shape number cut =
-      row_by-has cut.mark number cut (kept_reading decls (type_of shape number) cut) (sort_at declared (type_of shape number))
-      (erased-has declared (keepings_of decls) deepest (type_of shape number) (body_reading decls (type_of shape number) cut).value (sort_at declared (type_of shape number))
-      (caller-has declared decls are (subject_of_cut cut) deepest (type_of shape number) [] [] 0))
+  pub row-has : (shape : Shape) (scan number : ℕ) (cut : Cut) → has_sort declared (row_of decls shape scan number cut).value (sort_at declared (type_of shape number)) ≡ true
+  row-has shape scan number cut =
+      row_by-has cut.mark number cut (kept_reading decls scan (type_of shape number) cut) (sort_at declared (type_of shape number))
+      (erased-has declared (keepings_of decls) deepest (type_of shape number) (body_reading decls scan (type_of shape number) cut).value (sort_at declared (type_of shape number))
+      (caller-has declared decls are (subject_of_cut scan cut) deepest (type_of shape number) [] [] 0))
 
 module _ (sorts : Sorts) (decls : List Decl) (are : AreSorted sorts decls) (subject : Subject) where
   -- where nothing is bound

@@ -30,7 +30,7 @@ use Rattle.pads_calc.specs.Choices.{branch_of, alt_from, case_at, switch_of}
 use Rattle.pads_calc.specs.Leaves.{unit_of, lit_of, eor_of, at_end, base_node, base_of, computed_told, compute_node, compute_of}
 use Rattle.pads_calc.specs.Readings.{Subject, Reader, leaf, fails, is_ok, values}
 use Rattle.pads_calc.specs.Structs.{bind, in_turn, struct_of}
-use Rattle.pads_calc.specs.Wrappers.{constrained, guard_of, absorb_of, found_at, scan, scan_from}
+use Rattle.pads_calc.specs.Wrappers.{constrained, guard_of, absorb_of, found_at, last_place, scan, scan_from}
 use Rattle.pads_calc.proofs.Cases.{pick}
 use Rattle.pads_calc.proofs.Choices.{slice_get-map}
 use Rattle.pads_calc.proofs.Induction.{EachPart, EachArm, EachCase}
@@ -153,4 +153,4 @@ module _ (subject : Subject) where
       (λ _. sound-scan_from inner h env i places (j + 1) (omega arith) (λ inside. omega (arith, room inside)))
 
   pub sound-scan : (inner : Reader) → SoundReader subject inner → (env : Pairs) (i : ℕ) → Here i (scan subject inner env i)
-  sound-scan inner h env i = sound-scan_from inner h env i (suc (length subject.bytes - i)) i (omega arith) (λ inside. omega arith)
+  sound-scan inner h env i = sound-scan_from inner h env i (suc (last_place subject i - i)) i (omega arith) (λ inside. omega arith)

@@ -21,12 +21,12 @@ use Rattle.law_calculus.proofs.SoundNodes.{AllCounts, AllSpans, head-counts, hea
 use Rattle.law_calculus.proofs.SoundReadings.{Sound, sound-bare}
 use Rattle.law_calculus.proofs.SoundTerms.{sound-caller}
 
-module _ (cut : Cut) where
+module _ (scan : ℕ) (cut : Cut) where
   abbrev Body : Reading → Type 0
-  Body r = Sound (subject_of_cut cut) 0 r
+  Body r = Sound (subject_of_cut scan cut) 0 r
 
-  sound-rest : (place : ℕ) → place ≤ length cut.bytes → Sound (subject_of_cut cut) place (faulty cut.first cause.ExtraBeforeEor place (length cut.bytes))
-  sound-rest place before = sound-bare (subject_of_cut cut) (Some (record { cause = cause.ExtraBeforeEor; fails = false })) val.Missing place (length cut.bytes) before (λ _. omega arith)
+  sound-rest : (place : ℕ) → place ≤ length cut.bytes → Sound (subject_of_cut scan cut) place (faulty cut.first cause.ExtraBeforeEor place (length cut.bytes))
+  sound-rest place before = sound-bare (subject_of_cut scan cut) (Some (record { cause = cause.ExtraBeforeEor; fails = false })) val.Missing place (length cut.bytes) before (λ _. omega arith)
 
   extra-counts : (place : ℕ) → AllCounts (extra cut place)
   extra-counts place =
@@ -87,24 +87,24 @@ module _ (cut : Cut) where
   marked-span mark.Long number r = span-head (Some (record { cause = cause.RecordLong; fails = true })) (record { begin = cut.first; end = cut.end }) []
   marked-span mark.Broken number r = span-head (Some (record { cause = cause.RecordBroken; fails = true })) (record { begin = cut.first; end = cut.end }) []
 
-  sound-body_reading : (decls : List Decl) (number : ℕ) → Body (body_reading decls number cut)
-  sound-body_reading decls number = sound-caller (subject_of_cut cut) decls deepest number [] [] 0
+  sound-body_reading : (decls : List Decl) (number : ℕ) → Body (body_reading decls scan number cut)
+  sound-body_reading decls number = sound-caller (subject_of_cut scan cut) decls deepest number [] [] 0
 
   -- erasing leaves the descriptor and the place
-  sound-kept : (decls : List Decl) (number : ℕ) → Body (kept_reading decls number cut)
+  sound-kept : (decls : List Decl) (number : ℕ) → Body (kept_reading decls scan number cut)
   sound-kept decls number =
       let h = sound-body_reading decls number in
       record { counts = h.counts; spans = h.spans; span = h.span; forth = h.forth; within = h.within }
 
-pub sound-row_counts : (decls : List Decl) (shape : Shape) (number : ℕ) (cut : Cut) → CountsAreSound (row_of decls shape number cut).pd
-sound-row_counts decls shape number cut =
-    marked-counts cut cut.mark number (kept_reading decls (type_of shape number) cut) (sound-kept cut decls (type_of shape number))
+pub sound-row_counts : (decls : List Decl) (shape : Shape) (scan number : ℕ) (cut : Cut) → CountsAreSound (row_of decls shape scan number cut).pd
+sound-row_counts decls shape scan number cut =
+    marked-counts scan cut cut.mark number (kept_reading decls scan (type_of shape number) cut) (sound-kept scan cut decls (type_of shape number))
 
-pub sound-row_spans : (decls : List Decl) (shape : Shape) (number : ℕ) (cut : Cut) → cut.first + length cut.bytes ≤ cut.end
-    → SpansAreSound (row_of decls shape number cut).pd
-sound-row_spans decls shape number cut inside =
-    marked-spans cut cut.mark number (kept_reading decls (type_of shape number) cut) (sound-kept cut decls (type_of shape number)) inside
+pub sound-row_spans : (decls : List Decl) (shape : Shape) (scan number : ℕ) (cut : Cut) → cut.first + length cut.bytes ≤ cut.end
+    → SpansAreSound (row_of decls shape scan number cut).pd
+sound-row_spans decls shape scan number cut inside =
+    marked-spans scan cut cut.mark number (kept_reading decls scan (type_of shape number) cut) (sound-kept scan cut decls (type_of shape number)) inside
 
-pub sound-row_span : (decls : List Decl) (shape : Shape) (number : ℕ) (cut : Cut)
-    → (out-Pd (row_of decls shape number cut).pd).span ≡ record { begin = cut.first; end = cut.end }
-sound-row_span decls shape number cut = marked-span cut cut.mark number (kept_reading decls (type_of shape number) cut)
+pub sound-row_span : (decls : List Decl) (shape : Shape) (scan number : ℕ) (cut : Cut)
+    → (out-Pd (row_of decls shape scan number cut).pd).span ≡ record { begin = cut.first; end = cut.end }
+sound-row_span decls shape scan number cut = marked-span scan cut cut.mark number (kept_reading decls scan (type_of shape number) cut)

@@ -35,5 +35,5 @@ abbrev pub ill_worth : Worth → Worths
 ill_worth instead e env = told_or instead (value e env)
 
 -- a record of the type of this number, read by these worths
-abbrev pub record_by : Worths → List Decl → ℕ → Cut → Reading
-record_by worths decls number cut = meaning_by worths (subject_of_cut cut) decls deepest (term.Call number []) [] 0
+abbrev pub record_by : Worths → List Decl → ℕ → ℕ → Cut → Reading
+record_by worths decls scan number cut = meaning_by worths (subject_of_cut scan cut) decls deepest (term.Call number []) [] 0

@@ -18,6 +18,7 @@ use Rattle.pads_calc.specs.declared.term.Term.{Term}
 use Rattle.pads_calc.specs.declared.term.Term.TheVariants as term
 use Rattle.pads_calc.specs.Calculus.{meaning}
 use Rattle.pads_calc.specs.Readings.{Subject}
+use Rattle.pads_calc.specs.Rows.{farthest}
 
 abbrev pub u8 : Base
 u8 = base.Int kind.U8 coding.Ascii
@@ -42,7 +43,7 @@ pair = term.Struct parts
 
 -- a record of these bytes, at the input's start
 abbrev pub first_of : List ℕ → Subject
-first_of bytes = record { origin = 0; bytes = bytes }
+first_of bytes = record { origin = 0; bytes = bytes; scan = farthest }
 
 -- what it reads as at the first of these bytes, by the definition
 abbrev pub read_pair : List ℕ → Reading

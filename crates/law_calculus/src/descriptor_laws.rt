@@ -36,19 +36,19 @@ pub fn readings_have_sound_descriptors()
 /// Its descriptor's counts are sound, and so are its spans where the record's bytes lie in its extent, as
 /// those of each frame do. Its own span is the record's extent.
 pub fn rows_have_sound_descriptors()
-    ensures counts { (decls : List Decl) (shape : Shape) (number : ℕ) (cut : Cut)
-        → CountsAreSound (row_of decls shape number cut).pd }
-    ensures spans { (decls : List Decl) (shape : Shape) (number : ℕ) (cut : Cut)
-        → cut.first + length cut.bytes ≤ cut.end → SpansAreSound (row_of decls shape number cut).pd }
-    ensures extent { (decls : List Decl) (shape : Shape) (number : ℕ) (cut : Cut)
-        → (out-Pd (row_of decls shape number cut).pd).span ≡ record { begin = cut.first; end = cut.end } }
+    ensures counts { (decls : List Decl) (shape : Shape) (scan number : ℕ) (cut : Cut)
+        → CountsAreSound (row_of decls shape scan number cut).pd }
+    ensures spans { (decls : List Decl) (shape : Shape) (scan number : ℕ) (cut : Cut)
+        → cut.first + length cut.bytes ≤ cut.end → SpansAreSound (row_of decls shape scan number cut).pd }
+    ensures extent { (decls : List Decl) (shape : Shape) (scan number : ℕ) (cut : Cut)
+        → (out-Pd (row_of decls shape scan number cut).pd).span ≡ record { begin = cut.first; end = cut.end } }
 {}
 
 /// The law for the row of a record that a frame lends: its descriptor's counts and spans are sound, with
 /// no premise, since the frame's bytes lie in its extent.
 pub fn rows_of_frames_have_sound_descriptors(frame: &Frame)
-    ensures counts { (decls : List Decl) (shape : Shape) (number : ℕ)
-        → CountsAreSound (row_of decls shape number (cut_of_frame frame.now)).pd }
-    ensures spans { (decls : List Decl) (shape : Shape) (number : ℕ)
-        → SpansAreSound (row_of decls shape number (cut_of_frame frame.now)).pd }
+    ensures counts { (decls : List Decl) (shape : Shape) (scan number : ℕ)
+        → CountsAreSound (row_of decls shape scan number (cut_of_frame frame.now)).pd }
+    ensures spans { (decls : List Decl) (shape : Shape) (scan number : ℕ)
+        → SpansAreSound (row_of decls shape scan number (cut_of_frame frame.now)).pd }
 {}

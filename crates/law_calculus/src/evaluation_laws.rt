@@ -32,6 +32,6 @@ pub fn sorted_readings_need_nothing_ill_sorted()
     ensures term { (subject : Subject) (decls : List Decl) (sorts : Sorts) (scope : SortScope) (now : Moment) (worths : Worths)
         → AgreesOnSorted worths → AreSorted sorts decls → IsSorted sorts scope now.term → HasSorts sorts.declared scope now.env
         → meaning_by worths subject decls now.depth now.term now.env now.place ≡ meaning subject decls now.depth now.term now.env now.place }
-    ensures record_reading { (decls : List Decl) (number : ℕ) (cut : Cut) (worths : Worths)
-        → AgreesOnSorted worths → Sorted decls → record_by worths decls number cut ≡ body_reading decls number cut }
+    ensures record_reading { (decls : List Decl) (scan number : ℕ) (cut : Cut) (worths : Worths)
+        → AgreesOnSorted worths → Sorted decls → record_by worths decls scan number cut ≡ body_reading decls scan number cut }
 {}

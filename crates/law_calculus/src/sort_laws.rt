@@ -36,9 +36,9 @@ pub fn readings_have_their_sorts()
     ensures reading { (subject : Subject) (decls : List Decl) (declared : List Sort) (depth : ℕ) (t : Term) (env : Pairs) (i : ℕ)
         → AreSorts declared decls
         → has_sort declared (meaning subject decls depth t env i).value (sort_of declared t) ≡ true }
-    ensures row { (decls : List Decl) (declared : List Sort) (shape : Shape) (number : ℕ) (cut : Cut)
+    ensures row { (decls : List Decl) (declared : List Sort) (shape : Shape) (scan number : ℕ) (cut : Cut)
         → AreSorts declared decls
-        → has_sort declared (row_of decls shape number cut).value (sort_at declared (type_of shape number)) ≡ true }
+        → has_sort declared (row_of decls shape scan number cut).value (sort_at declared (type_of shape number)) ≡ true }
 {}
 
 /// The law of well-sorted modules: no expression that the calculus evaluates is ill-sorted, where a
@@ -51,8 +51,8 @@ pub fn sorted_modules_evaluate_nothing_ill_sorted()
         → Evaluates subject decls now e env → value e env ≢ Ill }
     ensures record_type { (subject : Subject) (decls : List Decl) (number : ℕ) (e : Expr) (env : Pairs)
         → Sorted decls → Evaluates subject decls (moment deepest (Call number []) [] 0) e env → value e env ≢ Ill }
-    ensures record_reading { (decls : List Decl) (number : ℕ) (cut : Cut)
-        → body_reading decls number cut ≡ meaning (subject_of_cut cut) decls deepest (Call number []) [] 0 }
+    ensures record_reading { (decls : List Decl) (scan number : ℕ) (cut : Cut)
+        → body_reading decls scan number cut ≡ meaning (subject_of_cut scan cut) decls deepest (Call number []) [] 0 }
 {}
 
 /// The law of plain modules: the values of their declarations have sorts, and each but one.

@@ -56,23 +56,23 @@ pub record RecordBytes (decls : List Decl) (number : ℕ) (v : Val) (most : ℕ)
   pub short : length bytes ≤ most
   pub fits : FitsType decls number v bytes
 
-body-has : (decls : List Decl) (number : ℕ) (cut : Cut) → Plain decls → length cut.bytes ≤ widest → is_ok (body_reading decls number cut) ≡ true
-    → RecordBytes decls number (body_reading decls number cut).value (length cut.bytes)
-body-has decls number cut plain bounded ok =
-    let subject = subject_of_cut cut in
+body-has : (decls : List Decl) (scan number : ℕ) (cut : Cut) → Plain decls → length cut.bytes ≤ widest → is_ok (body_reading decls scan number cut) ≡ true
+    → RecordBytes decls number (body_reading decls scan number cut).value (length cut.bytes)
+body-has decls scan number cut plain bounded ok =
+    let subject = subject_of_cut scan cut in
     let here = call-has subject decls plain bounded deepest number [] [] 0 (suc number) (plain-call number []) ok in
     let sound = sound-caller subject decls deepest number [] [] 0 in
     record {
       bytes = here.bytes;
-      is = sym (spelled-Call (call_spelled decls deepest) number [] [] (body_reading decls number cut).value) ∙ here.is;
+      is = sym (spelled-Call (call_spelled decls deepest) number [] [] (body_reading decls scan number cut).value) ∙ here.is;
       short = omega (arith, here.short, sound.within (omega arith));
       fits = here.fits;
     }
 
-pub row-has : (decls : List Decl) (shape : Shape) (number : ℕ) (cut : Cut) → Plain decls → KeepsAll decls → length cut.bytes ≤ widest → is_clean (row_of decls shape number cut).pd ≡ true
-    → RecordBytes decls (type_of shape number) (row_of decls shape number cut).value (length cut.bytes)
-row-has decls shape number cut plain keeps bounded ok =
-    let r = body_reading decls (type_of shape number) cut in
-    let row = clean-row cut.mark number cut (kept_reading decls (type_of shape number) cut) ok in
-    let is : (row_of decls shape number cut).value ≡ r.value = row.is ∙ kept-value decls keeps (type_of shape number) r in
-    subst (λ v. RecordBytes decls (type_of shape number) v (length cut.bytes)) (sym is) (body-has decls (type_of shape number) cut plain bounded row.clean)
+pub row-has : (decls : List Decl) (shape : Shape) (scan number : ℕ) (cut : Cut) → Plain decls → KeepsAll decls → length cut.bytes ≤ widest → is_clean (row_of decls shape scan number cut).pd ≡ true
+    → RecordBytes decls (type_of shape number) (row_of decls shape scan number cut).value (length cut.bytes)
+row-has decls shape scan number cut plain keeps bounded ok =
+    let r = body_reading decls scan (type_of shape number) cut in
+    let row = clean-row cut.mark number cut (kept_reading decls scan (type_of shape number) cut) ok in
+    let is : (row_of decls shape scan number cut).value ≡ r.value = row.is ∙ kept-value decls keeps (type_of shape number) r in
+    subst (λ v. RecordBytes decls (type_of shape number) v (length cut.bytes)) (sym is) (body-has decls scan (type_of shape number) cut plain bounded row.clean)

@@ -29,16 +29,16 @@ pub fn clean_readings_fit()
 /// 16,777,216 bytes: the value of a row that is clean has canonical bytes, which are at most as many as the
 /// record's and fit the value.
 pub fn clean_records_have_canonical_bytes()
-    ensures there { (decls : List Decl) (shape : Shape) (number : ℕ) (cut : Cut)
-        → let row = row_of decls shape number cut in
+    ensures there { (decls : List Decl) (shape : Shape) (scan number : ℕ) (cut : Cut)
+        → let row = row_of decls shape scan number cut in
         Plain decls → KeepsAll decls → length cut.bytes ≤ widest → is_clean row.pd ≡ true
         → IsSome (canon_of decls (type_of shape number) row.value) }
-    ensures short { (decls : List Decl) (shape : Shape) (number : ℕ) (cut : Cut) (bytes : List ℕ)
-        → let row = row_of decls shape number cut in
+    ensures short { (decls : List Decl) (shape : Shape) (scan number : ℕ) (cut : Cut) (bytes : List ℕ)
+        → let row = row_of decls shape scan number cut in
         Plain decls → KeepsAll decls → length cut.bytes ≤ widest → is_clean row.pd ≡ true
         → canon_of decls (type_of shape number) row.value ≡ Some bytes → length bytes ≤ length cut.bytes }
-    ensures fits { (decls : List Decl) (shape : Shape) (number : ℕ) (cut : Cut) (bytes : List ℕ)
-        → let row = row_of decls shape number cut in
+    ensures fits { (decls : List Decl) (shape : Shape) (scan number : ℕ) (cut : Cut) (bytes : List ℕ)
+        → let row = row_of decls shape scan number cut in
         Plain decls → KeepsAll decls → length cut.bytes ≤ widest → is_clean row.pd ≡ true
         → canon_of decls (type_of shape number) row.value ≡ Some bytes
         → FitsType decls (type_of shape number) row.value bytes }

@@ -21,8 +21,8 @@ by-code decls code entries shape is h =
     subst (λ code. StandsFor code entries shape (stack_need code entries shape) decls) (sym is.code_is)
     (subst (λ entries. StandsFor (code_of decls) entries shape (stack_need (code_of decls) entries shape) decls) (sym is.entries_are) h)
 
-pub answers : (code : List Op) (entries : List Entry) (shape : Shape) → is_valid code entries shape ≡ true → (number : ℕ) (cut : Cut)
-    → (row : Row) × Answers code entries shape (stack_need code entries shape) number cut row
-answers code entries shape valid number cut =
+pub answers : (code : List Op) (entries : List Entry) (shape : Shape) → is_valid code entries shape ≡ true → (scan number : ℕ) (cut : Cut)
+    → (row : Row) × Answers code entries shape scan (stack_need code entries shape) number cut row
+answers code entries shape valid scan number cut =
     let found = decls-of code entries shape valid in
-    (row_of found.0 shape number cut, by-code found.0 code entries shape found.1 (stands-for found.0 shape found.2) number cut)
+    (row_of found.0 shape scan number cut, by-code found.0 code entries shape found.1 (stands-for found.0 shape found.2) scan number cut)

@@ -239,13 +239,13 @@ need-of-type found head each (suc number) = omega arith
 -- the code of a module stands for it
 pub stands-for : (decls : List Decl) (shape : Shape) → shape_there (length decls) shape ≡ true
     → StandsFor (code_of decls) (entries_of decls) shape (stack_need (code_of decls) (entries_of decls) shape) decls
-stands-for decls shape shaped number cut =
-    let subject = subject_of_cut cut in
+stands-for decls shape shaped scan number cut =
+    let subject = subject_of_cut scan cut in
     let most = stack_need (code_of decls) (entries_of decls) shape in
     let found = declared-type decls shape.head shape.each shaped number in
     let arities : arities_of_entries (entries_of decls) ≡ arities_of decls = arities-same decls 0 in
     let small = need-of-type (needs (code_of decls) (arities_of decls) inside) shape.head shape.each number in (
-      body_reading decls (type_of shape number) cut,
+      body_reading decls scan (type_of shape number) cut,
       halts decls subject most (type_of shape number) found.0 found.1 (subst (λ (arities : List ℕ). get_or (needs (code_of decls) (arities_of decls) inside) (type_of shape number) 0 ≤ need_of (needs (code_of decls) arities inside) shape) (sym arities) small),
-      ap (λ kept. row_by cut.mark number cut (kept_by kept (type_of shape number) (body_reading decls (type_of shape number) cut))) (sym (kept-same decls 0)),
+      ap (λ kept. row_by cut.mark number cut (kept_by kept (type_of shape number) (body_reading decls scan (type_of shape number) cut))) (sym (kept-same decls 0)),
     )

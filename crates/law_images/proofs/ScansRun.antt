@@ -1,13 +1,12 @@
 -- The code of a search runs as the search reads, where the code of the term in it does: place by place, up
--- to the first clean reading or the record's end, with the cause of the first try in the mark.
-use Rattle.std.proofs.Common.{◌≡◌, ◌∙◌, sym, ap, refl, arith, true, false, nat_lt, if◌then◌else◌, ℕ, zero, suc, ◌+◌, ◌-◌, ◌≤◌, List, [], ◌∷◌, ◌++◌, length, Option, Some, None}
+-- to the first clean reading or the last place, with the cause of the first try in the mark.
+use Rattle.std.proofs.Common.{◌≡◌, ◌∙◌, sym, ap, refl, arith, true, false, not, nat_lt, if◌then◌else◌, ℕ, zero, suc, ◌+◌, ◌-◌, ◌≤◌, List, [], ◌∷◌, ◌++◌, length, Option, Some, None}
 use Rattle.pads_value.specs.declared.cause.Cause.{Cause}
 use Rattle.pads_calc.specs.declared.reading.Reading.{Reading}
 use Rattle.pads_calc.specs.declared.term.Term.{Term}
 use Rattle.pads_calc.specs.Calculus.{Caller, read}
-use Rattle.pads_calc.specs.Leaves.{at_end}
 use Rattle.pads_calc.specs.Readings.{Subject, fails, is_ok, blame}
-use Rattle.pads_calc.specs.Wrappers.{found_at, scan, scan_from}
+use Rattle.pads_calc.specs.Wrappers.{found_at, last_place, scan, scan_from}
 use Rattle.pads_calc.proofs.Cases.{pick}
 use Rattle.pads_calc.proofs.Scans.{scan-none, scan-step}
 use Rattle.law_calculus.proofs.SoundReadings.{SoundReader}
@@ -17,7 +16,7 @@ use Rattle.pads_image.specs.declared.op.Op.TheVariants as op
 use Rattle.pads_image.specs.Blocks.{Block, scan_block, layout}
 use Rattle.pads_image.specs.Heights.{Deeper}
 use Rattle.pads_image.specs.States.{State, Mark, seen}
-use Rattle.pads_image.specs.Steps.{Step, Goes, back_to, cause_or}
+use Rattle.pads_image.specs.Steps.{Step, Goes, back_to, cause_or, is_last_place}
 use Rattle.law_images.proofs.LevelledTerms.{levelled}
 use Rattle.pads_image.proofs.Lengths.{sized}
 use Rattle.law_images.proofs.Levels.{below-left, below-right}
@@ -33,11 +32,11 @@ mark_of place cause = record { place = place; cause = cause }
 abbrev looking : State → ℕ → Reading → Option Cause → State
 looking s q r cause = record s { at_ = q; last = r; marks = mark_of s.last.place cause ∷ s.marks }
 
-at-end : (bytes : List ℕ) (j : ℕ) → length bytes ≤ j → at_end bytes j ≡ true
-at-end bytes j over = let past : nat_lt j (length bytes) ≡ false = grind (arith, over) in rw past refl
+no-further : (last j : ℕ) → last ≤ j → not (nat_lt j last) ≡ true
+no-further last j over = let past : nat_lt j last ≡ false = grind (arith, over) in rw past refl
 
-not-at_end : (bytes : List ℕ) (j : ℕ) → j + 1 ≤ length bytes → at_end bytes j ≡ false
-not-at_end bytes j more = let inside : nat_lt j (length bytes) ≡ true = grind (arith, more) in rw inside refl
+goes-further : (last j : ℕ) → j + 1 ≤ last → not (nat_lt j last) ≡ false
+goes-further last j more = let inside : nat_lt j last ≡ true = grind (arith, more) in rw inside refl
 
 module _ (code : List Op) (of_entries : List Entry) (subject : Subject) (most : ℕ) (deeper : Deeper) (depth : ℕ) (call : Caller)
     (sound : (t : Term) → SoundReader subject (read subject call t)) where
@@ -48,6 +47,9 @@ module _ (code : List Op) (of_entries : List Entry) (subject : Subject) (most : 
 
     abbrev place : ℕ
     place = s.last.place
+
+    abbrev last : ℕ
+    last = last_place subject place
 
     abbrev reader : ℕ → Reading
     reader j = read subject call inner (seen s) j
@@ -69,7 +71,7 @@ module _ (code : List Op) (of_entries : List Entry) (subject : Subject) (most : 
     abbrev looked : Reading → Cause → ℕ → Step
     looked r kept j =
         if is_ok r then Goes (ended (found_at subject.origin place j r))
-        else if at_end subject.bytes j then Goes (ended (fails subject.origin kept place))
+        else if is_last_place subject place j then Goes (ended (fails subject.origin kept place))
         else Goes (looking s (p + 1) (back_to (j + 1) r) (Some kept))
 
     abbrev Reached : State → State → Type 0
@@ -109,10 +111,10 @@ module _ (code : List Op) (of_entries : List Entry) (subject : Subject) (most : 
     looked-clean : (r : Reading) (kept : Cause) (j : ℕ) → is_ok r ≡ true → looked r kept j ≡ Goes (ended (found_at subject.origin place j r))
     looked-clean r kept j ok = rw ok refl
 
-    looked-over : (r : Reading) (kept : Cause) (j : ℕ) → is_ok r ≡ false → at_end subject.bytes j ≡ true → looked r kept j ≡ Goes (ended (fails subject.origin kept place))
+    looked-over : (r : Reading) (kept : Cause) (j : ℕ) → is_ok r ≡ false → is_last_place subject place j ≡ true → looked r kept j ≡ Goes (ended (fails subject.origin kept place))
     looked-over r kept j bad over = rw (bad, over) refl
 
-    looked-on : (r : Reading) (kept : Cause) (j : ℕ) → is_ok r ≡ false → at_end subject.bytes j ≡ false
+    looked-on : (r : Reading) (kept : Cause) (j : ℕ) → is_ok r ≡ false → is_last_place subject place j ≡ false
         → looked r kept j ≡ Goes (looking s (p + 1) (back_to (j + 1) r) (Some kept))
     looked-on r kept j bad more = rw (bad, more) refl
 
@@ -127,29 +129,31 @@ module _ (code : List Op) (of_entries : List Entry) (subject : Subject) (most : 
         (λ ok. tried j cause r (ended found) here within (looked-clean r1 (cause_or cause (blame r1)) j ok)) later)
 
     -- the tries from `j` on, of which so many are left behind it; the cause is that of the first one
-    tries : (places j : ℕ) (cause : Option Cause) (r : Reading) → r.place ≡ j → j ≤ length subject.bytes → length subject.bytes - j ≡ places
+    tries : (places j : ℕ) (cause : Option Cause) (r : Reading) → r.place ≡ j → j ≤ last → last - j ≡ places
         → cause_or cause (blame (reader j)) ≡ blame (reader place) → Reached (looking s (p + 1) r cause) (ended (search (suc places) j))
-    tries zero j cause r here within left kept =
+    tries zero j cause r here before left kept =
+        let within : j ≤ length subject.bytes = omega (arith, before) in
         let first = fails subject.origin (blame (reader place)) place in
         found-or zero j cause r here within (λ bad.
         to-same code of_entries subject most (looking s (p + 1) r cause) (ended first) (ended (search zero (j + 1)))
         (ap (λ r. ended r) (sym (scan-none subject.origin (read subject call inner) (seen s) place (j + 1))))
         (tried j cause r (ended first) here within
-        (looked-over (reader j) (cause_or cause (blame (reader j))) j bad (at-end subject.bytes j (omega (arith, left)))
+        (looked-over (reader j) (cause_or cause (blame (reader j))) j bad (no-further last j (omega (arith, left)))
         ∙ ap (λ kept. Goes (ended (fails subject.origin kept place))) kept)))
-    tries (suc places) j cause r here within left kept =
+    tries (suc places) j cause r here before left kept =
+        let within : j ≤ length subject.bytes = omega (arith, before) in
         let r1 = reader j in
         let given = cause_or cause (blame r1) in
         let t = looking s (p + 1) (back_to (j + 1) r1) (Some given) in
-        let more : j + 1 ≤ length subject.bytes = omega (arith, left) in
+        let more : j + 1 ≤ last = omega (arith, left) in
         found-or (suc places) j cause r here within (λ bad.
         join code of_entries subject most (looking s (p + 1) r cause) t (ended (search (suc places) (j + 1)))
-        (tried j cause r t here within (looked-on r1 given j bad (not-at_end subject.bytes j more)))
+        (tried j cause r t here within (looked-on r1 given j bad (goes-further last j more)))
         (tries places (j + 1) (Some given) (back_to (j + 1) r1) refl more (omega (arith, left)) kept))
 
     searched : Reached s (behind s (p + (b.size + 2)) (scan subject (read subject call inner) (seen s) place))
     searched =
-        let left = length subject.bytes - place in
+        let left = last - place in
         let t = looking s (p + 1) s.last None in
         let r = search (suc left) place in
         let next : q + 1 ≡ p + (b.size + 2) = omega arith in
@@ -157,7 +161,7 @@ module _ (code : List Op) (of_entries : List Entry) (subject : Subject) (most : 
         (join code of_entries subject most s t (ended r)
         (once code of_entries subject most s t p op.ScanFrom ready.at_ (first-there code p op.ScanFrom (b.code (p + 1) ++ on ∷ []) ready.there)
         (omega (arith, ready.counted, ready.fits.0)) (ap (λ a. Goes (looking s (a + 1) s.last None)) ready.at_))
-        (tries left place None s.last refl ready.within refl refl))
+        (tries left place None s.last refl (omega (arith, ready.within)) refl refl))
 
   pub scan-runs : (inner : Term) → RunsAs code of_entries subject most deeper depth (layout inner) (read subject call inner)
       → RunsAs code of_entries subject most deeper depth (scan_block (layout inner)) (λ env i. scan subject (read subject call inner) env i)

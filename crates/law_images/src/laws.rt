@@ -33,5 +33,5 @@ pub fn valid_image_is_that_of_declarations()
 /// The law of runs: over every valid image the machine halts for each record, with the row of some
 /// reading, and never has more entries on its stacks than the need.
 pub fn valid_image_answers()
-    ensures answers { (code : List Op) (entries : List Entry) (shape : Shape) → is_valid code entries shape ≡ true → (number : ℕ) (cut : Cut) → (row : Row) × Answers code entries shape (stack_need code entries shape) number cut row }
+    ensures answers { (code : List Op) (entries : List Entry) (shape : Shape) → is_valid code entries shape ≡ true → (scan number : ℕ) (cut : Cut) → (row : Row) × Answers code entries shape scan (stack_need code entries shape) number cut row }
 {}

@@ -71,13 +71,13 @@ module _ (image : Image) where
   rows-answer number (cut ∷ cuts) (row ∷ rows) are = (are.0.answer, rows-answer (number + 1) cuts rows are.1)
 
   rows-calculus : (number : ℕ) (cuts : List Cut) (rows : List Row) → AreRows (IsRead image) number cuts rows → (decls : List Decl) → StandsForThem image decls
-      → rows ≡ rows_of decls image.shape number cuts
+      → rows ≡ rows_of decls image.shape image.scan number cuts
   rows-calculus number [] [] are decls stands = refl
   rows-calculus number [] (row ∷ rows) are decls stands = absurd are
   rows-calculus number (cut ∷ cuts) [] are decls stands = absurd are
   rows-calculus number (cut ∷ cuts) (row ∷ rows) are decls stands =
       ap (λ first. first ∷ rows) (are.0.row_is decls stands)
-      ∙ ap (λ more. row_of decls image.shape number cut ∷ more) (rows-calculus (number + 1) cuts rows are.1 decls stands)
+      ∙ ap (λ more. row_of decls image.shape image.scan number cut ∷ more) (rows-calculus (number + 1) cuts rows are.1 decls stands)
 
   pub if-answer : {E : Type 0} (number : ℕ) (cuts : List Cut) (outcome : Result (List Row) E) → IfOk outcome (AreRows (IsRead image) number cuts)
       → IfOk outcome (AreRows (IsAnswer image) number cuts)
@@ -85,6 +85,6 @@ module _ (image : Image) where
   if-answer number cuts (Err e) are = tt
 
   pub if-calculus : {E : Type 0} (number : ℕ) (cuts : List Cut) (outcome : Result (List Row) E) → IfOk outcome (AreRows (IsRead image) number cuts)
-      → IfOk outcome (λ rows. (decls : List Decl) → StandsForThem image decls → rows ≡ rows_of decls image.shape number cuts)
+      → IfOk outcome (λ rows. (decls : List Decl) → StandsForThem image decls → rows ≡ rows_of decls image.shape image.scan number cuts)
   if-calculus number cuts (Ok rows) are = rows-calculus number cuts rows are
   if-calculus number cuts (Err e) are = tt

@@ -118,7 +118,7 @@ pub fn read_batch<R: Threads + Sync, G: Gate + Sync>(
     requires numbered { first_no + length frames.now < 2 ^ 64 }
     ensures answers { IfOk result (λ rows. AreRows (IsAnswer image.now) first_no (map cut_of_kept frames.now) rows) }
     ensures rows { IfOk result (λ rows. (decls : List Decl) → StandsForThem image.now decls
-        → rows ≡ rows_of decls image.now.shape first_no (map cut_of_kept frames.now)) }
+        → rows ≡ rows_of decls image.now.shape image.now.scan first_no (map cut_of_kept frames.now)) }
 {
     read_shared(rt, alloc, image, first_no, frames, jobs, gate)
 }

@@ -1,5 +1,5 @@
 -- What a call reads as, case by case.
-use Rattle.std.proofs.Common.{◌≡◌, ◌≢◌, ℕ, zero, suc, ◌-◌, ◌∙◌, List, [], Option, Some, None, slice_get, refl, sym, ap, arith}
+use Rattle.std.proofs.Common.{◌≡◌, ◌≢◌, ℕ, zero, suc, ◌-◌, ◌∙◌, List, [], Some, None, slice_get, refl, ap, arith}
 use Rattle.pads_value.specs.declared.cause.Cause.TheVariants as cause
 use Rattle.pads_expr.specs.Value.{Pairs}
 use Rattle.pads_expr.specs.declared.expr.Expr.{Expr}

@@ -31,7 +31,7 @@ use Rattle.pads_calc.specs.Choices.{branch_of, alt_from, case_at, switch_of}
 use Rattle.pads_calc.specs.Leaves.{lit_of, eor_of, at_end, base_node, base_of, computed_told, compute_node, compute_of}
 use Rattle.pads_calc.specs.Readings.{Subject, Reader, leaf, fails, is_ok, values, pds, end_of}
 use Rattle.pads_calc.specs.Structs.{bind, in_turn, struct_of}
-use Rattle.pads_calc.specs.Wrappers.{constrained, guard_of, absorb_of, found_at, scan, scan_from}
+use Rattle.pads_calc.specs.Wrappers.{constrained, guard_of, absorb_of, found_at, last_place, scan, scan_from}
 use Rattle.pads_calc.proofs.Calls.{caller-zero, caller-suc}
 use Rattle.pads_calc.proofs.Cases.{pick}
 use Rattle.pads_calc.proofs.Choices.{slice_get-map}
@@ -153,7 +153,7 @@ module _ (origin : ℕ) (inner : Reader) (env : Pairs) (i : ℕ) where
 
 pub clean-scan : (subject : Subject) (inner : Reader) (env : Pairs) (i : ℕ) → is_ok (scan subject inner env i) ≡ true
     → (is_ok (inner env i) ≡ true) × (scan subject inner env i ≡ inner env i)
-clean-scan subject inner env i ok = scan-first subject.origin inner env i (length subject.bytes - i) ok
+clean-scan subject inner env i ok = scan-first subject.origin inner env i (last_place subject i - i) ok
 
 -- a branch is clean where what it reads is
 pub clean-branch : (origin number : ℕ) (r : Reading) (i : ℕ) → is_ok (branch_of origin number r i) ≡ true → is_ok r ≡ true

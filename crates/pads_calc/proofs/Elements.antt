@@ -1,5 +1,5 @@
 -- The elements of an array: what is kept of those so far, and what the rest adds.
-use Rattle.std.proofs.Common.{◌≡◌, ℕ, zero, suc, ◌+◌, ◌-◌, ◌<◌, ◌≤◌, ◌∙◌, List, [], ◌∷◌, ◌++◌, length, Option, None, Some, Bool, true, false, refl, sym, ap, subst, arith, length-append}
+use Rattle.std.proofs.Common.{◌≡◌, ℕ, suc, ◌-◌, ◌<◌, ◌∙◌, List, [], ◌∷◌, ◌++◌, length, Option, None, Some, refl, ap, subst, arith, length-append}
 use Rattle.pads_value.specs.declared.cause.Cause.{Cause}
 use Rattle.pads_value.specs.declared.cause.Cause.TheVariants as cause
 use Rattle.pads_value.specs.declared.descriptor.Pd.{Pd}
@@ -7,12 +7,10 @@ use Rattle.pads_value.specs.declared.value.Val.{Val}
 use Rattle.pads_value.specs.declared.value.Val.TheVariants as val
 use Rattle.pads_expr.specs.Value.{Pairs}
 use Rattle.pads_calc.specs.declared.reading.Reading.{Reading}
-use Rattle.pads_calc.specs.declared.turn.Ending.{Ending}
 use Rattle.pads_calc.specs.declared.turn.Ending.TheVariants as ending
-use Rattle.pads_calc.specs.declared.turn.Turn.{Turn}
 use Rattle.pads_calc.specs.declared.turn.Turn.TheVariants as turn
 use Rattle.pads_calc.specs.Arrays.{SeqReader, Elements, elements, no_more, unless_ended, and_then, ending_at, turn_from, is_empty, array_of, soft, turns_from, size_at, seq_of}
-use Rattle.pads_calc.specs.Readings.{Subject, node, fails, values, pds, end_of}
+use Rattle.pads_calc.specs.Readings.{Subject, node, fails}
 use Rattle.pads_calc.proofs.Runs.{Follows, follows-start, follows-push, append-none}
 use Rattle.pads_calc.proofs.Turns.{elements-next}
 

@@ -4,13 +4,12 @@ use Rattle.pads_expr.specs.declared.expr.Expr.{Expr}
 use Rattle.pads_expr.specs.Value.{Pairs, value}
 use Rattle.pads_expr.specs.Worth.{worth_or_none}
 use Rattle.pads_dispatch.specs.declared.base.Base.{Base}
-use Rattle.pads_calc.specs.declared.reading.Reading.{Reading}
 use Rattle.pads_calc.specs.declared.term.Arm.{Arm, fold-Arm, fold_out-Arm}
 use Rattle.pads_calc.specs.declared.term.Case.{Case, fold-Case, fold_out-Case}
 use Rattle.pads_calc.specs.declared.term.Part.{Part, fold-Part, fold_out-Part}
 use Rattle.pads_calc.specs.declared.term.ComputedForm.{ComputedForm}
 use Rattle.pads_calc.specs.declared.term.Seq.{Seq, fold-Seq, fold_out-Seq}
-use Rattle.pads_calc.specs.declared.term.Term.{Term, Term-F, fold-Term, fold-roll-Term, roll-Term, map-Term}
+use Rattle.pads_calc.specs.declared.term.Term.{Term, Term-F, fold-roll-Term, roll-Term, map-Term}
 use Rattle.pads_calc.specs.declared.term.Term.TheShapes.{former-Seq-sep}
 use Rattle.pads_calc.specs.declared.term.Term.TheVariants as term
 use Rattle.pads_calc.specs.Arguments.{argument, arguments}

@@ -11,7 +11,7 @@ use Rattle.pads_calc.specs.declared.term.Part.{Part}
 use Rattle.pads_calc.specs.declared.reading.Reading.{Reading}
 use Rattle.pads_calc.specs.Calculus.{Caller, read, part_reader}
 use Rattle.pads_calc.specs.Readings.{Subject, node, values, pds, end_of}
-use Rattle.pads_calc.specs.Structs.{Named, bind, in_turn, struct_of}
+use Rattle.pads_calc.specs.Structs.{bind, in_turn, struct_of}
 use Rattle.pads_calc.proofs.Lists.{drop-next}
 
 -- `whole` from `i` on is what is kept, up to `place`, and then `rest`

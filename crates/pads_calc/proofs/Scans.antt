@@ -1,12 +1,11 @@
 -- What a search reads as, place by place.
-use Rattle.std.proofs.Common.{◌≡◌, ℕ, zero, suc, ◌+◌, ◌-◌, ◌<◌, ◌≤◌, ◌∙◌, nat_lt, Bool, true, false, if◌then◌else◌, List, length, refl, sym, ap, arith, add-one}
-use Rattle.std.proofs.lemmas.Bool.{ltb-false}
+use Rattle.std.proofs.Common.{◌≡◌, ℕ, zero, suc, ◌+◌, ◌-◌, ◌<◌, ◌≤◌, ◌∙◌, nat_lt, Bool, true, false, if◌then◌else◌, length, refl, ap, arith}
 use Rattle.pads_value.specs.declared.cause.Cause.TheVariants as cause
 use Rattle.pads_value.specs.Header.{with_cause}
 use Rattle.pads_expr.specs.Value.{Pairs}
 use Rattle.pads_calc.specs.declared.reading.Reading.{Reading}
 use Rattle.pads_calc.specs.Readings.{Subject, Reader, fails, is_ok, blame}
-use Rattle.pads_calc.specs.Wrappers.{found_at, scan, scan_from}
+use Rattle.pads_calc.specs.Wrappers.{found_at, last_place, scan, scan_from}
 
 pub found-here : (origin i : ℕ) (r : Reading) → found_at origin i i r ≡ r
 found-here origin i r =
@@ -43,17 +42,17 @@ module _ (subject : Subject) (inner : Reader) (env : Pairs) (i : ℕ) where
   from places j = scan_from subject.origin places inner env i j
 
   -- the search, with its first place looked at
-  scan-first : scan subject inner env i ≡ (if is_ok (inner env i) then found_at subject.origin i i (inner env i) else from (length subject.bytes - i) (i + 1))
-  scan-first = scan-step subject.origin inner env i (length subject.bytes - i) i
+  scan-first : scan subject inner env i ≡ (if is_ok (inner env i) then found_at subject.origin i i (inner env i) else from (last_place subject i - i) (i + 1))
+  scan-first = scan-step subject.origin inner env i (last_place subject i - i) i
 
   pub scan-here : is_ok (inner env i) ≡ true → scan subject inner env i ≡ inner env i
   scan-here ok =
       scan-first
-      ∙ ap (λ (found : Bool). if found then found_at subject.origin i i (inner env i) else from (length subject.bytes - i) (i + 1)) ok
+      ∙ ap (λ (found : Bool). if found then found_at subject.origin i i (inner env i) else from (last_place subject i - i) (i + 1)) ok
       ∙ found-here subject.origin i (inner env i)
 
-  pub scan-on : i ≤ length subject.bytes → is_ok (inner env i) ≡ false → scan subject inner env i ≡ from (length subject.bytes + 1 - (i + 1)) (i + 1)
+  pub scan-on : i ≤ length subject.bytes → is_ok (inner env i) ≡ false → scan subject inner env i ≡ from (last_place subject i + 1 - (i + 1)) (i + 1)
   scan-on within bad =
-      let places : length subject.bytes + 1 - (i + 1) ≡ length subject.bytes - i = omega arith in
+      let places : last_place subject i + 1 - (i + 1) ≡ last_place subject i - i = omega arith in
       rw places (scan-first
-      ∙ ap (λ (found : Bool). if found then found_at subject.origin i i (inner env i) else from (length subject.bytes - i) (i + 1)) bad)
+      ∙ ap (λ (found : Bool). if found then found_at subject.origin i i (inner env i) else from (last_place subject i - i) (i + 1)) bad)

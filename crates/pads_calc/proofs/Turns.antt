@@ -1,6 +1,5 @@
 -- Turns of an array: where they end, and what one more unrolling says.
-use Rattle.std.proofs.Common.{◌≡◌, ◌≢◌, ℕ, suc, ◌+◌, ◌<◌, ◌≤◌, Bool, true, false, not, ◌&&◌, nat_eq, if◌then◌else◌, List, [], ◌∷◌, ◌++◌, length, Option, Some, None, refl, sym, ap, ◌∙◌, arith, length-append}
-use Rattle.std.proofs.lemmas.Bool.{eqb-false}
+use Rattle.std.proofs.Common.{◌≡◌, ℕ, suc, ◌+◌, ◌≤◌, Bool, true, false, ◌&&◌, nat_eq, if◌then◌else◌, List, [], ◌∷◌, ◌++◌, length, Option, Some, None, refl, arith, length-append}
 use Rattle.std.proofs.lemmas.Grind.{common_steps}
 use Rattle.pads_value.specs.declared.cause.Cause.TheVariants as cause
 use Rattle.pads_value.specs.declared.descriptor.Pd.{out-Pd}
@@ -8,9 +7,8 @@ use Rattle.pads_value.specs.declared.value.Val.{Val}
 use Rattle.pads_expr.specs.Value.{Pairs}
 use Rattle.pads_calc.specs.declared.reading.Reading.{Reading}
 use Rattle.pads_calc.specs.declared.turn.Ending.TheVariants as ending
-use Rattle.pads_calc.specs.declared.turn.Turn.{Turn}
 use Rattle.pads_calc.specs.declared.turn.Turn.TheVariants as turn
-use Rattle.pads_calc.specs.Arrays.{SeqReader, Elements, is_fail_class, turn_of, turn_from, turn_at, element_at, ending_at, ending_by, elements, unless_ended, and_then, is_empty, is_full, is_last, is_stopped, below_size}
+use Rattle.pads_calc.specs.Arrays.{SeqReader, is_fail_class, turn_of, turn_from, element_at, ending_at, elements, unless_ended, and_then, is_empty, is_full, is_last, is_stopped, below_size}
 use Rattle.pads_calc.specs.Leaves.{at_end}
 use Rattle.pads_calc.specs.Places.{EndsWithin, TurnsWithin}
 use Rattle.pads_calc.proofs.Cases.{pick}

@@ -1,11 +1,10 @@
 -- Unions: the first branch that reads without a fault, or the case that a value chooses.
-use Rattle.std.specs.Prelude.{ℕ, ◌+◌, Bool, true, false, int_le, ◌&&◌, ℤ, List, [], ◌∷◌, Option, Some, None, position, slice_get, nat_eq, is_none, if◌then◌else◌}
+use Rattle.std.specs.Prelude.{ℕ, ◌+◌, Bool, false, List, [], ◌∷◌, Option, Some, None, position, slice_get, nat_eq, is_none, if◌then◌else◌}
 use Rattle.std.specs.Option.{option_or}
 use Rattle.std.specs.Ordering.{int_eq}
 use lib.Pointwise.{pointwise}
 use Rattle.pads_value.specs.declared.cause.Cause.TheVariants as cause
 use Rattle.pads_value.specs.declared.value.Val.TheVariants as val
-use Rattle.pads_expr.specs.Value.{Pairs}
 use Rattle.pads_dispatch.specs.declared.base.Arg.{Arg}
 use Rattle.pads_dispatch.specs.declared.base.Arg.TheVariants as arg
 use Rattle.pads_calc.specs.declared.reading.Reading.{Reading}

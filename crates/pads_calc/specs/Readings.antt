@@ -1,7 +1,7 @@
 -- What a reading is of, what it is, and the readings that the rules are made of. A place counts the bytes
 -- of the record before it. Spans are offsets in the whole input, in which the record's first byte has the
 -- offset `origin`.
-use Rattle.std.specs.Prelude.{ℕ, ◌+◌, Bool, true, false, List, [], ◌∷◌, map, Option, Some, None, if◌then◌else◌}
+use Rattle.std.specs.Prelude.{ℕ, ◌+◌, Bool, true, false, List, [], ◌∷◌, map, Option, Some, None}
 use Rattle.pads_value.specs.declared.cause.Cause.{Cause}
 use Rattle.pads_value.specs.declared.cause.Cause.TheVariants as cause
 use Rattle.pads_value.specs.declared.descriptor.Own.{Own}
@@ -12,10 +12,12 @@ use Rattle.pads_value.specs.Header.{head, is_clean}
 use Rattle.pads_expr.specs.Value.{Pairs}
 use Rattle.pads_calc.specs.declared.reading.Reading.{Reading}
 
--- what is read: the bytes of a record, and the offset of the first of them in the whole input
+-- what is read: the bytes of a record, the offset of the first of them in the whole input, and how many
+-- bytes a search passes over at most
 pub record Subject : Type 0 where
   pub origin : ℕ
   pub bytes : List ℕ
+  pub scan : ℕ
 
 -- what a term reads as in an environment at a place
 abbrev pub Reader : Type 0

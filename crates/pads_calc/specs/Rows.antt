@@ -26,6 +26,10 @@ use Rattle.pads_calc.specs.Skeletons.{keepings_of}
 abbrev pub deepest : ℕ
 deepest = 128
 
+-- as many bytes as a search may pass over at most
+abbrev pub farthest : ℕ
+farthest = 16_777_216
+
 abbrev pub head_or : Option ℕ → ℕ → ℕ
 head_or None each = each
 head_or (Some head) each = head
@@ -35,19 +39,19 @@ abbrev pub type_of : Shape → ℕ → ℕ
 type_of shape zero = head_or shape.head shape.each
 type_of shape (suc number) = shape.each
 
--- what is read of a record
-abbrev pub subject_of_cut : Cut → Subject
-subject_of_cut cut = record { origin = cut.first; bytes = cut.bytes }
+-- what is read of a record, where a search passes over so many bytes at most
+abbrev pub subject_of_cut : ℕ → Cut → Subject
+subject_of_cut scan cut = record { origin = cut.first; bytes = cut.bytes; scan = scan }
 
-abbrev pub body_reading : List Decl → ℕ → Cut → Reading
-body_reading decls number cut = caller (subject_of_cut cut) decls deepest number [] [] 0
+abbrev pub body_reading : List Decl → ℕ → ℕ → Cut → Reading
+body_reading decls scan number cut = caller (subject_of_cut scan cut) decls deepest number [] [] 0
 
 -- what is left of a reading of a declaration. Its descriptor and its place stay
 abbrev pub kept_by : List Keeping → ℕ → Reading → Reading
 kept_by keepings number r = record r { value = erased keepings deepest number r.value }
 
-abbrev pub kept_reading : List Decl → ℕ → Cut → Reading
-kept_reading decls number cut = kept_by (keepings_of decls) number (body_reading decls number cut)
+abbrev pub kept_reading : List Decl → ℕ → ℕ → Cut → Reading
+kept_reading decls scan number cut = kept_by (keepings_of decls) number (body_reading decls scan number cut)
 
 -- the bytes behind the body
 abbrev pub extra : Cut → ℕ → List Pd
@@ -76,6 +80,6 @@ row_by mark.Short number cut r = read_row number cut (Some (record { cause = cau
 row_by mark.Long number cut r = unread_row number cut cause.RecordLong
 row_by mark.Broken number cut r = unread_row number cut cause.RecordBroken
 
--- the row of the record of this number
-abbrev pub row_of : List Decl → Shape → ℕ → Cut → Row
-row_of decls shape number cut = row_by cut.mark number cut (kept_reading decls (type_of shape number) cut)
+-- the row of the record of this number, where a search passes over so many bytes at most
+abbrev pub row_of : List Decl → Shape → ℕ → ℕ → Cut → Row
+row_of decls shape scan number cut = row_by cut.mark number cut (kept_reading decls scan (type_of shape number) cut)

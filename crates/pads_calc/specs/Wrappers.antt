@@ -1,5 +1,5 @@
 -- The terms around one term: constraints, terms whose value isn't kept, and searches.
-use Rattle.std.specs.Prelude.{ℕ, zero, suc, ◌+◌, ◌-◌, nat_lt, not, ◌&&◌, Bool, List, ◌∷◌, length, if◌then◌else◌}
+use Rattle.std.specs.Prelude.{ℕ, zero, suc, ◌+◌, ◌-◌, min, nat_lt, not, ◌&&◌, ◌∷◌, length, if◌then◌else◌}
 use Rattle.pads_value.specs.declared.cause.Cause.TheVariants as cause
 use Rattle.pads_value.specs.declared.descriptor.Pd.{out-Pd}
 use Rattle.pads_value.specs.declared.value.Val.TheVariants as val
@@ -34,6 +34,11 @@ scan_from origin (suc places) inner env i j =
     if is_ok (inner env j) then found_at origin i j (inner env j)
     else scan_from origin places inner env i (j + 1)
 
--- the least place from here to the record's end at which the reading is clean
+-- the last place at which what is looked for from `i` on may stand: as far behind it as a search goes, and
+-- no further than the record's end
+abbrev pub last_place : Subject → ℕ → ℕ
+last_place subject i = min (i + subject.scan) (length subject.bytes)
+
+-- the least place from here to the last one at which the reading is clean
 abbrev pub scan : Subject → Reader → Reader
-scan subject inner env i = scan_from subject.origin (suc (length subject.bytes - i)) inner env i i
+scan subject inner env i = scan_from subject.origin (suc (last_place subject i - i)) inner env i i

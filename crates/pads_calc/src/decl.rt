@@ -42,3 +42,6 @@ impl Shape {
 
 /// How deep calls of declarations may be nested.
 pub const DEEPEST: u8 = 128;
+
+/// As many bytes as a search may pass over at most.
+pub const FARTHEST: u32 = 16_777_216;

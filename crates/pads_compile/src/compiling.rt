@@ -31,7 +31,7 @@ pub fn image_length(rules: &Module) -> u64
 /// The image of a module. `TooLarge` exactly where it would have more than 1,048,576 instructions. Takes
 /// time linear in the module, times the depth at which unions and arrays stand in one another.
 pub fn compile(alloc: Global, rules: &Module) -> Result<Image, Refusal<TooLarge>>
-    ensures compiled { Compiles rules.now.decls rules.now.shape result }
+    ensures compiled { Compiles rules.now.decls rules.now.shape rules.now.scan result }
     ensures stands { IfOk result (λ image. StandsFor image.code image.entries image.shape image.need rules.now.decls) }
 {
     let length = image_length(rules);
@@ -39,5 +39,5 @@ pub fn compile(alloc: Global, rules: &Module) -> Result<Image, Refusal<TooLarge>
         return Err(Refusal::Fault(TooLarge { length }));
     }
     let Code { ops, entries } = emit_decls(alloc, rules.decls.as_slice())?;
-    Ok(Image::new(alloc, ops, entries, rules.shape)?)
+    Ok(Image::new(alloc, ops, entries, rules.shape, rules.scan)?)
 }

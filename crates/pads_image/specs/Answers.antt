@@ -52,14 +52,14 @@ module _ (code : List Op) (of_entries : List Entry) (subject : Subject) (most : 
     pub last : end.last ≡ r
 
 -- the row of a record by its number: that of what is kept of the reading with which the run of its type halts, over stacks
--- that never have more entries than `most`
-abbrev pub Answers : List Op → List Entry → Shape → ℕ → ℕ → Cut → Row → Type 0
-Answers code of_entries shape most number cut row =
+-- that never have more entries than `most`, where a search passes over so many bytes at most
+abbrev pub Answers : List Op → List Entry → Shape → ℕ → ℕ → ℕ → Cut → Row → Type 0
+Answers code of_entries shape scan most number cut row =
     (r : Reading)
-    × HaltsWith code of_entries (subject_of_cut cut) most (start of_entries (subject_of_cut cut) (type_of shape number)) r
+    × HaltsWith code of_entries (subject_of_cut scan cut) most (start of_entries (subject_of_cut scan cut) (type_of shape number)) r
     × (row ≡ row_by cut.mark number cut (kept_by (kept_in of_entries) (type_of shape number) r))
 
--- code stands for declarations: it answers the calculus' row for each record
+-- code stands for declarations: it answers the calculus' row for each record, however far a search goes
 abbrev pub StandsFor : List Op → List Entry → Shape → ℕ → List Decl → Type 0
 StandsFor code of_entries shape most decls =
-    (number : ℕ) (cut : Cut) → Answers code of_entries shape most number cut (row_of decls shape number cut)
+    (scan number : ℕ) (cut : Cut) → Answers code of_entries shape scan most number cut (row_of decls shape scan number cut)

@@ -16,7 +16,7 @@ use Rattle.pads_calc.specs.Choices.{branch_of, chosen}
 use Rattle.pads_calc.specs.Leaves.{unit_of, lit_of, eor_of, base_of as base_read, compute_of, at_end}
 use Rattle.pads_calc.specs.Readings.{Subject, node, fails, is_ok, blame}
 use Rattle.pads_calc.specs.Structs.{bind}
-use Rattle.pads_calc.specs.Wrappers.{guard_of, absorb_of}
+use Rattle.pads_calc.specs.Wrappers.{guard_of, absorb_of, last_place}
 use Rattle.pads_image.specs.declared.entry.Entry.{Entry}
 use Rattle.pads_image.specs.declared.op.Op.{Op}
 use Rattle.pads_image.specs.declared.op.Op.TheVariants as op
@@ -178,6 +178,10 @@ abbrev pub cause_or : Option Cause → Cause → Cause
 cause_or None given = given
 cause_or (Some kept) given = kept
 
+-- whether nothing that is looked for from `i` on may stand behind `j`
+abbrev pub is_last_place : Subject → ℕ → ℕ → Bool
+is_last_place subject i j = not (nat_lt j (last_place subject i))
+
 abbrev pub scan_step : Subject → ℕ → State → List Mark → Step
 scan_step subject to s [] = Stuck
 scan_step subject to s (m ∷ marks) =
@@ -189,7 +193,7 @@ scan_step subject to s (m ∷ marks) =
       last = if nat_lt m.place at_ then record s.last { pd = with_cause cause.Skipped (subject.origin + m.place) s.last.pd } else s.last;
       marks = marks;
     })
-    else if at_end subject.bytes at_ then Goes (record s { at_ = s.at_ + 1; last = fails subject.origin kept m.place; marks = marks })
+    else if is_last_place subject m.place at_ then Goes (record s { at_ = s.at_ + 1; last = fails subject.origin kept m.place; marks = marks })
     else Goes (record s { at_ = to; last = back_to (at_ + 1) s.last; marks = (record m { cause = Some kept }) ∷ marks })
 
 -- a call that begins: its parameters are bound, and it goes on at its declaration's first instruction

@@ -53,13 +53,13 @@ module _ (code : List Op) (entries : List Entry) (shape : Shape) (valid : is_val
       omega (arith, leb-true (length code) longest first)
 
 module _ (image : Image) (number : ℕ) (cut : Cut) where
-  abbrev answer : (row : Row) × Answers image.code image.entries image.shape image.need number cut row
+  abbrev answer : (row : Row) × Answers image.code image.entries image.shape image.scan image.need number cut row
   answer =
-      subst (λ need. (row : Row) × Answers image.code image.entries image.shape need number cut row) (sym image.needed)
-      (answers image.code image.entries image.shape image.valid number cut)
+      subst (λ need. (row : Row) × Answers image.code image.entries image.shape image.scan need number cut row) (sym image.needed)
+      (answers image.code image.entries image.shape image.valid image.scan number cut)
 
   abbrev With : Reading → Type 0
-  With r = HaltsWith image.code image.entries (subject_of_cut cut) image.need (start image.entries (subject_of_cut cut) (type_of image.shape number)) r
+  With r = HaltsWith image.code image.entries (subject_of_cut image.scan cut) image.need (start image.entries (subject_of_cut image.scan cut) (type_of image.shape number)) r
 
   -- what the record's type reads as, and after how many steps
   abbrev pub found : Reading
@@ -71,7 +71,7 @@ module _ (image : Image) (number : ℕ) (cut : Cut) where
   abbrev pub steps : ℕ
   steps = halts.reached.steps
 
-  pub halting : Halting image.code image.entries (subject_of_cut cut) image.need steps (start image.entries (subject_of_cut cut) (type_of image.shape number))
+  pub halting : Halting image.code image.entries (subject_of_cut image.scan cut) image.need steps (start image.entries (subject_of_cut image.scan cut) (type_of image.shape number))
   halting = (found, halts, omega arith)
 
   -- the row of what the run halts with is the image's answer
@@ -81,17 +81,17 @@ module _ (image : Image) (number : ℕ) (cut : Cut) where
     row-by r h =
         row_is ∙ ap (λ left. row_by cut.mark number cut left) (left_is ∙ ap (λ body. kept_by (kept_in image.entries) (type_of image.shape number) body) (is_body r h))
 
-    pub answers-so : Answers image.code image.entries image.shape image.need number cut row
+    pub answers-so : Answers image.code image.entries image.shape image.scan image.need number cut row
     answers-so = (found, halts, row-by found halts)
 
     -- and the calculus' row of the declarations that it stands for
-    pub row-so : (decls : List Decl) → StandsFor image.code image.entries image.shape image.need decls → row ≡ row_of decls image.shape number cut
-    row-so decls stands = let answer = stands number cut in row-by answer.0 answer.1 ∙ sym answer.2
+    pub row-so : (decls : List Decl) → StandsFor image.code image.entries image.shape image.need decls → row ≡ row_of decls image.shape image.scan number cut
+    row-so decls stands = let answer = stands image.scan number cut in row-by answer.0 answer.1 ∙ sym answer.2
 
   -- a record without its bytes has one row, whatever its type would read as
   module _ (row : Row) (any : (body : Reading) → row ≡ row_by cut.mark number cut body) where
-    pub answers-unread : Answers image.code image.entries image.shape image.need number cut row
+    pub answers-unread : Answers image.code image.entries image.shape image.scan image.need number cut row
     answers-unread = (found, halts, any _)
 
-    pub row-unread : (decls : List Decl) → StandsFor image.code image.entries image.shape image.need decls → row ≡ row_of decls image.shape number cut
-    row-unread decls stands = let answer = stands number cut in any _ ∙ sym answer.2
+    pub row-unread : (decls : List Decl) → StandsFor image.code image.entries image.shape image.need decls → row ≡ row_of decls image.shape image.scan number cut
+    row-unread decls stands = let answer = stands image.scan number cut in any _ ∙ sym answer.2

@@ -1,20 +1,20 @@
 -- A search of a literal where it doesn't stand: the steps that find so at each place lead to a place further on.
-use Rattle.std.proofs.Common.{◌≡◌, ◌∙◌, sym, ap, arith, ℕ, zero, suc, ◌+◌, ◌-◌, ◌<◌, ◌≤◌, Bool, true, false, if◌then◌else◌, nat_lt, List, ◌∷◌, length, ⊎_elim, Some, slice_get}
+use Rattle.std.proofs.Common.{◌≡◌, ◌∙◌, sym, ap, refl, arith, ℕ, zero, suc, ◌+◌, ◌-◌, ◌<◌, ◌≤◌, Bool, true, false, if◌then◌else◌, not, nat_lt, List, ◌∷◌, length, ⊎_elim, Some, slice_get}
+use Rattle.std.proofs.lemmas.Bool.{lt-ltb}
 use Rattle.pads_value.specs.declared.cause.Cause.{Cause}
 use Rattle.pads_value.specs.declared.cause.Cause.TheVariants as cause
 use Rattle.pads_value.specs.declared.descriptor.Pd.{out-Pd, out-roll-Pd}
 use Rattle.pads_value.specs.declared.value.Val.TheVariants as val
 use Rattle.pads_value.specs.Header.{with_cause}
 use Rattle.pads_calc.specs.declared.reading.Reading.{Reading}
-use Rattle.pads_calc.specs.Leaves.{at_end}
 use Rattle.pads_calc.specs.Readings.{Subject, blame, fails, is_ok}
-use Rattle.pads_calc.specs.Wrappers.{absorb_of}
+use Rattle.pads_calc.specs.Wrappers.{absorb_of, last_place}
 use Rattle.pads_image.specs.declared.entry.Entry.{Entry}
 use Rattle.pads_image.specs.declared.op.Op.{Op}
 use Rattle.pads_image.specs.declared.op.Op.TheVariants as op
 use Rattle.pads_image.specs.Answers.{Reaches}
 use Rattle.pads_image.specs.States.{Mark, State, entries}
-use Rattle.pads_image.specs.Steps.{Goes, back_to, began, cause_or, does_there, scan_step, step}
+use Rattle.pads_image.specs.Steps.{Goes, back_to, began, cause_or, does_there, is_last_place, scan_step, step}
 use Rattle.pads_machine.specs.Ran.{IsSearch}
 use Rattle.pads_steps.specs.Searches.{StandsNowhere, stands_at}
 use Rattle.pads_steps.proofs.Searches.{misses-there}
@@ -29,8 +29,19 @@ module _ (origin i : ℕ) (c : Cause) where
   fails-absorbed : absorb_of (fails origin c i) ≡ fails origin c i
   fails-absorbed = ap (λ (b : Bool). record (fails origin c i) { value = if b then val.Unit else val.Missing }) fails-bad
 
+-- the last place of a search, and one before it
+not-before : (last j : ℕ) → last ≤ j → not (nat_lt j last) ≡ true
+not-before last j over = let past : nat_lt j last ≡ false = grind (arith, over) in rw past refl
+
+module _ (subject : Subject) (i j : ℕ) where
+  pub ends-there : last_place subject i ≤ j → is_last_place subject i j ≡ true
+  ends-there over = not-before (last_place subject i) j over
+
+  pub goes-there : j < last_place subject i → is_last_place subject i j ≡ false
+  goes-there more = let inside : nat_lt j (last_place subject i) ≡ true = lt-ltb j (last_place subject i) more in rw inside refl
+
 -- a search that goes on
-pub scan-on : (subject : Subject) (to : ℕ) (s : State) (m : Mark) (marks : List Mark) → is_ok s.last ≡ false → at_end subject.bytes (began subject.origin s.last) ≡ false
+pub scan-on : (subject : Subject) (to : ℕ) (s : State) (m : Mark) (marks : List Mark) → is_ok s.last ≡ false → is_last_place subject m.place (began subject.origin s.last) ≡ false
     → scan_step subject to s (m ∷ marks)
     ≡ Goes (record s { at_ = to; last = back_to (began subject.origin s.last + 1) s.last; marks = (record m { cause = Some (cause_or m.cause (blame s.last)) }) ∷ marks })
 scan-on subject to s m marks bad more =
@@ -43,10 +54,10 @@ scan-on subject to s m marks bad more =
       last = if nat_lt m.place at_ then record s.last { pd = with_cause cause.Skipped (subject.origin + m.place) s.last.pd } else s.last;
       marks = marks;
     }) in
-    ap (λ (b : Bool). if b then found else if at_end subject.bytes at_ then end else on) bad ∙ ap (λ (b : Bool). if b then end else on) more
+    ap (λ (b : Bool). if b then found else if is_last_place subject m.place at_ then end else on) bad ∙ ap (λ (b : Bool). if b then end else on) more
 
 -- and one that ends
-pub scan-ends : (subject : Subject) (to : ℕ) (s : State) (m : Mark) (marks : List Mark) → is_ok s.last ≡ false → at_end subject.bytes (began subject.origin s.last) ≡ true
+pub scan-ends : (subject : Subject) (to : ℕ) (s : State) (m : Mark) (marks : List Mark) → is_ok s.last ≡ false → is_last_place subject m.place (began subject.origin s.last) ≡ true
     → scan_step subject to s (m ∷ marks) ≡ Goes (record s { at_ = s.at_ + 1; last = fails subject.origin (cause_or m.cause (blame s.last)) m.place; marks = marks })
 scan-ends subject to s m marks bad over =
     let at_ = began subject.origin s.last in
@@ -58,7 +69,7 @@ scan-ends subject to s m marks bad over =
       last = if nat_lt m.place at_ then record s.last { pd = with_cause cause.Skipped (subject.origin + m.place) s.last.pd } else s.last;
       marks = marks;
     }) in
-    ap (λ (b : Bool). if b then found else if at_end subject.bytes at_ then end else on) bad ∙ ap (λ (b : Bool). if b then end else on) over
+    ap (λ (b : Bool). if b then found else if is_last_place subject m.place at_ then end else on) bad ∙ ap (λ (b : Bool). if b then end else on) over
 
 module _ (code : List Op) (of_entries : List Entry) (subject : Subject) (most : ℕ) (literal : List ℕ) (place : ℕ) (c : Cause) (rest : List Mark) where
   -- the search goes on at a state
@@ -74,7 +85,7 @@ module _ (code : List Op) (of_entries : List Entry) (subject : Subject) (most : 
   abbrev pub at_place : ℕ → State → State
   at_place i s = record s { last = back_to i (missing (i - 1)) }
 
-  module _ (s : State) (h : Searching s) (more : s.last.place < length subject.bytes) (misses : stands_at subject.bytes literal s.last.place ≡ false) where
+  module _ (s : State) (h : Searching s) (more : s.last.place < last_place subject place) (misses : stands_at subject.bytes literal s.last.place ≡ false) where
     abbrev i : ℕ
     i = s.last.place
 
@@ -89,11 +100,11 @@ module _ (code : List Op) (of_entries : List Entry) (subject : Subject) (most : 
     scan-goes : (p : ℕ) → slice_get code p ≡ Some (op.ScanOn s.at_) → step of_entries subject code (read_to p) ≡ Goes (record s { last = back_to (i + 1) (missing i) })
     scan-goes p there =
         let at_ = fails-began subject.origin i cause.MissingLiteral in
-        let not_end : at_end subject.bytes i ≡ false = grind (arith, more) in
+        let not_last : is_last_place subject place i ≡ false = goes-there subject place i more in
         ap (λ o. does_there of_entries subject o (read_to p)) there
         ∙ ap (λ (marks : List Mark). scan_step subject s.at_ (read_to p) marks) h.marks
         ∙ scan-on subject s.at_ (read_to p) (record { place = place; cause = Some c }) rest (fails-bad subject.origin i cause.MissingLiteral)
-        (ap (λ k. at_end subject.bytes k) at_ ∙ not_end)
+        (ap (λ k. is_last_place subject place k) at_ ∙ not_last)
         ∙ ap (λ k. Goes (record s { last = back_to (k + 1) (missing i); marks = (record { place = place; cause = Some c }) ∷ rest })) at_
         ∙ ap (λ (marks : List Mark). Goes (record s { last = back_to (i + 1) (missing i); marks = marks })) (sym h.marks)
 
@@ -120,7 +131,7 @@ module _ (code : List Op) (of_entries : List Entry) (subject : Subject) (most : 
         })
         h.search_.1
 
-  pub leaps : (d : ℕ) (s : State) (end : ℕ) → end ≡ s.last.place + suc d → end ≤ length subject.bytes → Searching s → StandsNowhere subject.bytes literal s.last.place end
+  pub leaps : (d : ℕ) (s : State) (end : ℕ) → end ≡ s.last.place + suc d → end ≤ last_place subject place → Searching s → StandsNowhere subject.bytes literal s.last.place end
       → Reaches code of_entries subject most s (at_place end s)
   leaps zero s end is within h none =
       let last : end - 1 ≡ s.last.place = omega (arith, is) in

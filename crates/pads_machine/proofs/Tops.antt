@@ -1,6 +1,6 @@
 -- The latest entries of the stacks, and where marks are.
-use Rattle.std.proofs.Common.{◌≡◌, ◌∙◌, sym, ap, refl, subst, arith, ℕ, ◌≤◌, List, [], ◌∷◌, length, drop, map, reverse, take, ◌-◌, Bool, true, is_some, nat_eq, Option, Some, None, slice_get}
-use Rattle.std.proofs.lemmas.List.{length-reverse}
+use Rattle.std.proofs.Common.{◌≡◌, ◌∙◌, sym, ap, refl, subst, arith, ℕ, ◌<◌, ◌≤◌, List, [], ◌∷◌, length, drop, map, reverse, take, ◌-◌, Bool, true, is_some, nat_eq, Option, Some, None, slice_get}
+use Rattle.std.proofs.lemmas.List.{length-map, length-reverse}
 use Rattle.pads_expr.proofs.Reversed.{reverse-take}
 use Rattle.pads_value.specs.declared.cause.Cause.{Cause}
 use Rattle.std.specs.declared.vec.Vec.{Vec}
@@ -62,6 +62,21 @@ module _ (m : State) where
   -- the latest mark is at a place of the record, and the others
   pub mark-placed : (most : ℕ) (mark : Mark) → Placed most m → slice_get (reverse m.marks.items) 0 ≡ Some mark → (mark.place ≤ most) × AreWithin most (drop 1 (reverse m.marks.items))
   mark-placed most mark placed there = subst (λ (marks : List Mark). AreWithin most marks) (first-there (reverse m.marks.items) mark there) placed.marks
+
+-- where the first of these marks is
+abbrev place_in : List states.Mark → ℕ
+place_in [] = 0
+place_in (mark ∷ marks) = mark.place
+
+module _ (m : State) (found : IsSearching (shown m).marks) where
+  -- a search that goes on has a mark, which is where it began
+  pub searching-some : 0 < length m.marks.items
+  searching-some =
+      let size = ap length found.3 in
+      omega (arith, size, length-map (reverse m.marks.items) mark_shown, length-reverse m.marks.items)
+
+  pub searched-from : (mark : Mark) → slice_get (reverse m.marks.items) 0 ≡ Some mark → mark.place ≡ found.0
+  searched-from mark there = ap place_in (sym (marks-are m mark there) ∙ found.3)
 
 -- what an expression sees doesn't hang on the nodes
 pub seen-beside : (s : states.State) (nodes : List states.Node) → seen (record s { nodes = nodes }) ≡ seen s

@@ -63,8 +63,8 @@ fn read_body<'x>(
     ghost steps: { ℕ }
     requires room { image.now.need ≤ state.old.room }
     requires roomy { Roomy state.old.room state.old }
-    requires halts { Halting image.now.code image.now.entries (subject_of_cut (cut_of_frame frame.now)) image.now.need steps (start image.now.entries (subject_of_cut (cut_of_frame frame.now)) (type_of image.now.shape record_no)) }
-    ensures body { IfOk result (λ body. (r : Reading) → HaltsWith image.now.code image.now.entries (subject_of_cut (cut_of_frame frame.now)) image.now.need (start image.now.entries (subject_of_cut (cut_of_frame frame.now)) (type_of image.now.shape record_no)) r → body ≡ r) }
+    requires halts { Halting image.now.code image.now.entries (subject_of_cut image.now.scan (cut_of_frame frame.now)) image.now.need steps (start image.now.entries (subject_of_cut image.now.scan (cut_of_frame frame.now)) (type_of image.now.shape record_no)) }
+    ensures body { IfOk result (λ body. (r : Reading) → HaltsWith image.now.code image.now.entries (subject_of_cut image.now.scan (cut_of_frame frame.now)) image.now.need (start image.now.entries (subject_of_cut image.now.scan (cut_of_frame frame.now)) (type_of image.now.shape record_no)) r → body ≡ r) }
     ensures within { IfOk result (λ body. body.place ≤ length frame.now.bytes.now) }
     ensures roomy { Roomy state.old.room state.new }
 {
@@ -77,6 +77,7 @@ fn read_body<'x>(
         record: Record {
             origin: frame.first,
             bytes: frame.bytes,
+            scan: image.scan,
         },
     };
     state.run(alloc, &program)?;
@@ -111,8 +112,8 @@ impl Machine {
         frame: &Frame,
     ) -> Result<Row, Memory>
         requires room { image.now.need ≤ self.old }
-        ensures answer { IfOk result (λ row. Answers image.now.code image.now.entries image.now.shape image.now.need record_no (cut_of_frame frame.now) row) }
-        ensures row { IfOk result (λ row. (decls : List Decl) → StandsFor image.now.code image.now.entries image.now.shape image.now.need decls → row ≡ row_of decls image.now.shape record_no (cut_of_frame frame.now)) }
+        ensures answer { IfOk result (λ row. Answers image.now.code image.now.entries image.now.shape image.now.scan image.now.need record_no (cut_of_frame frame.now) row) }
+        ensures row { IfOk result (λ row. (decls : List Decl) → StandsFor image.now.code image.now.entries image.now.shape image.now.need decls → row ≡ row_of decls image.now.shape image.now.scan record_no (cut_of_frame frame.now)) }
         ensures room { self.new ≡ self.old }
     {
         if let Some(row) = row_without(alloc, record_no, frame) {

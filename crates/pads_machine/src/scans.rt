@@ -66,21 +66,24 @@ fn kept(cause: Option<Cause>, found: Cause) -> Cause
     }
 }
 
-/// The first place from here on at which a literal stands, or else the end of the record.
-fn next_place(from: &Record, literal: &[u8], place: u64) -> u64
-    requires { place ≤ length from.now.bytes.now }
-    ensures high { result ≤ length from.now.bytes.now }
+/// The first place from here on at which a literal stands, or else the last place of the search.
+fn next_place(from: &Record, literal: &[u8], place: u64, last: u64) -> u64
+    requires { last ≤ length from.now.bytes.now }
+    ensures high { result ≤ last }
     ensures before { StandsNowhere from.now.bytes.now literal.now place result }
 {
-    match from.first_place(literal, place) {
+    if last <= place {
+        return last;
+    }
+    match from.first_place(literal, place, last) {
         Some(at) => at,
-        None => from.bytes.len() as u64,
+        None => last,
     }
 }
 
 impl State {
-    /// Ends a search that found something, or that came to the end of the record; else it goes on one
-    /// byte behind where the last reading began.
+    /// Ends a search that found something, or that came to its last place; else it goes on one byte behind
+    /// where the last reading began.
     pub(crate) fn scan(&mut self, alloc: Global, from: &Record, to: u32) -> Next
         requires address { self.old.address < 2 ^ 32 }
         requires placed { Placed (length from.now.bytes.now) self.old }
@@ -102,7 +105,7 @@ impl State {
             return Next::Goes;
         }
         let cause = kept(mark.cause, self.last.blame());
-        if from.is_end(at) {
+        if from.last_place(mark.place) <= at {
             self.last = Reading::fails(alloc, from.origin, cause, mark.place);
             self.address += 1;
             return Next::Goes;
@@ -127,7 +130,7 @@ impl State {
     }
 
     /// Where a literal is searched for: goes to the first place from here on at which it stands, or to the
-    /// end of the record, over the steps that would find at each place before that it isn't there.
+    /// last one of the search, over the steps that would find at each place before that it isn't there.
     pub(crate) fn leap(&mut self, alloc: Global, program: &Program)
         requires address { self.old.address < 2 ^ 32 }
         requires placed { Placed (length program.now.record.bytes.now) self.old }
@@ -146,7 +149,8 @@ impl State {
             return;
         }
         let record = &program.record;
-        let next = next_place(record, literal, self.last.place);
+        let last = record.last_place(self.mark().place);
+        let next = next_place(record, literal, self.last.place, last);
         if self.last.place < next {
             self.last = Reading::fails(alloc, record.origin, Cause::MissingLiteral, next - 1);
             self.last.place = next;

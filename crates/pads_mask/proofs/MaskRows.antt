@@ -84,7 +84,7 @@ other_row : mode_for (of_items (item (codes "r") mode.Set ∷ [])) (codes "rr") 
 other_row = refl
 
 abbrev made : Contents
-made = record { decls = declared body true ∷ []; names = codes "r" ∷ codes "x" ∷ []; shape = record { head = None; each = 0 } }
+made = record { decls = declared body true ∷ []; names = codes "r" ∷ codes "x" ∷ []; shape = record { head = None; each = 0 }; scan = 0 }
 
 -- Items are counted from 1, and a name that no declaration has is none of a declaration's.
 fault_row : fault_of made (of_items (item (codes "r") mode.Set ∷ item (codes "x") mode.None ∷ item (codes "y") mode.None ∷ [])) ≡ Some 2

@@ -24,7 +24,7 @@ both-decls m [] = refl
 both-decls m (decl ∷ decls) = ap (λ first. first ∷ masked_decls m.names both decls) (both-decl decl) ∙ ap (λ rest. decl ∷ rest) (both-decls m decls)
 
 abbrev with_decls : Contents → List Decl → Contents
-with_decls m decls = record { decls = decls; names = m.names; shape = m.shape }
+with_decls m decls = record { decls = decls; names = m.names; shape = m.shape; scan = m.scan }
 
 pub whole : (m : Contents) → masked m both ≡ m
 whole m = ap (with_decls m) (both-decls m m.decls)

@@ -28,7 +28,7 @@ abbrev pub masked_decls : List (List ℕ) → Mask → List Decl → List Decl
 masked_decls names mask decls = map (λ decl. masked_decl (mode_for mask (name_at names decl.name)) decl) decls
 
 abbrev pub masked : Contents → Mask → Contents
-masked m mask = made_of (masked_decls m.names mask m.decls) m.names m.shape
+masked m mask = made_of (masked_decls m.names mask m.decls) m.names m.shape m.scan
 
 -- some declaration has this name
 abbrev pub is_declared : Contents → List ℕ → Bool

@@ -116,11 +116,15 @@ pub fn mask_module(alloc: Global, whole: Module, mask: &Mask) -> Result<Module, 
         decls,
         names,
         shape,
+        scan,
         ..
     } = whole;
     let decls = masked_decls(alloc, decls.into_vec(), &names, mask)?;
     match Module::new(alloc, decls, names, shape) {
-        Ok(made) => Ok(made),
+        Ok(mut made) => {
+            made.bound_scan(scan);
+            Ok(made)
+        }
         Err(Refusal::Fault(_)) => unreachable!(),
         Err(Refusal::Memory) => Err(Refusal::Memory),
     }

@@ -1,6 +1,7 @@
 //! Whole descriptions: declarations that are well formed together, and what they keep of their values.
 #![tactic(auto)]
 
+mod bound;
 mod checking;
 mod counts;
 mod module;

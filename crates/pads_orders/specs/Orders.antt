@@ -26,6 +26,7 @@ beginning option.Jobs = codes "--jobs="
 beginning option.Mask = codes "--mask="
 beginning option.Max = codes "--max="
 beginning option.Records = codes "--records="
+beginning option.Scan = codes "--scan="
 beginning option.Top = codes "--top="
 
 -- the value that it has where it isn't given
@@ -35,6 +36,7 @@ usual option.Jobs = codes "1"
 usual option.Mask = codes "both"
 usual option.Max = codes "1048576"
 usual option.Records = codes "nl"
+usual option.Scan = codes "16777216"
 usual option.Top = codes "10"
 
 -- what comes of a value that is there
@@ -56,6 +58,10 @@ greatest_top = 1000
 abbrev pub greatest_jobs : ℕ
 greatest_jobs = 64
 
+-- the most bytes that a search passes over
+abbrev pub greatest_scan : ℕ
+greatest_scan = 16777216
+
 -- what the value of each option comes to but for the mask
 abbrev pub settings_in : List (List ℕ) → Option Settings
 settings_in words =
@@ -63,8 +69,9 @@ settings_in words =
     given (setting option.Jobs (number_to greatest_jobs) words) (λ jobs.
     given (setting option.Max max_of words) (λ max.
     given (setting option.Records (records_of max) words) (λ discipline.
+    given (setting option.Scan (count_to greatest_scan) words) (λ scan.
     given (setting option.Top (count_to greatest_top) words) (λ top.
-    Some (record { coding = coding; cutting = record { discipline = discipline; max = max }; jobs = jobs; top = top }))))))
+    Some (record { coding = coding; cutting = record { discipline = discipline; max = max }; jobs = jobs; scan = scan; top = top })))))))
 
 -- the mask
 abbrev pub mask_in : List (List ℕ) → Option Mask
@@ -73,10 +80,10 @@ mask_in words = setting option.Mask mask_of words
 -- the options that each command takes
 abbrev pub options_of : Command → List OptionName
 options_of command.Check = option.Coding ∷ []
-options_of command.Parse = option.Coding ∷ option.Jobs ∷ option.Mask ∷ option.Max ∷ option.Records ∷ []
-options_of command.Print = option.Coding ∷ option.Jobs ∷ option.Max ∷ option.Records ∷ []
-options_of command.Query = option.Coding ∷ option.Jobs ∷ option.Mask ∷ option.Max ∷ option.Records ∷ []
-options_of command.Summary = option.Coding ∷ option.Jobs ∷ option.Mask ∷ option.Max ∷ option.Records ∷ option.Top ∷ []
+options_of command.Parse = option.Coding ∷ option.Jobs ∷ option.Mask ∷ option.Max ∷ option.Records ∷ option.Scan ∷ []
+options_of command.Print = option.Coding ∷ option.Jobs ∷ option.Max ∷ option.Records ∷ option.Scan ∷ []
+options_of command.Query = option.Coding ∷ option.Jobs ∷ option.Mask ∷ option.Max ∷ option.Records ∷ option.Scan ∷ []
+options_of command.Summary = option.Coding ∷ option.Jobs ∷ option.Mask ∷ option.Max ∷ option.Records ∷ option.Scan ∷ option.Top ∷ []
 options_of command.Selftest = option.Jobs ∷ []
 
 -- the command of this name
@@ -169,6 +176,7 @@ pub record AreFewJobs (jobs : ℕ) : Type 0 where
 pub record KeepSettings (settings : Settings) : Type 0 where
   pub cutting : IsWithinLimits settings.cutting
   pub jobs : AreFewJobs settings.jobs
+  pub scan : settings.scan ≤ greatest_scan
 
 -- What each order keeps.
 abbrev pub KeepsLimits : Order → Type 0

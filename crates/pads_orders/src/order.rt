@@ -29,6 +29,8 @@ pub struct Settings {
     pub cutting: Cutting,
     /// How many workers read at the same time: from 1 to 64.
     pub jobs: u32,
+    /// How many bytes a search in a record passes over at most: from 0 to 16,777,216.
+    pub scan: u32,
     /// The most values of a part that a summary tells: from 0 to 1,000.
     pub top: u32,
 }
@@ -91,6 +93,7 @@ pub(crate) enum OptionName {
     Mask,
     Max,
     Records,
+    Scan,
     Top,
 }
 
@@ -122,6 +125,7 @@ impl OptionName {
             OptionName::Mask => Line::new(b"--mask=", b"both"),
             OptionName::Max => Line::new(b"--max=", b"1048576"),
             OptionName::Records => Line::new(b"--records=", b"nl"),
+            OptionName::Scan => Line::new(b"--scan=", b"16777216"),
             OptionName::Top => Line::new(b"--top=", b"10"),
         }
     }
@@ -136,11 +140,13 @@ pub(crate) fn settings_in(words: &[Word]) -> Option<Settings>
     let jobs = number_to(64, value_in(OptionName::Jobs, words)?)?;
     let max = number_to(16_777_216, value_in(OptionName::Max, words)?)?;
     let discipline = records_of(max, value_in(OptionName::Records, words)?)?;
+    let scan = count_to(16_777_216, value_in(OptionName::Scan, words)?)?;
     let top = count_to(1000, value_in(OptionName::Top, words)?)?;
     Some(Settings {
         coding,
         cutting: Cutting { discipline, max },
         jobs: jobs as u32,
+        scan: scan as u32,
         top: top as u32,
     })
 }
@@ -190,12 +196,14 @@ impl Command {
                 OptionName::Mask,
                 OptionName::Max,
                 OptionName::Records,
+                OptionName::Scan,
             ],
             Command::Print => &[
                 OptionName::Coding,
                 OptionName::Jobs,
                 OptionName::Max,
                 OptionName::Records,
+                OptionName::Scan,
             ],
             Command::Summary => &[
                 OptionName::Coding,
@@ -203,6 +211,7 @@ impl Command {
                 OptionName::Mask,
                 OptionName::Max,
                 OptionName::Records,
+                OptionName::Scan,
                 OptionName::Top,
             ],
             Command::Selftest => &[OptionName::Jobs],

@@ -434,6 +434,23 @@ fn wrong_jobs(rt: HostRuntime) -> Result<(), Fail> {
 }
 
 #[test]
+fn wrong_bounds_on_searches(rt: HostRuntime) -> Result<(), Fail> {
+    none_are(
+        &rt,
+        rt.alloc(),
+        &[
+            "parse a --scan=",
+            "parse a --scan=01",
+            "parse a --scan=16777217",
+            "print a --scan=-1",
+            "summary a --scan=3 --scan=3",
+            "check a --scan=3",
+            "selftest 3 --scan=3",
+        ],
+    )
+}
+
+#[test]
 fn wrong_masks(rt: HostRuntime) -> Result<(), Fail> {
     none_are(
         &rt,

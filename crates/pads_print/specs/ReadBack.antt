@@ -17,7 +17,7 @@ use Rattle.pads_print.specs.Same.{same, holds_of}
 
 -- what a frame reads as, as the record of this number
 abbrev pub row_in : Contents → ℕ → Cut → Row
-row_in m number frame = row_of m.decls m.shape number frame
+row_in m number frame = row_of m.decls m.shape m.scan number frame
 
 -- the frames of an input, where there is one
 abbrev pub frames_in : Discipline → ℕ → Option (List ℕ) → List Cut

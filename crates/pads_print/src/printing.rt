@@ -59,6 +59,7 @@ pub fn print(
     requires room { image.now.need ≤ machine.old }
     requires stands { StandsFor image.now.code image.now.entries image.now.shape image.now.need rules.now.decls }
     requires shape { image.now.shape ≡ rules.now.shape }
+    requires scan { image.now.scan ≡ rules.now.scan }
     requires some { 0 < max }
     requires limit { max ≤ 16777216 }
     requires fits_limit { FitsLimit discipline max }

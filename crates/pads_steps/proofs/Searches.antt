@@ -1,5 +1,5 @@
 -- Where a literal stands, told by where it occurs, and what it reads as there and elsewhere.
-use Rattle.std.proofs.Common.{◌≡◌, ◌∙◌, sym, ap, ℕ, ◌+◌, ◌-◌, ◌≤◌, Bool, true, false, if◌then◌else◌, List, length, length-append, length-drop, drop-drop, take, drop, arith, refl, ⊎_elim}
+use Rattle.std.proofs.Common.{◌≡◌, ◌∙◌, sym, ap, ℕ, ◌+◌, ◌-◌, ◌≤◌, Bool, true, false, if◌then◌else◌, List, length, length-append, length-drop, length-take, drop-drop, get_or-take, take, drop, arith, refl, ⊎_elim}
 use Rattle.std.proofs.Math.Seq.{take-append_seam}
 use Rattle.std.proofs.lemmas.Bool.{cases_Bool}
 use Rattle.std.proofs.lemmas.Bool.Decides.{Decides-eqb}
@@ -38,6 +38,26 @@ module _ (subject : Subject) (literal : List ℕ) where
       pick (λ r. absorb_of r ≡ r) (starts_at j) (leaf subject.origin val.Unit j (j + length literal)) (fails subject.origin cause.MissingLiteral j)
       (λ _. simp out-roll-Pd) (λ _. simp out-roll-Pd)
 
+-- where it occurs among the first bytes of several, and where among all of them
+module _ (bytes literal : List ℕ) (size : ℕ) where
+  occurs-whole : (k : ℕ) → OccursAt (take size bytes) literal k → OccursAt bytes literal k
+  occurs-whole k occurs =
+      let long = length-take size bytes in
+      let fits = occurs.fits in
+      record {
+        fits = omega (arith, fits, long);
+        reads = λ j less. sym (get_or-take size bytes (k + j) 0 (omega (arith, fits, long))) ∙ occurs.reads j less;
+      }
+
+  occurs-part : (k : ℕ) → k + length literal ≤ size → OccursAt bytes literal k → OccursAt (take size bytes) literal k
+  occurs-part k within occurs =
+      let long = length-take size bytes in
+      let fits = occurs.fits in
+      record {
+        fits = omega (arith, fits, long);
+        reads = λ j less. get_or-take size bytes (k + j) 0 (omega arith) ∙ occurs.reads j less;
+      }
+
 module _ (bytes literal : List ℕ) where
   occurs-starts : (i k : ℕ) → OccursAt (drop i bytes) literal k → stands_at bytes literal (i + k) ≡ true
   occurs-starts i k occurs =
@@ -57,19 +77,31 @@ module _ (bytes literal : List ℕ) where
       ⊎_elim (λ starts. absurd (none (j - i) (omega arith) (omega arith) (starts-occurs i (j - i) (omega arith) (ap (stands_at bytes literal) there ∙ starts)))) (λ no_starts. no_starts)
       (cases_Bool (stands_at bytes literal j))
 
-  module _ (i : ℕ) (within : i ≤ length bytes) where
-    pub first-place : (k : ℕ) → NoneBefore (OccursAt (drop i bytes) literal) 0 (length (drop i bytes) + 1) k → OccursAt (drop i bytes) literal k → IsFirst bytes literal i (i + k)
+  -- what is looked at from `i` on for places up to `last`
+  module _ (i last : ℕ) (from : i ≤ last) (within : last ≤ length bytes) where
+    abbrev size : ℕ
+    size = last - i + length literal
+
+    abbrev part : List ℕ
+    part = take size (drop i bytes)
+
+    nowhere : (n : ℕ) → n ≤ last - i + 1 → Nowhere (OccursAt part literal) 0 n → Nowhere (OccursAt (drop i bytes) literal) 0 n
+    nowhere n few none k low high occurs = none k low high (occurs-part (drop i bytes) literal size k (omega arith) occurs)
+
+    pub first-place : (k : ℕ) → NoneBefore (OccursAt part literal) 0 (length part + 1) k → OccursAt part literal k → IsFirst bytes literal i last (i + k)
     first-place k first occurs =
-        let size = length-drop i bytes in
-        let high : i + k ≤ length bytes = omega (arith, size, first.high) in
+        let long = length-take size (drop i bytes) in
+        let high : i + k ≤ last = omega (arith, long, occurs.fits, from) in
         record {
           low = omega arith;
           high = high;
-          here = occurs-starts i k occurs;
-          before = misses i k (omega (arith, high)) first.before;
+          here = occurs-starts i k (occurs-whole (drop i bytes) literal size k occurs);
+          before = misses i k (omega (arith, high, within)) (nowhere k (omega (arith, high)) first.before);
         }
 
-    pub no-place : Nowhere (OccursAt (drop i bytes) literal) 0 (length (drop i bytes) + 1) → StandsNowhere bytes literal i (length bytes + 1)
-    no-place none k from to =
-        let size = length-drop i bytes in
-        misses i (length (drop i bytes) + 1) (omega (arith, size)) none k from (omega (arith, size, to))
+    pub no-place : Nowhere (OccursAt part literal) 0 (length part + 1) → StandsNowhere bytes literal i (last + 1)
+    no-place none k low high =
+        let long = length-take size (drop i bytes) in
+        let left = length-drop i bytes in
+        misses i (last - i + 1) (omega (arith, from, within))
+        (nowhere (last - i + 1) (omega arith) (λ k low high. none k low (omega (arith, long, left, high, from, within)))) k low (omega (arith, high, from))

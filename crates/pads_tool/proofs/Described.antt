@@ -8,6 +8,7 @@ use Rattle.pads_module.specs.declared.module.Module.{Module}
 use Rattle.pads_tool.proofs.Stops.{stop-before, stop-for, stops-behind, stops-for}
 use Rattle.pads_tool.proofs.Texts.{of-text}
 use Rattle.pads_tool.specs.Images.{HasImage, IsImageFault, IsReadIn, IsUnreadFor}
+use Rattle.pads_tool.specs.Masking.{IsBounded, bounded}
 use Rattle.pads_tool.specs.Texts.{IsDescribedIn, IsRefusedFor, IsTextIn, StopsBefore, StopsFor}
 use Rattle.pads_tool.specs.declared.ending.Ending.{Ending}
 use Rattle.pads_tool.specs.declared.reader.Reader.{Reader}
@@ -67,7 +68,13 @@ module _ (content : Option (List ℕ)) (coding : Coding) where
     read-gives (Ok reader) same small = read-here (contents reader.module) same small
     read-gives (Err e) same small = tt
 
--- What holds of a module, holds of the reader's.
+    -- What reads by it with a bound on searches.
+    pub bounded-gives : (scan : ℕ) (r : Result Reader Ending) → IfOk r (λ reader. contents reader.module ≡ bounded scan made) → IfOk r (λ reader. HasImage (contents reader.module))
+        → IfOk r (λ reader. IsBounded scan (λ whole. IsReadIn content coding whole) (contents reader.module))
+    bounded-gives scan (Ok reader) same small = (made, (here, subst HasImage same small), same)
+    bounded-gives scan (Err e) same small = tt
+
+-- What holds of a module, holds of the reader's, which is equal to it.
 pub by-reader : (P : Contents → Type 0) (made : Contents) → P made → (r : Result Reader Ending) → IfOk r (λ reader. contents reader.module ≡ made) → IfOk r (λ reader. P (contents reader.module))
 by-reader P made h (Ok reader) same = subst P (sym same) h
 by-reader P made h (Err e) same = tt

@@ -118,8 +118,8 @@ number-by mark.Broken number cut r = refl
 kept-at : (d : Description) → Plain d.made.decls → KeepsAll d.made.decls → d.cutting.max ≤ 16777216 → (number : ℕ) (cut : Cut) → IsShort d.cutting.max cut → is_clean (row_in d.made number cut) ≡ true
     → IsKept d (row_in d.made number cut)
 kept-at d plain keeps limit number cut short clean =
-    let has = row-has d.made.decls d.made.shape number cut plain keeps (omega (arith, limit, short)) clean in
-    let same = number-by cut.mark number cut (kept_reading d.made.decls (type_of d.made.shape number) cut) in
+    let has = row-has d.made.decls d.made.shape d.made.scan number cut plain keeps (omega (arith, limit, short)) clean in
+    let same = number-by cut.mark number cut (kept_reading d.made.decls d.made.scan (type_of d.made.shape number) cut) in
     kept-row d (row_in d.made number cut) has.bytes clean (rw same has.is)
 
 -- all clean records of an input

@@ -11,7 +11,7 @@ use Rattle.pads_module.specs.declared.module.Module.{Module}
 use Rattle.pads_tool.proofs.Promises.{Excludes, known-at}
 use Rattle.pads_tool.proofs.Stops.{stop-before, stops-behind}
 use Rattle.pads_tool.specs.Images.{HasImage, IsImageFault}
-use Rattle.pads_tool.specs.Masking.{CanBeMasked, IsMaskFault, IsMaskedIn, IsReadUnder, IsRefusedUnder, IsUnmaskedIn, IsUnreadUnder, masking}
+use Rattle.pads_tool.specs.Masking.{CanBeMasked, IsBounded, IsMaskFault, IsMaskedIn, IsReadUnder, IsRefusedUnder, IsUnmaskedIn, IsUnreadUnder, bounded, masking}
 use Rattle.pads_tool.specs.Texts.{IsDescribedIn, IsRefusedFor, IsRefusedIn, StopsBefore, StopsFor}
 use Rattle.pads_tool.specs.declared.ending.Ending.{Ending}
 use Rattle.pads_tool.specs.declared.reader.Reader.{Reader}
@@ -40,12 +40,12 @@ module _ (content : Option (List ℕ)) (coding : Coding) (mask : Mask) (can : Ca
       let small = subst HasImage (one-masked refused.0 refused.1) can.small in
       omega (arith, small, refused.2)
 
-pub masking-excludes : (coding : Coding) (mask : Mask) → Excludes (masking coding mask)
-masking-excludes coding mask content (reason.Description v) can refused = masked-verdict content coding mask can v refused
-masking-excludes coding mask content (reason.MaskItem item) can refused = masked-item content coding mask can item refused
-masking-excludes coding mask content (reason.Question fault) can refused = absurd refused
-masking-excludes coding mask content reason.ImageTooLarge can refused = masked-image content coding mask can refused
-masking-excludes coding mask content reason.SummaryTooLarge can refused = absurd refused
+pub masking-excludes : (coding : Coding) (mask : Mask) (scan : ℕ) → Excludes (masking coding mask scan)
+masking-excludes coding mask scan content (reason.Description v) can refused = masked-verdict content coding mask can v refused
+masking-excludes coding mask scan content (reason.MaskItem item) can refused = masked-item content coding mask can item refused
+masking-excludes coding mask scan content (reason.Question fault) can refused = absurd refused
+masking-excludes coding mask scan content reason.ImageTooLarge can refused = masked-image content coding mask can refused
+masking-excludes coding mask scan content reason.SummaryTooLarge can refused = absurd refused
 
 -- A module under a mask, or why there is none, from that of the description in a file.
 module _ (content : Option (List ℕ)) (coding : Coding) (mask : Mask) where
@@ -87,9 +87,7 @@ module _ (content : Option (List ℕ)) (coding : Coding) (mask : Mask) where
     pub unread-stops : (before now : ℕ) (r : Result Reader Ending) → IfErr r (StopsFor (IsImageFault made)) → IfErr r (StopsBefore (IsRefusedUnder content coding mask) before now)
     unread-stops = stops-behind (IsImageFault made) (IsRefusedUnder content coding mask) image-why
 
-    read-here : (by : Contents) → by ≡ made → HasImage by → IsReadUnder content coding mask by
-    read-here by same small = (subst (IsMaskedIn content coding mask) (sym same) here, small)
-
-    pub read-gives : (r : Result Reader Ending) → IfOk r (λ reader. contents reader.module ≡ made) → IfOk r (λ reader. HasImage (contents reader.module)) → IfOk r (λ reader. IsReadUnder content coding mask (contents reader.module))
-    read-gives (Ok reader) same small = read-here (contents reader.module) same small
-    read-gives (Err e) same small = tt
+    pub read-gives : (scan : ℕ) (r : Result Reader Ending) → IfOk r (λ reader. contents reader.module ≡ bounded scan made) → IfOk r (λ reader. HasImage (contents reader.module))
+        → IfOk r (λ reader. IsBounded scan (λ whole. IsReadUnder content coding mask whole) (contents reader.module))
+    read-gives scan (Ok reader) same small = (made, (here, subst HasImage same small), same)
+    read-gives scan (Err e) same small = tt

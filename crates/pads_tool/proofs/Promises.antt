@@ -62,8 +62,8 @@ module _ (content : Option (List ℕ)) (coding : Coding) (can : CanBeRead conten
 abbrev pub Excludes : Preparation → Type 0
 Excludes prepared = (content : Option (List ℕ)) (why : Reason) → prepared.can_make content → prepared.refused_for content why → ⊥
 
-pub describing-excludes : (coding : Coding) → Excludes (describing coding)
-describing-excludes coding content why can refused = not-refused content coding can why refused
+pub describing-excludes : (coding : Coding) (scan : ℕ) → Excludes (describing coding scan)
+describing-excludes coding scan content why can refused = not-refused content coding can why refused
 
 -- The run of a command ends before its module is there.
 pub stopped : (p : Promise) (s : Seen) (n : Counts) (Refuses : Reason → Type 0) (e : Ending) → p.reads_files ≡ true
@@ -97,7 +97,7 @@ pub printing-stopped : (name : List ℕ) (settings : Settings) (content : List �
     → StopsBefore (IsUnreadFor (content name) settings.coding) n.files n.files' e → Keeps (printing name settings) (seen content left left out out noted noted) n e
 printing-stopped name settings content left out noted n e h =
     stopped (printing name settings) (seen content left left out out noted noted) n (IsUnreadFor (content name) settings.coding) e refl
-    (λ why refused. (refused, λ can. describing-excludes settings.coding (content name) why can.0 refused)) (inl (refl, refl, refl)) refl h
+    (λ why refused. (refused, λ can. describing-excludes settings.coding settings.scan (content name) why can.0 refused)) (inl (refl, refl, refl)) refl h
 
 module _ (work : Description → Work Row Bool) (left left' o o' n n' : Option (List ℕ)) where
   -- an input of at most 2^62 bytes isn't longer
@@ -130,7 +130,7 @@ pub each-kept : (settings : Settings) (made : Contents) → Plain made.decls →
 each-kept settings made plain keeps within None = tt
 each-kept settings made plain keeps within (Some input) = all-kept (described made settings.cutting) plain keeps within.limit within.fits input
 
-pub printed : (name : List ℕ) (settings : Settings) (s : Seen) (n : Counts) (e : Ending) → (printing name settings).keeps_records s.content s.left → Keeps (reading (describing settings.coding) prints true name settings.cutting) s n e → Keeps (printing name settings) s n e
+pub printed : (name : List ℕ) (settings : Settings) (s : Seen) (n : Counts) (e : Ending) → (printing name settings).keeps_records s.content s.left → Keeps (reading (describing settings.coding settings.scan) prints true name settings.cutting) s n e → Keeps (printing name settings) s n e
 printed name settings s n ending.Done kept h = (h.0, kept)
 printed name settings s n ending.Dirty kept h = (h.0, kept)
 printed name settings s n ending.Usage kept h = h

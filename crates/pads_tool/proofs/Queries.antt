@@ -17,8 +17,8 @@ use Rattle.pads_question.specs.declared.fault.QuestionFault.{QuestionFault}
 use Rattle.pads_tool.proofs.Masked.{masked-image, masked-item, masked-verdict, one-masked}
 use Rattle.pads_tool.proofs.Promises.{known-at}
 use Rattle.pads_tool.proofs.Stops.{stop-before, stop-behind, stop-for, stops-behind}
-use Rattle.pads_tool.specs.Images.{IsImageFault}
-use Rattle.pads_tool.specs.Masking.{IsMaskFault, IsMaskedIn}
+use Rattle.pads_tool.specs.Images.{HasImage, IsImageFault}
+use Rattle.pads_tool.specs.Masking.{IsBounded, IsMaskFault, IsMaskedIn, bounded}
 use Rattle.pads_tool.specs.Promises.{Counts, Keeps, Seen, answering, querying}
 use Rattle.pads_tool.specs.Querying.{CanBeAsked, IsAskedIn, IsNotAskedIn, IsQuestionFault, IsUnaskedFor, IsUnaskedOf}
 use Rattle.pads_tool.proofs.Texts.{of-text}
@@ -120,13 +120,11 @@ module _ (content : Option (List ℕ)) (coding : Coding) (mask : Mask) (asks : Q
     pub asked-stops : (before now : ℕ) (r : Result Answers Ending) → IfErr r (StopsFor (IsUnaskedOf d.tree made asks)) → IfErr r (StopsBefore (IsUnaskedFor content coding mask asks) before now)
     asked-stops = stops-behind (IsUnaskedOf d.tree made asks) (IsUnaskedFor content coding mask asks) asked-why
 
-    asked-here : (by : Contents) (asked : Asked) → by ≡ made → IsAsked d.tree made asks.path asks.filter asked → IsAskedIn content coding mask asks asked by
-    asked-here by asked by_is h = subst (λ (m : Contents). IsAskedIn content coding mask asks asked m) (sym by_is) (asked-of asked h)
-
-    pub asked-gives : (r : Result Answers Ending) → IfOk r (λ answers. contents answers.reader.module ≡ made) → IfOk r (λ answers. IsAsked d.tree made asks.path asks.filter answers.asked)
-        → IfOk r (λ answers. IsAskedIn content coding mask asks answers.asked (contents answers.reader.module))
-    asked-gives (Ok answers) by h = asked-here (contents answers.reader.module) answers.asked by h
-    asked-gives (Err e) by h = tt
+    pub asked-gives : (scan : ℕ) (r : Result Answers Ending) → IfOk r (λ answers. contents answers.reader.module ≡ bounded scan made) → IfOk r (λ answers. HasImage (contents answers.reader.module))
+        → IfOk r (λ answers. IsAsked d.tree made asks.path asks.filter answers.asked)
+        → IfOk r (λ answers. IsBounded scan (λ whole. IsAskedIn content coding mask asks answers.asked whole × HasImage whole) (contents answers.reader.module))
+    asked-gives scan (Ok answers) by small h = (made, (asked-of answers.asked h, subst HasImage by small), by)
+    asked-gives scan (Err e) by small h = tt
 
 -- What is asked of a module, of which there may be no image.
 module _ (tree : Ast) (made : Contents) (asks : Question) where

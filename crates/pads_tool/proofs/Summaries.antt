@@ -1,7 +1,8 @@
 -- How the promise of a summary is kept.
-use Rattle.std.proofs.Common.{◌≡◌, ◌∙◌, ◌<◌, ◌≤◌, inl, refl, sym, subst, ℕ, true, false, List, Option, IfSome, Ok, Err, arith}
+use Rattle.std.proofs.Common.{◌≡◌, ◌∙◌, ◌<◌, ◌≤◌, inl, refl, sym, ap, subst, ℕ, true, false, List, Option, IfSome, Ok, Err, arith}
 use Rattle.pads_module.specs.Modules.{Contents}
 use Rattle.pads_erase.specs.declared.mask.Mask.{Mask}
+use Rattle.pads_mask.specs.Masks.{masked}
 use Rattle.pads_orders.specs.declared.order.Settings.{Settings}
 use Rattle.pads_plan.specs.Plans.{lists_of, most, size}
 use Rattle.pads_report.specs.Reports.{report_text}
@@ -12,7 +13,7 @@ use Rattle.pads_tool.specs.Promises.{Counts, Keeps, Seen, summarizing}
 use Rattle.pads_tool.specs.Summing.{CanBeSummed, HasNoSummary, SumsGive, SumsMost, SumsOver, all_rows, are_too_many, report_for, sums}
 use Rattle.pads_tool.specs.Telling.{Tells}
 use Rattle.pads_tool.proofs.Masked.{masked-image, masked-item, masked-verdict, one-masked}
-use Rattle.pads_tool.specs.Masking.{IsReadUnder, IsRefusedUnder}
+use Rattle.pads_tool.specs.Masking.{IsBounded, IsReadUnder, IsRefusedUnder, bounded}
 use Rattle.pads_tool.specs.Texts.{StopsBefore}
 use Rattle.pads_tool.specs.declared.ending.Ending.{Ending}
 use Rattle.pads_tool.specs.declared.ending.Ending.TheVariants as ending
@@ -21,9 +22,9 @@ use Rattle.pads_tool.specs.declared.summed.Summed.{Summed}
 
 module _ (content left : Option (List ℕ)) (settings : Settings) (mask : Mask) (can : CanBeSummed content left settings mask) where
   -- What can be summed hasn't too many parts,
-  can-parts : (made : Contents) → IsReadUnder content settings.coding mask made → most < size (lists_of made) → ⊥
-  can-parts made here many =
-      let few = subst (λ (m : Contents). size (lists_of m) ≤ most) (one-masked content settings.coding mask can.can_make made here.0) can.few in
+  can-parts : (whole : Contents) → IsReadUnder content settings.coding mask whole → most < size (lists_of whole) → ⊥
+  can-parts whole here many =
+      let few = subst (λ (m : Contents). size (lists_of m) ≤ most) (one-masked content settings.coding mask can.can_make whole here.0) can.few in
       omega (arith, few, many)
 
   -- isn't too long,
@@ -33,10 +34,12 @@ module _ (content left : Option (List ℕ)) (settings : Settings) (mask : Mask) 
       omega (arith, can.fits, long.2, within can.input left' long.0 long.1)
 
   -- and meets no limit.
-  can-over : (left' : Option (List ℕ)) (made : Contents) → IsReadUnder content settings.coding mask made → IfSome left (SumsOver left' (described made settings.cutting)) → ⊥
+  can-over : (left' : Option (List ℕ)) (made : Contents) → IsBounded settings.scan (λ whole. IsReadUnder content settings.coding mask whole) made → IfSome left (SumsOver left' (described made settings.cutting)) → ⊥
   can-over left' made here h =
       let over = known-at (SumsOver left' (described made settings.cutting)) left can.input can.left_is h in
-      let counted = subst (λ (m : Contents). are_too_many m (all_rows (described m settings.cutting) can.input) ≡ false) (one-masked content settings.coding mask can.can_make made here.0) can.counted in
+      let is : bounded settings.scan (masked can.can_make.whole mask) ≡ made =
+      ap (λ (m : Contents). bounded settings.scan m) (one-masked content settings.coding mask can.can_make here.0 here.1.0) ∙ sym here.2 in
+      let counted = subst (λ (m : Contents). are_too_many m (all_rows (described m settings.cutting) can.input) ≡ false) is can.counted in
       let wrong : true ≡ false = sym over.2 ∙ counted in cc
 
 module _ (name : List ℕ) (settings : Settings) (mask : Mask) (s : Seen) (n : Counts) where
@@ -57,13 +60,15 @@ module _ (name : List ℕ) (settings : Settings) (mask : Mask) (s : Seen) (n : C
   summary-stopped ending.TooLong same h = absurd h
   summary-stopped ending.Limit same h = absurd h
 
-  module _ (made : Contents) (here : IsReadUnder (s.content name) settings.coding mask made) where
+  module _ (made : Contents) (here : IsBounded settings.scan (λ whole. IsReadUnder (s.content name) settings.coding mask whole) made) where
     pub summary-none : (e : Ending) → s.out' ≡ s.out → HasNoSummary made e → Keeps (summarizing name settings mask) s n e
     summary-none (ending.Refused (reason.Description verdict)) same h = absurd h
     summary-none (ending.Refused (reason.MaskItem item)) same h = absurd h
     summary-none (ending.Refused (reason.Question fault)) same h = absurd h
     summary-none (ending.Refused reason.ImageTooLarge) same h = absurd h
-    summary-none (ending.Refused reason.SummaryTooLarge) same h = ((made, here, h), same, λ can. can-parts (s.content name) s.left settings mask can made here h)
+    summary-none (ending.Refused reason.SummaryTooLarge) same h =
+        let many = subst (λ (m : Contents). most < size (lists_of m)) here.2 h in
+        ((here.0, here.1, many), same, λ can. can-parts (s.content name) s.left settings mask can here.0 here.1 many)
     summary-none ending.Memory same h = same
     summary-none ending.FileFault same h = absurd h
     summary-none ending.Done same h = absurd h

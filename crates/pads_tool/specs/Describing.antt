@@ -23,7 +23,7 @@ described made cutting = record { made = made; cutting = cutting }
 
 -- the row of the record of this number in this frame
 abbrev pub row_in : Contents → ℕ → Cut → Row
-row_in m number cut = row_of m.decls m.shape number cut
+row_in m number cut = row_of m.decls m.shape m.scan number cut
 
 -- the line that tells a row
 abbrev pub line_of : Contents → Row → List ℕ

@@ -51,6 +51,13 @@ pub record CanBeMasked (content : Option (List ℕ)) (coding : Coding) (mask : M
   pub suits : fault_of whole mask ≡ None
   pub small : HasImage (masked whole mask)
 
+-- Records are read by such a module with the order's bound on searches.
+abbrev pub bounded : ℕ → Contents → Contents
+bounded scan m = record m { scan = scan }
+
+abbrev pub IsBounded : ℕ → (Contents → Type 0) → Contents → Type 0
+IsBounded scan Is made = (whole : Contents) × Is whole × (made ≡ bounded scan whole)
+
 -- How a command comes by its module, by the content of the description's file: which it is, for which reason there is
 -- none, and that there is one.
 pub record Preparation : Type 1 where
@@ -59,17 +66,17 @@ pub record Preparation : Type 1 where
   pub can_make : Option (List ℕ) → Type 0
 
 -- The description's own.
-abbrev pub describing : Coding → Preparation
-describing coding = record {
-  is_made = λ content made. IsReadIn content coding made;
+abbrev pub describing : Coding → ℕ → Preparation
+describing coding scan = record {
+  is_made = λ content made. IsBounded scan (λ whole. IsReadIn content coding whole) made;
   refused_for = λ content why. IsUnreadFor content coding why;
   can_make = λ content. CanBeRead content coding;
 }
 
 -- The same under a mask.
-abbrev pub masking : Coding → Mask → Preparation
-masking coding mask = record {
-  is_made = λ content made. IsReadUnder content coding mask made;
+abbrev pub masking : Coding → Mask → ℕ → Preparation
+masking coding mask scan = record {
+  is_made = λ content made. IsBounded scan (λ whole. IsReadUnder content coding mask whole) made;
   refused_for = λ content why. IsRefusedUnder content coding mask why;
   can_make = λ content. CanBeMasked content coding mask;
 }

@@ -22,7 +22,7 @@ use Rattle.pads_tool.specs.Querying.{CanBeAsked, IsUnaskedFor, answers, asking}
 use Rattle.pads_tool.specs.Reading.{ReadLittleAhead, Reads, WroteAll, WroteComplete, WroteMost, WrotePrefix, rows_in}
 use Rattle.pads_tool.specs.Testing.{TestsBy, all_clean, selftest_line}
 use Rattle.pads_tool.specs.Summing.{CanBeSummed, IsUnsummedFor, SumsAll, SumsComplete, SumsMost, SumsOver, SumsSome}
-use Rattle.pads_tool.specs.Masking.{IsReadUnder, Preparation, describing, masking}
+use Rattle.pads_tool.specs.Masking.{IsBounded, IsReadUnder, Preparation, describing, masking}
 use Rattle.pads_tool.specs.Texts.{IsDescribedIn}
 use Rattle.pads_tool.specs.declared.reason.Reason.{Reason}
 use Rattle.pads_tool.specs.declared.ending.Ending.{Ending}
@@ -126,24 +126,24 @@ reading prepared work noting name cutting = record {
 
 -- `parse`: a line for each record.
 abbrev pub parsing : List ℕ → Settings → Mask → Promise
-parsing name settings mask = reading (masking settings.coding mask) (λ d. lines d.made) false name settings.cutting
+parsing name settings mask = reading (masking settings.coding mask settings.scan) (λ d. lines d.made) false name settings.cutting
 
 -- `print`: the framed canonical bytes of each clean record that isn't ambiguous, and on the notes a line for each other. Each
 -- clean record has canonical bytes, and they are printed where they read back, and else noted.
 abbrev pub printing : List ℕ → Settings → Promise
-printing name settings = record (reading (describing settings.coding) prints true name settings.cutting) {
-  keeps_records = λ content left. Reads (IsDescribedIn (content name) settings.coding) settings.cutting left
+printing name settings = record (reading (describing settings.coding settings.scan) prints true name settings.cutting) {
+  keeps_records = λ content left. Reads (IsBounded settings.scan (λ whole. IsDescribedIn (content name) settings.coding whole)) settings.cutting left
       (λ d input. All (λ row. is_clean row ≡ true → IsKept d row) (rows_in prints d (frames_of d input)));
 }
 
 -- `summary`: the report of all records, once the input has ended, and nothing before.
 abbrev pub summarizing : List ℕ → Settings → Mask → Promise
 summarizing name settings mask = record {
-  finishes = λ well s. Reads (IsReadUnder (s.content name) settings.coding mask) settings.cutting s.left (SumsAll s.left' s.out s.out' settings.top well);
-  stops_reading = λ s. (s.out' ≡ s.out) × Reads (IsReadUnder (s.content name) settings.coding mask) settings.cutting s.left (SumsComplete s.left');
-  stops_at_limit = λ s. (s.out' ≡ s.out) × Reads (IsReadUnder (s.content name) settings.coding mask) settings.cutting s.left (SumsMost s.left');
-  stops_at_count = λ s. Reads (IsReadUnder (s.content name) settings.coding mask) settings.cutting s.left (SumsOver s.left');
-  stops_writing = λ s. Reads (IsReadUnder (s.content name) settings.coding mask) settings.cutting s.left (SumsSome s.left' s.out s.out' settings.top);
+  finishes = λ well s. Reads (IsBounded settings.scan (λ whole. IsReadUnder (s.content name) settings.coding mask whole)) settings.cutting s.left (SumsAll s.left' s.out s.out' settings.top well);
+  stops_reading = λ s. (s.out' ≡ s.out) × Reads (IsBounded settings.scan (λ whole. IsReadUnder (s.content name) settings.coding mask whole)) settings.cutting s.left (SumsComplete s.left');
+  stops_at_limit = λ s. (s.out' ≡ s.out) × Reads (IsBounded settings.scan (λ whole. IsReadUnder (s.content name) settings.coding mask whole)) settings.cutting s.left (SumsMost s.left');
+  stops_at_count = λ s. Reads (IsBounded settings.scan (λ whole. IsReadUnder (s.content name) settings.coding mask whole)) settings.cutting s.left (SumsOver s.left');
+  stops_writing = λ s. Reads (IsBounded settings.scan (λ whole. IsReadUnder (s.content name) settings.coding mask whole)) settings.cutting s.left (SumsSome s.left' s.out s.out' settings.top);
   stays_near = λ s. Unit {0};
   stops_early = λ s. s.out' ≡ s.out;
   refused_for = λ content why. IsUnsummedFor (content name) settings.coding mask why;
@@ -156,7 +156,7 @@ summarizing name settings mask = record {
 
 -- `query`: a line for each node that the question asks for. What it asks is found by the description.
 abbrev pub answering : Question → Settings → Mask → Asked → Promise
-answering asks settings mask asked = reading (asking settings.coding mask asks asked) (λ d. answers d.made asked) false asks.description settings.cutting
+answering asks settings mask asked = reading (asking settings.coding mask settings.scan asks asked) (λ d. answers d.made asked) false asks.description settings.cutting
 
 abbrev pub querying : Question → Settings → Mask → Promise
 querying asks settings mask = record {

@@ -22,7 +22,7 @@ use Rattle.pads_question.specs.declared.fault.QuestionFault.{QuestionFault}
 use Rattle.pads_value.specs.declared.row.Row.{Row}
 use Rattle.pads_tool.specs.Describing.{is_clean, row_in}
 use Rattle.pads_tool.specs.Images.{HasImage, HasNoImage}
-use Rattle.pads_tool.specs.Masking.{CanBeMasked, IsMaskedIn, IsUnmaskedIn, Preparation}
+use Rattle.pads_tool.specs.Masking.{CanBeMasked, IsBounded, IsMaskedIn, IsUnmaskedIn, Preparation}
 use Rattle.pads_tool.specs.Texts.{IsRefusedIn}
 use Rattle.pads_tool.specs.declared.reason.Reason.{Reason}
 use Rattle.pads_tool.specs.declared.reason.Reason.TheVariants as reason
@@ -96,9 +96,9 @@ module _ (content : Option (List ℕ)) (coding : Coding) (mask : Mask) (asks : Q
     pub is : IsAsked tree (masked can_make.whole mask) asks.path asks.filter asked
 
 -- How a query comes by its module and by what it asks.
-abbrev pub asking : Coding → Mask → Question → Asked → Preparation
-asking coding mask asks asked = record {
-  is_made = λ content made. IsAskedIn content coding mask asks asked made × HasImage made;
+abbrev pub asking : Coding → Mask → ℕ → Question → Asked → Preparation
+asking coding mask scan asks asked = record {
+  is_made = λ content made. IsBounded scan (λ whole. IsAskedIn content coding mask asks asked whole × HasImage whole) made;
   refused_for = λ content why. IsUnaskedFor content coding mask asks why;
   can_make = λ content. CanBeAsked content coding mask asks;
 }

@@ -19,7 +19,7 @@ use Rattle.pads_sums.specs.declared.part_sum.SumList.{SumList}
 use Rattle.pads_value.specs.Cuts.{Cut}
 use Rattle.pads_value.specs.declared.row.Row.{Row}
 use Rattle.pads_tool.specs.Describing.{Description, complete_frames_of, described, frames_of, is_clean, row_in}
-use Rattle.pads_tool.specs.Masking.{CanBeMasked, IsReadUnder, IsUnmaskedIn, IsUnreadUnder}
+use Rattle.pads_tool.specs.Masking.{CanBeMasked, bounded, IsReadUnder, IsUnmaskedIn, IsUnreadUnder}
 use Rattle.pads_tool.specs.Texts.{IsRefusedIn}
 use Rattle.pads_tool.specs.declared.ending.Ending.{Ending}
 use Rattle.pads_tool.specs.declared.ending.Ending.TheVariants as ending
@@ -128,7 +128,8 @@ pub record CanBeSummed (content left : Option (List ℕ)) (settings : Settings) 
   pub few : size (lists_of (masked can_make.whole mask)) ≤ most
   pub left_is : left ≡ Some input
   pub fits : length input ≤ 2 ^ 62
-  pub counted : are_too_many (masked can_make.whole mask) (all_rows (described (masked can_make.whole mask) settings.cutting) input) ≡ false
+  pub counted : are_too_many (bounded settings.scan (masked can_make.whole mask))
+      (all_rows (described (bounded settings.scan (masked can_make.whole mask)) settings.cutting) input) ≡ false
 
 -- The run ends so before a summary is there: it would have too many parts, or there is no memory.
 abbrev pub HasNoSummary : Contents → Ending → Type 0

@@ -151,7 +151,7 @@ pub(crate) fn parse<R: Threads + Sync, F: Files, S: Source, K: Sink, G: Gate + S
     ensures out_kept { result ≢ ending.WriteFault → K.faults out.new ≡ K.faults out.old }
     ensures source_kept { result ≢ ending.ReadFault → result ≢ ending.WriteFault → result ≢ ending.Memory → S.faults source.new ≡ S.faults source.old }
 {
-    match read_under(alloc, files, name, settings.coding, mask) {
+    match read_under(alloc, files, name, settings.coding, mask, settings.scan) {
         Ok(reader) => write_lines(rt, alloc, &Lines { reader }, settings, source, out, gate),
         Err(ending) => ending,
     }

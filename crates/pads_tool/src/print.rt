@@ -196,7 +196,7 @@ pub(crate) fn print<R: Threads + Sync, F: Files, S: Source, K: Sink, E: Sink, G:
     ensures source_kept { result ≢ ending.ReadFault → result ≢ ending.WriteFault → result ≢ ending.Memory → S.faults source.new ≡ S.faults source.old }
 {
     let cutting = settings.cutting;
-    match read_in(alloc, files, name, settings.coding) {
+    match read_in(alloc, files, name, settings.coding, settings.scan) {
         Ok(reader) => print_records(
             rt,
             alloc,

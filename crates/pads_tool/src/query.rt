@@ -215,7 +215,7 @@ pub(crate) fn query<R: Threads + Sync, F: Files, S: Source, K: Sink, G: Gate + S
     ensures out_kept { result ≢ ending.WriteFault → K.faults out.new ≡ K.faults out.old }
     ensures source_kept { result ≢ ending.ReadFault → result ≢ ending.WriteFault → result ≢ ending.Memory → S.faults source.new ≡ S.faults source.old }
 {
-    match asked_in(alloc, files, question, settings.coding, mask) {
+    match asked_in(alloc, files, question, settings.coding, mask, settings.scan) {
         Ok(answers) => write_answers(rt, alloc, &answers, settings, source, out, gate),
         Err(ending) => ending,
     }

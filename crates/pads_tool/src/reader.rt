@@ -21,13 +21,16 @@ pub(crate) struct Reader {
     pub(crate) ghost code: { image.code ≡ code_of module.decls } by { Coded-set (coded_list op.the_row.coded) image.code (code_of module.decls) },
     pub(crate) ghost entries: { image.entries ≡ entries_of module.decls } by { Coded-set (coded_list entry.the_row.coded) image.entries (entries_of module.decls) },
     pub(crate) ghost shape: { image.shape ≡ module.shape },
+    pub(crate) ghost scan: { image.scan ≡ module.scan },
 }
 
 impl Reader {
     ghost use Rattle.std.specs.Prelude.{◌≤◌, IfOk, IfErr};
     ghost use Rattle.pads_module.specs.Modules.{contents};
+    ghost use Rattle.pads_orders.specs.Orders.{greatest_scan};
     ghost use Rattle.pads_tool.specs.Describing.{row_in};
     ghost use Rattle.pads_tool.specs.Images.{HasImage, IsImageFault};
+    ghost use Rattle.pads_tool.specs.Masking.{bounded as bounded_by};
     ghost use Rattle.pads_tool.specs.Texts.{StopsFor};
     ghost use Rattle.pads_value.specs.Cuts.{cut_of_frame};
 
@@ -46,6 +49,18 @@ impl Reader {
             module: made,
             image,
         })
+    }
+
+    /// The same by a module in which a search passes over so many bytes at most.
+    pub(crate) fn bounded(alloc: Global, made: Module, scan: u32) -> Result<Reader, Ending>
+        requires scan { scan ≤ greatest_scan }
+        ensures made { IfOk result (λ reader. contents reader.module ≡ bounded_by scan (contents made)) }
+        ensures small { IfOk result (λ reader. HasImage (contents reader.module)) }
+        ensures stops { IfErr result (StopsFor (IsImageFault (contents made))) }
+    {
+        let mut made = made;
+        made.bound_scan(scan);
+        Reader::new(alloc, made)
     }
 
     /// A machine with room for the image.

@@ -211,7 +211,7 @@ pub(crate) fn summary<R: Threads + Sync, F: Files, S: Source, K: Sink, G: Gate +
     ensures source_kept { result ≢ ending.ReadFault → result ≢ ending.WriteFault → result ≢ ending.Memory → result ≢ ending.Limit
         → S.faults source.new ≡ S.faults source.old }
 {
-    let reader = match read_under(alloc, files, name, settings.coding, mask) {
+    let reader = match read_under(alloc, files, name, settings.coding, mask, settings.scan) {
         Ok(reader) => reader,
         Err(ending) => return ending,
     };

@@ -1,4 +1,4 @@
-ghost use Rattle.std.specs.Prelude.{◌≡◌, [], true, Some, None, IfOk, IfErr, ◌≢◌, OnOk};
+ghost use Rattle.std.specs.Prelude.{◌≡◌, ◌≤◌, [], true, Some, None, IfOk, IfErr, ◌≢◌, OnOk};
 ghost use Rattle.pads_mask.specs.Masks.{fault_of, masked as masked_of};
 ghost use Rattle.pads_erase.specs.declared.mode.Mode.TheVariants as mode_form;
 ghost use Rattle.pads_ast.specs.declared.decl.Ast.{Ast};
@@ -6,7 +6,8 @@ ghost use Rattle.pads_describe.specs.Describing.{Describes};
 ghost use Rattle.pads_describe.specs.Trees.{IsAccepted};
 ghost use Rattle.pads_question.specs.Questions.{IsAsked};
 ghost use Rattle.pads_tool.specs.Images.{HasImage, IsReadIn, IsUnreadFor};
-ghost use Rattle.pads_tool.specs.Masking.{IsMaskFault, IsMaskedIn, IsReadUnder, IsRefusedUnder};
+ghost use Rattle.pads_orders.specs.Orders.{greatest_scan};
+ghost use Rattle.pads_tool.specs.Masking.{IsBounded, IsMaskFault, IsMaskedIn, IsReadUnder, IsRefusedUnder, bounded};
 ghost use Rattle.pads_tool.specs.Querying.{IsAskedIn, IsQuestionFault, IsUnaskedFor, IsUnaskedOf};
 ghost use Rattle.pads_tool.specs.Texts.{IsAcceptedIn, IsDescribedIn, IsRefusedFor, IsTextIn, StopsBefore, StopsFor};
 ghost use Rattle.pads_tool.specs.declared.ending.Ending.TheVariants as ending;
@@ -104,14 +105,16 @@ fn described_in<F: Files>(
     }
 }
 
-/// What reads by the description in a file, or how the run ends without it.
+/// What reads by the description in a file, with this bound on searches, or how the run ends without it.
 pub(crate) fn read_in<F: Files>(
     alloc: Global,
     files: &mut F,
     name: &str,
     coding: Coding,
+    scan: u32,
 ) -> Result<Reader, Ending>
-    ensures read { IfOk result (λ reader. IsReadIn (F.content files.old name.now) coding (contents reader.module)) }
+    requires scan { scan ≤ greatest_scan }
+    ensures read { IfOk result (λ reader. IsBounded scan (λ whole. IsReadIn (F.content files.old name.now) coding whole) (contents reader.module)) }
     ensures plain { IfOk result (λ reader. Plain (contents reader.module).decls) }
     ensures keeps_all { IfOk result (λ reader. KeepsAll (contents reader.module).decls) }
     ensures stops { IfErr result (StopsBefore (IsUnreadFor (F.content files.old name.now) coding) (F.faults files.old) (F.faults files.new)) }
@@ -119,7 +122,7 @@ pub(crate) fn read_in<F: Files>(
     ensures untold { IfErr result (λ stop. stop ≢ ending.FileFault → F.faults files.new ≡ F.faults files.old) }
 {
     match described_in(alloc, files, name, coding) {
-        Ok(made) => Reader::new(alloc, made),
+        Ok(made) => Reader::bounded(alloc, made, scan),
         Err(ending) => Err(ending),
     }
 }
@@ -166,21 +169,24 @@ fn masked_in<F: Files>(
     }
 }
 
-/// What reads by the description in a file under a mask, or how the run ends without it.
+/// What reads by the description in a file under a mask, with this bound on searches, or how the run ends
+/// without it.
 pub(crate) fn read_under<F: Files>(
     alloc: Global,
     files: &mut F,
     name: &str,
     coding: Coding,
     mask: &Mask,
+    scan: u32,
 ) -> Result<Reader, Ending>
-    ensures read { IfOk result (λ reader. IsReadUnder (F.content files.old name.now) coding mask.now (contents reader.module)) }
+    requires scan { scan ≤ greatest_scan }
+    ensures read { IfOk result (λ reader. IsBounded scan (λ whole. IsReadUnder (F.content files.old name.now) coding mask.now whole) (contents reader.module)) }
     ensures stops { IfErr result (StopsBefore (IsRefusedUnder (F.content files.old name.now) coding mask.now) (F.faults files.old) (F.faults files.new)) }
     ensures kept { OnOk result (F.faults files.new ≡ F.faults files.old) }
     ensures untold { IfErr result (λ stop. stop ≢ ending.FileFault → F.faults files.new ≡ F.faults files.old) }
 {
     match masked_in(alloc, files, name, coding, mask) {
-        Ok(made) => Reader::new(alloc, made),
+        Ok(made) => Reader::bounded(alloc, made, scan),
         Err(ending) => Err(ending),
     }
 }
@@ -202,11 +208,18 @@ fn asked_of(alloc: Global, text: &[u8], made: &Module, asks: &Question) -> Resul
     }
 }
 
-/// What reads for a question by an accepted text and its module under a mask, with what it asks, or how the run ends without
-/// it.
-fn asked_by(alloc: Global, text: &[u8], made: Module, asks: &Question) -> Result<Answers, Ending>
+/// What reads for a question by an accepted text and its module under a mask, with this bound on searches, and what it asks,
+/// or how the run ends without it.
+fn asked_by(
+    alloc: Global,
+    text: &[u8],
+    made: Module,
+    asks: &Question,
+    scan: u32,
+) -> Result<Answers, Ending>
     requires accepted { (tree : Ast) × IsAccepted text.now tree }
-    ensures made { IfOk result (λ answers. contents answers.reader.module ≡ contents made) }
+    requires scan { scan ≤ greatest_scan }
+    ensures made { IfOk result (λ answers. contents answers.reader.module ≡ bounded scan (contents made)) }
     ensures small { IfOk result (λ answers. HasImage (contents answers.reader.module)) }
     ensures asked { (tree : Ast) → IsAccepted text.now tree → IfOk result (λ answers. IsAsked tree (contents made) asks.now.path asks.now.filter answers.asked) }
     ensures stops { (tree : Ast) → IsAccepted text.now tree → IfErr result (StopsFor (IsUnaskedOf tree (contents made) asks.now)) }
@@ -215,22 +228,25 @@ fn asked_by(alloc: Global, text: &[u8], made: Module, asks: &Question) -> Result
         Ok(asked) => asked,
         Err(ending) => return Err(ending),
     };
-    match Reader::new(alloc, made) {
+    match Reader::bounded(alloc, made, scan) {
         Ok(reader) => Ok(Answers { reader, asked }),
         Err(ending) => Err(ending),
     }
 }
 
-/// What a question asks by the description in a file under a mask, or how the run ends without it.
+/// What a question asks by the description in a file under a mask, and what reads for it with this bound on searches, or how
+/// the run ends without it.
 pub(crate) fn asked_in<F: Files>(
     alloc: Global,
     files: &mut F,
     asks: &Question,
     coding: Coding,
     mask: &Mask,
+    scan: u32,
 ) -> Result<Answers, Ending>
-    ensures asked { IfOk result (λ answers. IsAskedIn (F.content files.old asks.now.description) coding mask.now asks.now answers.asked (contents answers.reader.module)) }
-    ensures small { IfOk result (λ answers. HasImage (contents answers.reader.module)) }
+    requires scan { scan ≤ greatest_scan }
+    ensures asked { IfOk result (λ answers. IsBounded scan (λ whole. IsAskedIn (F.content files.old asks.now.description) coding mask.now asks.now answers.asked whole × HasImage whole)
+        (contents answers.reader.module)) }
     ensures stops { IfErr result (StopsBefore (IsUnaskedFor (F.content files.old asks.now.description) coding mask.now asks.now) (F.faults files.old) (F.faults files.new)) }
     ensures kept { OnOk result (F.faults files.new ≡ F.faults files.old) }
     ensures untold { IfErr result (λ stop. stop ≢ ending.FileFault → F.faults files.new ≡ F.faults files.old) }
@@ -244,7 +260,7 @@ pub(crate) fn asked_in<F: Files>(
         Err(ending) => return Err(ending),
     };
     match masked(alloc, whole, mask) {
-        Ok(made) => asked_by(alloc, text.as_slice(), made, asks),
+        Ok(made) => asked_by(alloc, text.as_slice(), made, asks, scan),
         Err(ending) => Err(ending),
     }
 }

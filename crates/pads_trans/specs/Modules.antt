@@ -1,7 +1,8 @@
--- The translation of a description: its module.
+-- The translation of a description: its module, in which a search goes as far as any may.
 use Rattle.std.specs.Prelude.{Bool, ◌&&◌, nat_lt, List, [], length, map}
 use Rattle.pads_module.specs.Modules.{Contents, made_of, is_formed}
 use Rattle.pads_calc.specs.declared.decl.Shape.{Shape}
+use Rattle.pads_calc.specs.Rows.{farthest}
 use Rattle.pads_code.specs.declared.Coding.{Coding}
 use Rattle.pads_resolution.specs.declared.decl.Description.{Description}
 use Rattle.pads_resolution.specs.declared.decl.Source.{Source}
@@ -14,12 +15,12 @@ shape_of source = record { head = source.header; each = source.record }
 
 abbrev pub module_by : List Name → Description → Coding → Contents
 module_by names description ambient =
-    made_of (map (decl_of names ambient) description.decls) names (shape_of description.source)
+    made_of (map (decl_of names ambient) description.decls) names (shape_of description.source) farthest
 
 -- The same with the names that a table of them holds.
 abbrev pub module_by_table : List Name → Description → Coding → Contents
 module_by_table names description ambient =
-    made_of (map (decl_of names ambient) description.decls) (with_names [] names) (shape_of description.source)
+    made_of (map (decl_of names ambient) description.decls) (with_names [] names) (shape_of description.source) farthest
 
 -- The module of a description in a coding.
 abbrev pub module_of : Description → Coding → Contents

@@ -38,7 +38,8 @@ fn module_by(
 }
 
 /// The module of a description whose data is in this coding: its declarations' terms, and its names by
-/// number in the order in which they are first met. Every value is kept (`set`).
+/// number in the order in which they are first met. Every value is kept (`set`), and a search passes over
+/// 16,777,216 bytes at most.
 ///
 /// `IllFormed` comes only where that is no module: a name, a declaration or a variable isn't there, a
 /// call has another number of arguments than its declaration, or 16 bits don't count the names,

@@ -11,7 +11,7 @@ use Rattle.pads_calc.specs.Readings.{Subject, Reader, fails, is_ok, blame}
 use Rattle.pads_steps.specs.Records.{subject_of}
 use Rattle.pads_steps.specs.Searches.{IsFirst, StandsNowhere}
 use Rattle.pads_steps.proofs.Searches.{absorbs, bad-elsewhere, blamed, ok-there}
-use Rattle.pads_calc.specs.Wrappers.{absorb_of, found_at, scan, scan_from}
+use Rattle.pads_calc.specs.Wrappers.{absorb_of, found_at, last_place, scan, scan_from}
 use Rattle.pads_calc.proofs.Rolls.{read-Lit, read-Absorb}
 use Rattle.pads_calc.proofs.Scans.{scan-found, scan-next, scan-over}
 use Rattle.pads_walk.specs.Literals.{IsLiteral, literal_reader}
@@ -41,19 +41,22 @@ module _ (subject : Subject) (literal : List ℕ) (i : ℕ) (within : i ≤ leng
   abbrev reads_at : Reader
   reads_at env j = lit_of subject literal j
 
-  places : scan_from subject.origin (length subject.bytes + 1 - i) reads_at env i i ≡ scan subject reads_at env i
-  places = let same : length subject.bytes + 1 - i ≡ suc (length subject.bytes - i) = omega arith in rw same refl
+  abbrev last : ℕ
+  last = last_place subject i
 
-  pub scan-literal : (at : ℕ) → IsFirst subject.bytes literal i at → found_at subject.origin i at (lit_of subject literal at) ≡ scan subject reads_at env i
+  places : scan_from subject.origin (last + 1 - i) reads_at env i i ≡ scan subject reads_at env i
+  places = let same : last + 1 - i ≡ suc (last - i) = omega arith in rw same refl
+
+  pub scan-literal : (at : ℕ) → IsFirst subject.bytes literal i last at → found_at subject.origin i at (lit_of subject literal at) ≡ scan subject reads_at env i
   scan-literal at first =
-      sym (scan-first subject.origin reads_at env i (length subject.bytes + 1) at (omega (arith, first.high)) (ok-there subject literal at first.here) (at - i) i (omega (arith, first.low))
+      sym (scan-first subject.origin reads_at env i (last + 1) at (omega (arith, first.high)) (ok-there subject literal at first.here) (at - i) i (omega (arith, first.low))
       (λ j from to. bad-elsewhere subject literal j (first.before j from to)))
       ∙ places
 
-  pub scan-none : StandsNowhere subject.bytes literal i (length subject.bytes + 1) → fails subject.origin cause.MissingLiteral i ≡ scan subject reads_at env i
+  pub scan-none : StandsNowhere subject.bytes literal i (last + 1) → fails subject.origin cause.MissingLiteral i ≡ scan subject reads_at env i
   scan-none none =
       ap (λ c. fails subject.origin c i) (sym (blamed subject literal i (none i (omega arith) (omega (arith, within)))))
-      ∙ sym (scan-nowhere subject.origin reads_at env i (length subject.bytes + 1) (length subject.bytes + 1 - i) i (omega (arith, within)) (λ j from to. bad-elsewhere subject literal j (none j from to)))
+      ∙ sym (scan-nowhere subject.origin reads_at env i (last + 1) (last + 1 - i) i (omega (arith, within)) (λ j from to. bad-elsewhere subject literal j (none j from to)))
       ∙ places
 
 -- what a term reads as that is a literal, its value kept or not

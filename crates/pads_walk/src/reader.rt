@@ -344,7 +344,7 @@ impl Reader<'_> {
         self.read(&decl.body, &mut inner, place, depth - 1)
     }
 
-    /// A term at the first place from here to the record's end at which it reads without a fault.
+    /// A term at the first place from here on at which it reads without a fault, as far as a search goes.
     #[cycle(reader)]
     #[inline(never)]
     fn read_scan(
@@ -381,8 +381,8 @@ impl Reader<'_> {
             return Ok(first);
         }
         let blame = first.blame();
-        let end = self.record.bytes.len() as u64;
-        for at in place + 1..end + 1 {
+        let last = self.record.last_place(place);
+        for at in place + 1..last + 1 {
             let reading = self.read(inner, env, at, depth)?;
             if reading.is_ok() {
                 return Ok(reading.found(self.record.origin, place, at));

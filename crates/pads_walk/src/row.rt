@@ -17,7 +17,7 @@ fn read_body<'x>(
     record_no: u64,
     frame: &'x Frame<'x>,
 ) -> Result<Reading, Memory>
-    ensures body { IfOk result (λ r. r ≡ body_reading rules.now.decls (type_of rules.now.shape record_no) (cut_of_frame frame.now)) }
+    ensures body { IfOk result (λ r. r ≡ body_reading rules.now.decls rules.now.scan (type_of rules.now.shape record_no) (cut_of_frame frame.now)) }
     ensures within { IfOk result (λ r. r.place ≤ length frame.now.bytes.now) }
 {
     let reader = Reader {
@@ -26,6 +26,7 @@ fn read_body<'x>(
         record: Record {
             origin: frame.first,
             bytes: frame.bytes,
+            scan: rules.scan,
         },
     };
     let number = rules.shape.type_of(record_no);
@@ -37,7 +38,7 @@ fn read_body<'x>(
 /// A frame without its bytes isn't read, and its row has the cause of its mark. The values of declarations
 /// that keep none of their own are missing in it; where each keeps them, nothing is looked at for that.
 pub fn walk(alloc: Global, rules: &Module, record_no: u64, frame: &Frame) -> Result<Row, Memory>
-    ensures row { IfOk result (λ row. row ≡ row_of rules.now.decls rules.now.shape record_no (cut_of_frame frame.now)) }
+    ensures row { IfOk result (λ row. row ≡ row_of rules.now.decls rules.now.shape rules.now.scan record_no (cut_of_frame frame.now)) }
 {
     if let Some(row) = row_without(alloc, record_no, frame) {
         return Ok(row);

@@ -30,8 +30,8 @@ fn plain(term: &Term) -> Option<&[u8]>
     }
 }
 
-/// A literal at the first place from here to the record's end where its bytes stand. Mostly that is here,
-/// which is looked at before a search is set up.
+/// A literal at the first place from here on where its bytes stand, as far as a search goes. Mostly that is
+/// here, which is looked at before a search is set up.
 pub(crate) fn find_from(alloc: Global, from: &Record, literal: &[u8], place: u64) -> Reading
     requires within { place ≤ length from.now.bytes.now }
     ensures found { IsFound from.now literal.now place result }
@@ -52,7 +52,7 @@ fn find(alloc: Global, from: &Record, literal: &[u8], place: u64) -> Reading
     ensures found { IsFound from.now literal.now place result }
     ensures within { EndsWithin from.now.bytes.now place result }
 {
-    match from.first_place(literal, place) {
+    match from.first_place(literal, place, from.last_place(place)) {
         Some(at) => from
             .literal(alloc, literal, at)
             .found(from.origin, place, at),

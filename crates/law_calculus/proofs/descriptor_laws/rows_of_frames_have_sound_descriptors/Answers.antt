@@ -14,7 +14,7 @@ within_extent mark.Broken first end size ordered is = omega arith
 
 pub returns : goal.returns
 returns c = record {
-  counts = λ decls shape number. sound-row_counts decls shape number _;
-  spans = λ decls shape number. sound-row_spans decls shape number _
+  counts = λ decls shape scan number. sound-row_counts decls shape scan number _;
+  spans = λ decls shape scan number. sound-row_spans decls shape scan number _
       (within_extent c.args.frame.now.mark c.args.frame.now.first c.args.frame.now.end (length c.args.frame.now.bytes.now) (omega arith) (omega arith));
 }

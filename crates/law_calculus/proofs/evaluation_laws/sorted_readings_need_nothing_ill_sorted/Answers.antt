@@ -4,5 +4,5 @@ use Rattle.law_calculus.proofs.evaluation_laws.sorted_readings_need_nothing_ill_
 pub returns : goal.returns
 returns c = record {
   term = λ subject decls sorts scope now worths agrees are is_sorted has. sorted-term worths agrees subject decls sorts scope now are is_sorted has;
-  record_reading = λ decls number cut worths agrees sorted. sorted-record worths agrees decls number cut sorted;
+  record_reading = λ decls scan number cut worths agrees sorted. sorted-record worths agrees decls scan number cut sorted;
 }

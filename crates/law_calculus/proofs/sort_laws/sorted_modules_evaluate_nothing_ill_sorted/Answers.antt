@@ -12,5 +12,5 @@ returns c = record {
       evaluated-never_ill sorts decls are subject scope now e env is_sorted has evaluated;
   record_type = λ subject decls number e env sorted evaluated.
       row-never_ill sorted.0 decls sorted.1 subject deepest number 0 e env evaluated;
-  record_reading = λ decls number cut. sym (read-Call (subject_of_cut cut) (caller (subject_of_cut cut) decls deepest) number [] [] 0);
+  record_reading = λ decls scan number cut. sym (read-Call (subject_of_cut scan cut) (caller (subject_of_cut scan cut) decls deepest) number [] [] 0);
 }

@@ -6,12 +6,12 @@ use Rattle.law_canonical.proofs.laws.clean_records_have_canonical_bytes.Goals as
 
 pub returns : goal.returns
 returns c = record {
-  there = λ decls shape number cut plain keeps bounded ok. ap is_some (row-has decls shape number cut plain keeps bounded ok).is;
-  short = λ decls shape number cut bytes plain keeps bounded ok is. (
-      let found = row-has decls shape number cut plain keeps bounded ok in
+  there = λ decls shape scan number cut plain keeps bounded ok. ap is_some (row-has decls shape scan number cut plain keeps bounded ok).is;
+  short = λ decls shape scan number cut bytes plain keeps bounded ok is. (
+      let found = row-has decls shape scan number cut plain keeps bounded ok in
       let same : found.bytes ≡ bytes = cc in subst (λ bytes. length bytes ≤ length cut.bytes) same found.short);
-  fits = λ decls shape number cut bytes plain keeps bounded ok is. (
-      let found = row-has decls shape number cut plain keeps bounded ok in
+  fits = λ decls shape scan number cut bytes plain keeps bounded ok is. (
+      let found = row-has decls shape scan number cut plain keeps bounded ok in
       let same : found.bytes ≡ bytes = cc in
-      subst (FitsType decls (type_of shape number) (row_of decls shape number cut).value) same found.fits);
+      subst (FitsType decls (type_of shape number) (row_of decls shape scan number cut).value) same found.fits);
 }

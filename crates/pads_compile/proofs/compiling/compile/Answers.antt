@@ -12,6 +12,7 @@ new-requires c =
     record {
       valid = valid rules.decls rules.names rules.shape c.in_ok-ops.field-0.ops c.in_ok-ops.field-0.entries rules.counted rules.in_scope less
           (c.in_ok-ops.ensures.code.code_is ∙ ap code_of slice) (c.in_ok-ops.ensures.code.entries_are ∙ ap entries_of slice);
+      scan = rules.bounded;
     }
 
 pub returns-clause-stands : goal.returns-clause-stands

@@ -17,7 +17,7 @@ use Rattle.pads_machine.proofs.machine.read_body.Goals as goal
 pub run-requires : goal.run-requires
 run-requires g c =
     let image = c.args.image.now in
-    let subject = subject_of_cut (cut_of_frame c.args.frame.now) in
+    let subject = subject_of_cut image.scan (cut_of_frame c.args.frame.now) in
     let number = type_of image.shape c.args.record_no in
     let state = c.start.new.self in
     let starts : shown state ≡ start image.entries subject number =
@@ -48,7 +48,7 @@ run-requires g c =
 pub returns-clause-body : goal.returns-clause-body
 returns-clause-body g c r h =
     let image = c.args.image.now in
-    let subject = subject_of_cut (cut_of_frame c.args.frame.now) in
+    let subject = subject_of_cut image.scan (cut_of_frame c.args.frame.now) in
     let number = type_of image.shape c.args.record_no in
     let state = c.start.new.self in
     let starts : shown state ≡ start image.entries subject number =

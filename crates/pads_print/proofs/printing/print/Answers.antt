@@ -20,7 +20,7 @@ returns-in_default-2-clause-printed c =
 pub returns-then-branch-clause-printed : goal.returns-then-branch-clause-printed
 returns-then-branch-clause-printed c =
     let m = contents c.args.rules.now in
-    let reads : Reads c.args.image.now m = record { stands = c.requires.stands; shape = c.requires.shape } in
+    let reads : Reads c.args.image.now m = record { stands = c.requires.stands; shape = c.requires.shape; scan = c.requires.scan } in
     let there : canonical m c.args.record_no c.args.value.now ≡ Some c.in-Some.bytes = sym c.in_ok-bytes.ensures.canonical ∙ c.in-Some.is in
     let input : framed c.args.discipline c.in-Some.bytes ≡ Some c.in-Some-2.input = rw c.as_slice.ensures.items at (sym c.in_ok-input.ensures.framed ∙ c.in-Some-2.is) in
     let holds : holds_of (is_back m c.args.record_no c.in-Some.bytes c.args.value.now) (only (records c.args.discipline c.args.max c.in-Some-2.input)) ≡ true =
@@ -30,7 +30,7 @@ returns-then-branch-clause-printed c =
 pub returns-clause-printed : goal.returns-clause-printed
 returns-clause-printed c =
     let m = contents c.args.rules.now in
-    let reads : Reads c.args.image.now m = record { stands = c.requires.stands; shape = c.requires.shape } in
+    let reads : Reads c.args.image.now m = record { stands = c.requires.stands; shape = c.requires.shape; scan = c.requires.scan } in
     let there : canonical m c.args.record_no c.args.value.now ≡ Some c.in-Some.bytes = sym c.in_ok-bytes.ensures.canonical ∙ c.in-Some.is in
     let input : framed c.args.discipline c.in-Some.bytes ≡ Some c.in-Some-2.input = rw c.as_slice.ensures.items at (sym c.in_ok-input.ensures.framed ∙ c.in-Some-2.is) in
     let fails : holds_of (is_back m c.args.record_no c.in-Some.bytes c.args.value.now) (only (records c.args.discipline c.args.max c.in-Some-2.input)) ≡ false =

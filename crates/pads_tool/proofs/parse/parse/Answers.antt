@@ -11,7 +11,7 @@ use Rattle.pads_tool.proofs.parse.parse.Goals as goal
 pub returns-in-Ok : goal.returns-in-Ok
 returns-in-Ok g c = record {
   gives = λ noted notes. reading-read (λ d. lines d.made) (g.S.Source.left c.args.source.now) (g.S.Source.left c.write_lines.new.source)
-      (g.K.Sink.written c.args.out.now) (g.K.Sink.written c.write_lines.new.out) noted noted (masking c.args.settings.now.coding c.args.mask.now) false c.args.name.now c.args.settings.now.cutting (g.F.Files.content c.args.files.now)
+      (g.K.Sink.written c.args.out.now) (g.K.Sink.written c.write_lines.new.out) noted noted (masking c.args.settings.now.coding c.args.mask.now c.args.settings.now.scan) false c.args.name.now c.args.settings.now.cutting (g.F.Files.content c.args.files.now)
       (g.F.Files.faults c.args.files.now) (g.F.Files.faults c.read_under.new.files) (g.S.Source.faults c.args.source.now)
       (g.S.Source.faults c.write_lines.new.source) (g.K.Sink.faults c.args.out.now) (g.K.Sink.faults c.write_lines.new.out) notes notes
       (contents c.in-Ok.reader.module) c.write_lines.result c.in-Ok.ensures.read (c.write_lines.ensures.gives noted notes);
@@ -28,10 +28,10 @@ returns-in-Ok g c = record {
 
 pub returns-in-Err : goal.returns-in-Err
 returns-in-Err g c = record {
-  gives = λ noted notes. reading-stopped (masking c.args.settings.now.coding c.args.mask.now) (λ d. lines d.made) false c.args.name.now c.args.settings.now.cutting (g.F.Files.content c.args.files.now)
+  gives = λ noted notes. reading-stopped (masking c.args.settings.now.coding c.args.mask.now c.args.settings.now.scan) (λ d. lines d.made) false c.args.name.now c.args.settings.now.cutting (g.F.Files.content c.args.files.now)
       (g.S.Source.left c.args.source.now) (g.K.Sink.written c.args.out.now) noted
       (counts (g.F.Files.faults c.args.files.now) (g.F.Files.faults c.read_under.new.files) (g.S.Source.faults c.args.source.now) (g.S.Source.faults c.args.source.now)
-      (g.K.Sink.faults c.args.out.now) (g.K.Sink.faults c.args.out.now) notes notes) c.in-Err.ending (masking-excludes c.args.settings.now.coding c.args.mask.now) c.in-Err.ensures.stops;
+      (g.K.Sink.faults c.args.out.now) (g.K.Sink.faults c.args.out.now) notes notes) c.in-Err.ending (masking-excludes c.args.settings.now.coding c.args.mask.now c.args.settings.now.scan) c.in-Err.ensures.stops;
   untouched = λ before. refl;
   files_kept = c.in-Err.ensures.untold;
   out_kept = λ other. refl;

@@ -16,10 +16,10 @@ returns-in-Ok g c = record {
       (counts (g.F.Files.faults c.args.files.now) (g.F.Files.faults c.read_in.new.files) (g.S.Source.faults c.args.source.now) (g.S.Source.faults c.print_records.new.source)
       (g.K.Sink.faults c.args.out.now) (g.K.Sink.faults c.print_records.new.out) (g.E.Sink.faults c.args.notes.now) (g.E.Sink.faults c.print_records.new.notes))
       c.print_records.result
-      (contents c.in-Ok.reader.module, c.in-Ok.ensures.read.0, each-kept c.args.settings.now (contents c.in-Ok.reader.module) c.in-Ok.ensures.plain c.in-Ok.ensures.keeps_all c.requires.limits.cutting (g.S.Source.left c.args.source.now))
+      (contents c.in-Ok.reader.module, (c.in-Ok.ensures.read.0, c.in-Ok.ensures.read.1.0, c.in-Ok.ensures.read.2), each-kept c.args.settings.now (contents c.in-Ok.reader.module) c.in-Ok.ensures.plain c.in-Ok.ensures.keeps_all c.requires.limits.cutting (g.S.Source.left c.args.source.now))
       (reading-read prints (g.S.Source.left c.args.source.now) (g.S.Source.left c.print_records.new.source)
       (g.K.Sink.written c.args.out.now) (g.K.Sink.written c.print_records.new.out) (g.E.Sink.written c.args.notes.now) (g.E.Sink.written c.print_records.new.notes)
-      (describing c.args.settings.now.coding) true c.args.name.now c.args.settings.now.cutting (g.F.Files.content c.args.files.now)
+      (describing c.args.settings.now.coding c.args.settings.now.scan) true c.args.name.now c.args.settings.now.cutting (g.F.Files.content c.args.files.now)
       (g.F.Files.faults c.args.files.now) (g.F.Files.faults c.read_in.new.files) (g.S.Source.faults c.args.source.now) (g.S.Source.faults c.print_records.new.source)
       (g.K.Sink.faults c.args.out.now) (g.K.Sink.faults c.print_records.new.out) (g.E.Sink.faults c.args.notes.now) (g.E.Sink.faults c.print_records.new.notes)
       (contents c.in-Ok.reader.module) c.print_records.result c.in-Ok.ensures.read c.print_records.ensures.gives);

@@ -20,10 +20,10 @@ returns-in-Ok g c =
           asked c.write_answers.result
           (reading-read (λ d. answers d.made asked) (g.S.Source.left c.args.source.now) (g.S.Source.left c.write_answers.new.source)
           (g.K.Sink.written c.args.out.now) (g.K.Sink.written c.write_answers.new.out) noted noted
-          (asking c.args.settings.now.coding c.args.mask.now c.args.question.now asked) false c.args.question.now.description c.args.settings.now.cutting (g.F.Files.content c.args.files.now)
+          (asking c.args.settings.now.coding c.args.mask.now c.args.settings.now.scan c.args.question.now asked) false c.args.question.now.description c.args.settings.now.cutting (g.F.Files.content c.args.files.now)
           (g.F.Files.faults c.args.files.now) (g.F.Files.faults c.asked_in.new.files) (g.S.Source.faults c.args.source.now)
           (g.S.Source.faults c.write_answers.new.source) (g.K.Sink.faults c.args.out.now) (g.K.Sink.faults c.write_answers.new.out) notes notes
-          (contents c.in-Ok.answers.reader.module) c.write_answers.result (c.in-Ok.ensures.asked, c.in-Ok.ensures.small) (c.write_answers.ensures.gives noted notes));
+          (contents c.in-Ok.answers.reader.module) c.write_answers.result c.in-Ok.ensures.asked (c.write_answers.ensures.gives noted notes));
       untouched = λ before. absurd (reading-reaches (λ d. answers d.made asked) false (described (contents c.in-Ok.answers.reader.module) c.args.settings.now.cutting)
           (g.S.Source.left c.args.source.now) (g.S.Source.left c.write_answers.new.source)
           (g.K.Sink.written c.args.out.now) (g.K.Sink.written c.write_answers.new.out) None None

@@ -2,8 +2,9 @@ use Rattle.std.proofs.Common.{◌≡◌}
 use Rattle.law_calculus.specs.Plain.{Plain}
 use Rattle.pads_calc.specs.Skeletons.{KeepsAll}
 use Rattle.pads_module.specs.Modules.{contents}
-use Rattle.pads_tool.proofs.Described.{by-reader, image-stops-before, read-gives, undescribed-stop}
+use Rattle.pads_tool.proofs.Described.{bounded-gives, by-reader, image-stops-before, undescribed-stop}
 use Rattle.pads_tool.proofs.Stops.{stays-err, stays-ok}
+use Rattle.pads_tool.specs.Masking.{bounded}
 use Rattle.pads_tool.specs.declared.reader.Reader.{Reader}
 use Rattle.pads_tool.proofs.text.read_in.Goals as goal
 
@@ -14,12 +15,12 @@ returns-in-Ok g c =
     let here = c.in-Ok.ensures.described in
     let before = g.F.Files.faults c.args.files.now in
     let now = g.F.Files.faults c.described_in.new.files in
-    let r = c.new.result in
+    let r = c.bounded.result in
     record {
-      read = read-gives content c.args.coding m here r c.new.ensures.made c.new.ensures.small;
-      plain = by-reader (λ made. Plain made.decls) m c.in-Ok.ensures.plain r c.new.ensures.made;
-      keeps_all = by-reader (λ made. KeepsAll made.decls) m c.in-Ok.ensures.keeps_all r c.new.ensures.made;
-      stops = image-stops-before content c.args.coding m here before now r c.new.ensures.stops;
+      read = bounded-gives content c.args.coding m here c.args.scan r c.bounded.ensures.made c.bounded.ensures.small;
+      plain = by-reader (λ made. Plain made.decls) (bounded c.args.scan m) c.in-Ok.ensures.plain r c.bounded.ensures.made;
+      keeps_all = by-reader (λ made. KeepsAll made.decls) (bounded c.args.scan m) c.in-Ok.ensures.keeps_all r c.bounded.ensures.made;
+      stops = image-stops-before content c.args.coding m here before now r c.bounded.ensures.stops;
       kept = stays-ok Reader (now ≡ before) r c.in-Ok.ensures.kept;
       untold = stays-err Reader (now ≡ before) r c.in-Ok.ensures.kept;
     }

@@ -12,10 +12,10 @@ returns-in-Ok g c =
     let here = c.in-Ok.ensures.masked in
     let before = g.F.Files.faults c.args.files.now in
     let now = g.F.Files.faults c.masked_in.new.files in
-    let r = c.new.result in
+    let r = c.bounded.result in
     record {
-      read = read-gives content c.args.coding c.args.mask.now m here r c.new.ensures.made c.new.ensures.small;
-      stops = unread-stops content c.args.coding c.args.mask.now m here before now r c.new.ensures.stops;
+      read = read-gives content c.args.coding c.args.mask.now m here c.args.scan r c.bounded.ensures.made c.bounded.ensures.small;
+      stops = unread-stops content c.args.coding c.args.mask.now m here before now r c.bounded.ensures.stops;
       kept = stays-ok Reader (now ≡ before) r c.in-Ok.ensures.kept;
       untold = stays-err Reader (now ≡ before) r c.in-Ok.ensures.kept;
     }

@@ -28,7 +28,7 @@ returns-clause-row c =
     let body = c.in_ok-body.body in
     let left = c.in_ok-left.left in
     IfOk-weaker c.row_over.result (λ (row : Row). row ≡ row_by cut.mark number cut left)
-    (λ (row : Row). (decls : List Decl) → StandsFor image.code image.entries image.shape image.need decls → row ≡ row_of decls image.shape number cut)
+    (λ (row : Row). (decls : List Decl) → StandsFor image.code image.entries image.shape image.need decls → row ≡ row_of decls image.shape image.scan number cut)
     (λ row is_row. row-so image number cut body left row
     (λ r h. c.in_ok-body.ensures.body r h)
     (c.in_ok-left.ensures.kept ∙ ap (λ n. kept_by (kept_in image.entries) n body) c.type_of-number.ensures.number) is_row)
@@ -41,7 +41,7 @@ returns-clause-answer c =
     let number = c.args.record_no in
     let body = c.in_ok-body.body in
     let left = c.in_ok-left.left in
-    IfOk-weaker c.row_over.result (λ (row : Row). row ≡ row_by cut.mark number cut left) (λ (row : Row). Answers image.code image.entries image.shape image.need number cut row)
+    IfOk-weaker c.row_over.result (λ (row : Row). row ≡ row_by cut.mark number cut left) (λ (row : Row). Answers image.code image.entries image.shape image.scan image.need number cut row)
     (λ row is_row. answers-so image number cut body left row
     (λ r h. c.in_ok-body.ensures.body r h)
     (c.in_ok-left.ensures.kept ∙ ap (λ n. kept_by (kept_in image.entries) n body) c.type_of-number.ensures.number) is_row)

@@ -17,7 +17,7 @@ use Rattle.pads_module.specs.Counts.{counts_fit}
 use Rattle.pads_calc.specs.Readings.{Reader, is_ok}
 use Rattle.pads_steps.specs.Records.{subject_of}
 use Rattle.pads_calc.specs.Structs.{bind, in_turn}
-use Rattle.pads_calc.specs.Wrappers.{scan}
+use Rattle.pads_calc.specs.Wrappers.{scan, scan_from}
 use Rattle.pads_module.proofs.CountRolls.{counts-Base, counts-Guard, counts-Absorb, counts-Scan, fit-parts, few-arms, fit-arms, few-cases, fit-cases, fit-elem, fit-sep, fit-stop, fit-body, all-there}
 use Rattle.pads_calc.proofs.Calls.{call-deep, call-unargued, call-undeclared, call-found}
 use Rattle.pads_calc.proofs.Scans.{scan-here, scan-on, scan-found, scan-next, scan-over}
@@ -105,7 +105,8 @@ search-loop-at-init t c =
     let bad : is_ok (f c.args.env.now.pairs c.args.place) ≡ false = ap is_ok (sym c.in_ok-first.ensures.value) ∙ sym c.is_ok.ensures.ok ∙ c.if-is_ok.false in
     record {
       env = c.in_ok-first.ensures.env;
-      rest = scan-on (subject_of c.args.self.now.record) f c.args.env.now.pairs c.args.place c.requires.within bad;
+      rest = scan-on (subject_of c.args.self.now.record) f c.args.env.now.pairs c.args.place c.requires.within bad
+          ∙ ap (λ last. scan_from c.args.self.now.record.origin (last + 1 - (c.args.place + 1)) f c.args.env.now.pairs c.args.place (c.args.place + 1)) (sym c.last_place-last.ensures.last);
     }
 
 pub search-returns-then-is_ok-2-clause-value : goal.search-returns-then-is_ok-2-clause-value
@@ -114,7 +115,7 @@ search-returns-then-is_ok-2-clause-value t c =
     let here : c.in_ok-reading.reading ≡ f c.args.env.now.pairs c.loop-at.at = rw (← c.loop-at.invariant.env) c.in_ok-reading.ensures.value in
     let ok : is_ok (f c.args.env.now.pairs c.loop-at.at) ≡ true = ap is_ok (sym here) ∙ sym c.is_ok-in-loop-at.ensures.ok ∙ c.if-is_ok-2.true in
     rw here at c.found.ensures.found
-    ∙ sym (scan-found c.args.self.now.record.origin f c.args.env.now.pairs c.args.place (length c.args.self.now.record.bytes.now + 1) c.loop-at.at c.loop-at-test.true ok)
+    ∙ sym (scan-found c.args.self.now.record.origin f c.args.env.now.pairs c.args.place (c.last_place-last.result + 1) c.loop-at.at c.loop-at-test.true ok)
     ∙ sym c.loop-at.invariant.rest
 
 pub search-loop-at-preserved : goal.search-loop-at-preserved
@@ -125,14 +126,14 @@ search-loop-at-preserved t c =
     record {
       env = c.in_ok-reading.ensures.env ∙ c.loop-at.invariant.env;
       rest = c.loop-at.invariant.rest
-          ∙ scan-next c.args.self.now.record.origin f c.args.env.now.pairs c.args.place (length c.args.self.now.record.bytes.now + 1) c.loop-at.at c.loop-at-test.true bad;
+          ∙ scan-next c.args.self.now.record.origin f c.args.env.now.pairs c.args.place (c.last_place-last.result + 1) c.loop-at.at c.loop-at-test.true bad;
     }
 
 pub search-returns-clause-value : goal.search-returns-clause-value
 search-returns-clause-value t c =
     let f = reads c.args.self.now.record c.args.self.now.decls.now c.args.depth c.args.inner.now in
     rw (c.blame-blame.ensures.blame, c.in_ok-first.ensures.value) at c.fails.ensures.fails
-    ∙ sym (scan-over c.args.self.now.record.origin f c.args.env.now.pairs c.args.place (length c.args.self.now.record.bytes.now + 1) c.loop-at.at c.loop-at-test.false)
+    ∙ sym (scan-over c.args.self.now.record.origin f c.args.env.now.pairs c.args.place (c.last_place-last.result + 1) c.loop-at.at c.loop-at-test.false)
     ∙ sym c.loop-at.invariant.rest
 
 pub read_part-base-requires : goal.read_part-base-requires

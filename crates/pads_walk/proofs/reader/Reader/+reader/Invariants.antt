@@ -90,7 +90,7 @@ invariant-search-loop-at l =
     record {
       env : l.env.pairs ≡ l.fn.env.pairs;
       rest : scan (subject_of l.self.record) f l.fn.env.pairs l.place
-          ≡ scan_from l.self.record.origin (length l.self.record.bytes.now + 1 - l.at) f l.fn.env.pairs l.place l.at;
+          ≡ scan_from l.self.record.origin (l.last + 1 - l.at) f l.fn.env.pairs l.place l.at;
     }
 
 abbrev pub invariant-read_seq-elements : goal.invariant-read_seq-elements
