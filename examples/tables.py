@@ -19,7 +19,7 @@ KINDS = {f'{sign}int{bits}': (f'{"i" if not sign else "u"}{bits}',
                               0 if sign else -2 ** (bits - 1), 2 ** (bits - (not sign)) - 1)
          for sign in ('', 'u') for bits in (8, 16, 32, 64)}
 RANGES = {name: (low, high) for name, low, high in KINDS.values()}
-KEYWORDS = set('Pstruct Punion Parray Penum Popt Ptypedef Pswitch Pcase Pdefault Pwhere Precord Psource Psep '
+KEYWORDS = set('Pstruct Punion Parray Penum Popt Ptypedef Pswitch Pcase Pdefault Pwhere Precord Psource Precursive Psep '
                'Pterm Plast Peor Pforall Pin Pcompute Pfrom Pis Plen true false'.split())
 ESCAPES = {'n': '\n', 'r': '\r', 't': '\t', '0': '\0', '\\': '\\', "'": "'", '"': '"'}
 MISSING = ('-',)
@@ -96,7 +96,7 @@ class Parser:
     def description(self):
         decls = []
         while self.tokens[self.at][0] != 'end':
-            role = self.skips('Precord', 'Psource')
+            role = self.skips('Precord', 'Psource', 'Precursive')
             form = self.take('mark')
             decl = getattr(self, form[1:])()
             decls.append({'role': role, 'form': form, **decl})
@@ -323,7 +323,7 @@ class Translation:
         return (decl['form'], decl)
 
     def is_record_list(self, decl):
-        if decl['form'] != 'Parray' or decl['role'] == 'Precord' or decl['params'] or decl['size']:
+        if decl['form'] != 'Parray' or decl['role'] in ('Precord', 'Precursive') or decl['params'] or decl['size']:
             return False
         if decl['options'] or decl['where'] or decl['of'][0]:
             return False

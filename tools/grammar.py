@@ -4,7 +4,7 @@ import re
 import sys
 from pathlib import Path
 
-KEYWORDS = set("Pstruct Punion Parray Penum Popt Ptypedef Pswitch Pcase Pdefault Pwhere Precord Psource Psep Pterm "
+KEYWORDS = set("Pstruct Punion Parray Penum Popt Ptypedef Pswitch Pcase Pdefault Pwhere Precord Psource Precursive Psep Pterm "
                "Plast Peor Pforall Pin Pcompute Pfrom Pis Plen true false".split())
 KINDS = ("NAME", "NUMBER", "CHAR", "TEXT", "END")
 TOKEN = re.compile(r"""(?P<gap>[\t\n\r ]+|/\*.*?\*/|//[^\n]*|/-[^\n]*)|(?P<NAME>[A-Za-z_]\w*)

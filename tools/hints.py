@@ -8,7 +8,7 @@ import re
 
 CALLABLE = r"(?:P(?:[ae]_)?u?int(?:8|16|32|64)_FW|P(?:[ae]_)?string(?:_FW|_in)?|P(?:b|sbl|sbh)_u?int(?:8|16|32|64)|Pu?(?:packed|zoned))"
 WORD = r"[A-Za-z_]\w*"
-KEYWORD = (r"(?:Pstruct|Punion|Parray|Penum|Popt|Ptypedef|Pswitch|Pcase|Pdefault|Pwhere|Precord|Psource|Psep|Pterm|Plast"
+KEYWORD = (r"(?:Pstruct|Punion|Parray|Penum|Popt|Ptypedef|Pswitch|Pcase|Pdefault|Pwhere|Precord|Psource|Precursive|Psep|Pterm|Plast"
            r"|Peor|Pforall|Pin|Pcompute|Pfrom|Pis|Plen|true|false)\b")
 ONE = r"(?:'(?:[^'\\\n]|\\.[0-9a-fA-F]{0,2})'|\"(?:[^\"\\\n]|\\.)*\"|[\w.]+)"
 

@@ -1,6 +1,6 @@
 -- A module that is sorted and plain. Its second declaration has a number `x`, a comma, and a number above
 -- `x`, which is a call of the first with `x`; the first's parameter is `low`.
-use Rattle.std.proofs.Common.{subst, get_or, ◌&&◌, ◌≡◌, ◌∙◌, sym, ap, refl, ℕ, zero, suc, arith, true, List, [], ◌∷◌, Option, None, Some, slice_get}
+use Rattle.std.proofs.Common.{subst, get_or, ◌&&◌, ◌≡◌, ◌∙◌, sym, ap, refl, ℕ, zero, suc, true, List, [], ◌∷◌, Option, None, Some, slice_get}
 use Rattle.pads_code.specs.declared.Coding.TheVariants as coding
 use Rattle.pads_int.specs.declared.kind.Kind.TheVariants.{I8}
 use Rattle.pads_expr.specs.declared.expr.BinOp.TheVariants.{Lt}
@@ -128,21 +128,25 @@ bodies (suc (suc number)) decl there = cc
 pub pair-is_sorted : Sorted decls
 pair-is_sorted = (sorts, record { declared = rw (sort-above_low, sort-pair) refl; bodies = bodies })
 
-number-plain : (n : ℕ) → IsPlain n number
-number-plain n = plain-made n (Term-F.Base integer []) tt tt
+number-plain : IsPlain number
+number-plain = plain-made (Term-F.Base integer []) tt tt
 
-above-plain : (n : ℕ) → IsPlain n above_low
-above-plain n = plain-made n (Term-F.Guard number above is_above) tt (number-plain n, tt)
+above-plain : IsPlain above_low
+above-plain = plain-made (Term-F.Guard number above is_above) tt (number-plain, tt)
 
-mark-plain : (n : ℕ) → IsPlain n searched
-mark-plain n =
-    plain-made n (Term-F.Scan absorbed) tt
-    (plain-made n (Term-F.Absorb comma) (subst IsMark (sym (out-roll-Term (Term-F.Lit (44 ∷ [])))) tt) (plain-made n (Term-F.Lit (44 ∷ [])) tt tt, tt), tt)
+mark-plain : IsPlain searched
+mark-plain =
+    plain-made (Term-F.Scan absorbed) tt
+    (plain-made (Term-F.Absorb comma) (subst IsMark (sym (out-roll-Term (Term-F.Lit (44 ∷ [])))) tt) (plain-made (Term-F.Lit (44 ∷ [])) tt tt, tt), tt)
 
-pair-plain : IsPlain 1 pair
-pair-plain = plain-made 1 (Term-F.Struct parts) tt (number-plain 1, (mark-plain 1, (plain-made 1 (Term-F.Call 0 (variable named_x ∷ [])) (omega arith) tt, tt)))
+pair-plain : IsPlain pair
+pair-plain = plain-made (Term-F.Struct parts) tt (number-plain, (mark-plain, (plain-made (Term-F.Call 0 (variable named_x ∷ [])) tt tt, tt)))
 
 pub pair-is_plain : Plain decls
-pair-is_plain zero decl there = let same : above_low ≡ decl.body = cc in subst (IsPlain 0) same (above-plain 0)
-pair-is_plain (suc zero) decl there = let same : pair ≡ decl.body = cc in subst (IsPlain 1) same pair-plain
+pair-is_plain zero decl there = let same : above_low ≡ decl.body = cc in subst IsPlain same above-plain
+pair-is_plain (suc zero) decl there = let same : pair ≡ decl.body = cc in subst IsPlain same pair-plain
 pair-is_plain (suc (suc number)) decl there = cc
+
+-- a declaration that calls itself is plain too
+pub calls_itself : (number : ℕ) → IsPlain (roll-Term (Term-F.Call number []))
+calls_itself number = plain-made (Term-F.Call number []) tt tt

@@ -20,7 +20,7 @@ pub mod SortedForms
 pub mod Layers
 pub mod Made
 pub mod Operators
-pub mod PlainSorts
+pub mod ModuleSorts
 pub mod SortedReadings
 pub mod SortedRefused
 pub mod SortedRows

@@ -44,18 +44,17 @@ module _ (sorts : Sorts) (scope : SortScope) where
       → (n : ℕ) (inner : Standing) → slice_get (standing_in sorts.declared scope layer) n ≡ Some inner → Stands inner
   sorted-inside t layer is (sorted fit all) n inner there = all n inner (ap (λ layer. slice_get (standing_in sorts.declared scope layer) n) is ∙ there)
 
-module _ (number : ℕ) where
-  pub plain-as : (t : Term) (layer : Term-F Term Arm Case Part Seq) → out-Term t ≡ layer → IsPlainHere number layer → Each (IsPlain number) (terms_in layer) → IsPlain number t
-  plain-as t layer is here all =
-      plain (subst (IsPlainHere number) (sym is) here)
-      (λ n inner there. each-there (IsPlain number) (terms_in layer) all n inner (ap (λ layer. slice_get (terms_in layer) n) (sym is) ∙ there))
+pub plain-as : (t : Term) (layer : Term-F Term Arm Case Part Seq) → out-Term t ≡ layer → IsPlainHere layer → Each IsPlain (terms_in layer) → IsPlain t
+plain-as t layer is here all =
+    plain (subst IsPlainHere (sym is) here)
+    (λ n inner there. each-there IsPlain (terms_in layer) all n inner (ap (λ layer. slice_get (terms_in layer) n) (sym is) ∙ there))
 
-  pub plain-made : (layer : Term-F Term Arm Case Part Seq) → IsPlainHere number layer → Each (IsPlain number) (terms_in layer) → IsPlain number (roll-Term layer)
-  plain-made layer = plain-as (roll-Term layer) layer (out-roll-Term layer)
+pub plain-made : (layer : Term-F Term Arm Case Part Seq) → IsPlainHere layer → Each IsPlain (terms_in layer) → IsPlain (roll-Term layer)
+plain-made layer = plain-as (roll-Term layer) layer (out-roll-Term layer)
 
-  pub plain-here : (t : Term) (layer : Term-F Term Arm Case Part Seq) → out-Term t ≡ layer → IsPlain number t → IsPlainHere number layer
-  plain-here t layer is (plain here all) = subst (IsPlainHere number) is here
+pub plain-here : (t : Term) (layer : Term-F Term Arm Case Part Seq) → out-Term t ≡ layer → IsPlain t → IsPlainHere layer
+plain-here t layer is (plain here all) = subst IsPlainHere is here
 
-  pub plain-inside : (t : Term) (layer : Term-F Term Arm Case Part Seq) → out-Term t ≡ layer → IsPlain number t
-      → (n : ℕ) (inner : Term) → slice_get (terms_in layer) n ≡ Some inner → IsPlain number inner
-  plain-inside t layer is (plain here all) n inner there = all n inner (ap (λ layer. slice_get (terms_in layer) n) is ∙ there)
+pub plain-inside : (t : Term) (layer : Term-F Term Arm Case Part Seq) → out-Term t ≡ layer → IsPlain t
+    → (n : ℕ) (inner : Term) → slice_get (terms_in layer) n ≡ Some inner → IsPlain inner
+plain-inside t layer is (plain here all) n inner there = all n inner (ap (λ layer. slice_get (terms_in layer) n) is ∙ there)

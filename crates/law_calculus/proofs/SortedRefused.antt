@@ -1,5 +1,5 @@
 -- What isn't plain, what isn't sorted, and what is evaluated there.
-use Rattle.std.proofs.Common.{◌≡◌, ◌∙◌, sym, ap, refl, subst, arith, ℕ, ◌<◌, pos, true, false, ◌&&◌, List, [], ◌∷◌, Option, None, Some}
+use Rattle.std.proofs.Common.{◌≡◌, ◌∙◌, sym, ap, refl, subst, arith, ℕ, pos, true, false, ◌&&◌, List, [], ◌∷◌, Option, None, Some}
 use Rattle.pads_code.specs.declared.Coding.TheVariants as coding
 use Rattle.pads_bases.specs.declared.enums.Label.{Label}
 use Rattle.pads_value.specs.declared.value.Val.TheVariants as val
@@ -25,27 +25,23 @@ use Rattle.law_calculus.proofs.Values.{has-Enum}
 use Rattle.pads_calc.specs.Readings.{Subject}
 
 -- not plain: a number that is absorbed
-pub absorbs_number : (n : ℕ) → IsPlain n (roll-Term (Term-F.Absorb number)) → ⊥
-absorbs_number n h = subst IsMark (out-roll-Term _) (plain-here n _ (Term-F.Absorb number) (out-roll-Term _) h)
+pub absorbs_number : IsPlain (roll-Term (Term-F.Absorb number)) → ⊥
+absorbs_number h = subst IsMark (out-roll-Term _) (plain-here _ (Term-F.Absorb number) (out-roll-Term _) h)
 
 -- numbers with a comma between them that isn't absorbed, as many as are asked for
 abbrev listed : Option Expr → Seq
 listed size = record { elem = number; sep = Some comma; size = size; last = None; stop = None; elts = above }
 
-pub separates_by_literal : (n : ℕ) → IsPlain n (roll-Term (Term-F.Seq (listed None))) → ⊥
-separates_by_literal n h = subst IsAbsorb (out-roll-Term _) (plain-here n _ (Term-F.Seq (listed None)) (out-roll-Term _) h)
-
--- a declaration that calls itself, or a later one
-pub calls_itself : (n : ℕ) → IsPlain n (roll-Term (Term-F.Call n [])) → ⊥
-calls_itself n h = let below : n < n = plain-here n _ (Term-F.Call n []) (out-roll-Term _) h in omega (arith, below)
+pub separates_by_literal : IsPlain (roll-Term (Term-F.Seq (listed None))) → ⊥
+separates_by_literal h = subst IsAbsorb (out-roll-Term _) (plain-here _ (Term-F.Seq (listed None)) (out-roll-Term _) h)
 
 -- two labels with one spelling
 abbrev label : Label
 label = record { name = 97 ∷ []; spelling = 97 ∷ [] }
 
-pub same_spelling : (n : ℕ) → IsPlain n (roll-Term (Term-F.Base (base.Enum coding.Ascii (label ∷ label ∷ [])) [])) → ⊥
-same_spelling n h =
-    let same : 0 ≡ 1 = plain-here n _ (Term-F.Base (base.Enum coding.Ascii (label ∷ label ∷ [])) []) (out-roll-Term _) h 0 1 label label refl refl refl in
+pub same_spelling : IsPlain (roll-Term (Term-F.Base (base.Enum coding.Ascii (label ∷ label ∷ [])) [])) → ⊥
+same_spelling h =
+    let same : 0 ≡ 1 = plain-here _ (Term-F.Base (base.Enum coding.Ascii (label ∷ label ∷ [])) []) (out-roll-Term _) h 0 1 label label refl refl refl in
     omega (arith, same)
 
 -- not sorted, in any scope: expressions

@@ -1,6 +1,6 @@
--- Plain modules: nothing but a literal or the record's end is absorbed, each separator is absorbed, no two
--- labels of an enum have one spelling, and each call names an earlier declaration.
-use Rattle.std.specs.Prelude.{◌≡◌, ℕ, ◌<◌, List, Option, Some, None, slice_get, ⊤}
+-- Plain modules: nothing but a literal or the record's end is absorbed, each separator is absorbed, and no two
+-- labels of an enum have one spelling. Calls may name any declaration, their own too.
+use Rattle.std.specs.Prelude.{◌≡◌, ℕ, List, Option, Some, None, slice_get, ⊤}
 use Rattle.pads_bases.specs.Enums.{SpellingsDiffer}
 use Rattle.pads_dispatch.specs.declared.base.Base.{Base}
 use Rattle.pads_dispatch.specs.declared.base.Base.TheVariants as base
@@ -40,26 +40,26 @@ abbrev pub IsSeparator : Option Term → Type 0
 IsSeparator None = ⊤
 IsSeparator (Some t) = IsAbsorb (out-Term t)
 
--- a term itself, in the declaration of this number
-abbrev pub IsPlainHere : ℕ → Term-F Term Arm Case Part Seq → Type 0
-IsPlainHere number Term-F.Unit = ⊤
-IsPlainHere number (Term-F.Base base args) = HasPlainLabels base
-IsPlainHere number (Term-F.Lit literal) = ⊤
-IsPlainHere number Term-F.Eor = ⊤
-IsPlainHere number (Term-F.Struct parts) = ⊤
-IsPlainHere number (Term-F.Alt arms) = ⊤
-IsPlainHere number (Term-F.Switch e cases) = ⊤
-IsPlainHere number (Term-F.Guard inner binder condition) = ⊤
-IsPlainHere number (Term-F.Seq s) = IsSeparator s.sep
-IsPlainHere number (Term-F.Call earlier args) = earlier < number
-IsPlainHere number (Term-F.Compute e form) = ⊤
-IsPlainHere number (Term-F.Absorb inner) = IsMark (out-Term inner)
-IsPlainHere number (Term-F.Scan inner) = ⊤
+-- a term itself
+abbrev pub IsPlainHere : Term-F Term Arm Case Part Seq → Type 0
+IsPlainHere Term-F.Unit = ⊤
+IsPlainHere (Term-F.Base base args) = HasPlainLabels base
+IsPlainHere (Term-F.Lit literal) = ⊤
+IsPlainHere Term-F.Eor = ⊤
+IsPlainHere (Term-F.Struct parts) = ⊤
+IsPlainHere (Term-F.Alt arms) = ⊤
+IsPlainHere (Term-F.Switch e cases) = ⊤
+IsPlainHere (Term-F.Guard inner binder condition) = ⊤
+IsPlainHere (Term-F.Seq s) = IsSeparator s.sep
+IsPlainHere (Term-F.Call number args) = ⊤
+IsPlainHere (Term-F.Compute e form) = ⊤
+IsPlainHere (Term-F.Absorb inner) = IsMark (out-Term inner)
+IsPlainHere (Term-F.Scan inner) = ⊤
 
 -- and each term in it
-pub data IsPlain (number : ℕ) : Term → Type 0 where
-  plain : {t : Term} → IsPlainHere number (out-Term t) → ((n : ℕ) (inner : Term) → slice_get (terms_in (out-Term t)) n ≡ Some inner → IsPlain number inner)
-      → IsPlain number t
+pub data IsPlain : Term → Type 0 where
+  plain : {t : Term} → IsPlainHere (out-Term t) → ((n : ℕ) (inner : Term) → slice_get (terms_in (out-Term t)) n ≡ Some inner → IsPlain inner)
+      → IsPlain t
 
 abbrev pub Plain : List Decl → Type 0
-Plain decls = (number : ℕ) (decl : Decl) → slice_get decls number ≡ Some decl → IsPlain number decl.body
+Plain decls = (number : ℕ) (decl : Decl) → slice_get decls number ≡ Some decl → IsPlain decl.body

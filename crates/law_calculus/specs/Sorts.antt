@@ -1,7 +1,7 @@
 -- The sort of a term's value: what may be asked of the value in an expression. Constraints and searches
 -- leave it as it is, and a call has that of the declaration's body. What a struct, a union or an array
 -- holds is told by the terms in it, whose sorts are looked up where they are asked for.
-use Rattle.std.specs.Prelude.{◌≡◌, ℕ, Bool, true, false, List, map, length, slice_get, unwrap_or, ⊤}
+use Rattle.std.specs.Prelude.{◌≡◌, ℕ, zero, suc, Bool, true, false, List, map, length, Option, Some, None, slice_get, unwrap_or, ⊤}
 use Rattle.pads_dispatch.specs.declared.base.Base.{Base}
 use Rattle.pads_dispatch.specs.declared.base.Base.TheVariants as base
 use Rattle.pads_calc.specs.declared.decl.Decl.{Decl}
@@ -11,7 +11,7 @@ use Rattle.pads_calc.specs.declared.term.Part.{Part, Part-F}
 use Rattle.pads_calc.specs.declared.term.ComputedForm.{ComputedForm}
 use Rattle.pads_calc.specs.declared.term.ComputedForm.TheVariants as form
 use Rattle.pads_calc.specs.declared.term.Seq.{Seq, Seq-F}
-use Rattle.pads_calc.specs.declared.term.Term.{Term, Term-F, para-Term}
+use Rattle.pads_calc.specs.declared.term.Term.{Term, Term-F, fold-Term, para-Term}
 
 pub data Sort : Type 0 where
   Number : Sort
@@ -96,3 +96,49 @@ sort_of declared = para-Term Sort ⊤ ⊤ ⊤ ⊤ (sort_step declared) no_arm no
 -- these are the sorts of the declarations' values: each has that of its declaration's body
 abbrev pub AreSorts : List Sort → List Decl → Type 0
 AreSorts declared decls = declared ≡ map (λ decl. sort_of declared decl.body) decls
+
+-- the declaration whose sort a term has, if it isn't told by the term: the one that is called behind
+-- constraints and searches
+abbrev pub leads_step : Term-F (Option ℕ) ⊤ ⊤ ⊤ ⊤ → Option ℕ
+leads_step Term-F.Unit = None
+leads_step (Term-F.Base base args) = None
+leads_step (Term-F.Lit literal) = None
+leads_step Term-F.Eor = None
+leads_step (Term-F.Struct parts) = None
+leads_step (Term-F.Alt arms) = None
+leads_step (Term-F.Switch e cases) = None
+leads_step (Term-F.Guard inner binder condition) = inner
+leads_step (Term-F.Seq s) = None
+leads_step (Term-F.Call number args) = Some number
+leads_step (Term-F.Compute e form) = None
+leads_step (Term-F.Absorb inner) = None
+leads_step (Term-F.Scan inner) = inner
+
+abbrev pub of_arm : Arm-F (Option ℕ) ⊤ ⊤ ⊤ ⊤ → ⊤
+of_arm arm = tt
+
+abbrev pub of_case : Case-F (Option ℕ) ⊤ ⊤ ⊤ ⊤ → ⊤
+of_case case = tt
+
+abbrev pub of_part : Part-F (Option ℕ) ⊤ ⊤ ⊤ ⊤ → ⊤
+of_part part = tt
+
+abbrev pub of_seq : Seq-F (Option ℕ) ⊤ ⊤ ⊤ ⊤ → ⊤
+of_seq s = tt
+
+unfoldable pub leads_to : Term → Option ℕ
+leads_to = fold-Term (Option ℕ) ⊤ ⊤ ⊤ ⊤ leads_step of_arm of_case of_part of_seq
+
+module _ (decls : List Decl) where
+  abbrev pub ends_behind : (Term → Bool) → Option Decl → Bool
+  ends_behind within None = true
+  ends_behind within (Some decl) = within decl.body
+
+  abbrev pub ends_through : (Term → Bool) → Option ℕ → Bool
+  ends_through within None = true
+  ends_through within (Some number) = ends_behind within (slice_get decls number)
+
+  -- a term's sort is told behind at most so many calls
+  unfoldable pub ends : ℕ → Term → Bool
+  ends zero t = ends_through (λ body. false) (leads_to t)
+  ends (suc depth) t = ends_through (ends depth) (leads_to t)

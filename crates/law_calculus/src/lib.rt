@@ -6,8 +6,8 @@
 //!
 //! A well-sorted module evaluates no ill-sorted expression (`sort_laws`). A module is well-sorted where there is a sort, number or
 //! text, for each parameter of each declaration, with which each expression in it has the sort that its use asks for. It is plain
-//! where only literals and the record's end are absorbed, separators are absorbed, no two labels of an enum have one spelling,
-//! and calls name earlier declarations.
+//! where only literals and the record's end are absorbed, separators are absorbed, and no two labels of an enum have one
+//! spelling. Declarations may call themselves and each other in any order.
 //!
 //! What is evaluated is all that readings depend on (`evaluation_laws`): where expressions are worth something else than the
 //! calculus takes them to be, a reading stays the same if that concerns none that it evaluates.
@@ -27,6 +27,6 @@ pub use descriptor_laws::{
 };
 pub use evaluation_laws::{only_these_are_evaluated, sorted_readings_need_nothing_ill_sorted};
 pub use sort_laws::{
-    plain_modules_have_sorts, readings_have_their_sorts, sorted_expressions_keep_their_sorts,
+    modules_have_sorts, readings_have_their_sorts, sorted_expressions_keep_their_sorts,
     sorted_modules_evaluate_nothing_ill_sorted,
 };

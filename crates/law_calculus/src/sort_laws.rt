@@ -13,9 +13,8 @@ ghost use Rattle.pads_calc.specs.Readings.{Subject};
 ghost use Rattle.pads_calc.specs.Rows.{deepest, subject_of_cut, type_of, body_reading, row_of};
 ghost use Rattle.law_calculus.specs.Evaluated.{Moment, moment, Evaluates};
 ghost use Rattle.law_calculus.specs.Expressions.{SortScope, sort_in};
-ghost use Rattle.law_calculus.specs.Plain.{Plain};
 ghost use Rattle.law_calculus.specs.Sorted.{Sorts, AreSorted, IsSorted, Sorted};
-ghost use Rattle.law_calculus.specs.Sorts.{Sort, sort_at, sort_of, AreSorts};
+ghost use Rattle.law_calculus.specs.Sorts.{Sort, sort_at, sort_of, AreSorts, ends};
 ghost use Rattle.law_calculus.specs.Values.{has_sort, worth_has, HasSorts};
 
 /// The law of expressions, in an environment whose bindings have the sorts of their names or are
@@ -55,8 +54,10 @@ pub fn sorted_modules_evaluate_nothing_ill_sorted()
         → body_reading decls scan number cut ≡ meaning (subject_of_cut scan cut) decls deepest (Call number []) [] 0 }
 {}
 
-/// The law of plain modules: the values of their declarations have sorts, and each but one.
-pub fn plain_modules_have_sorts()
-    ensures there { (decls : List Decl) → Plain decls → (declared : List Sort) × AreSorts declared decls }
-    ensures unique { (decls : List Decl) (one other : List Sort) → Plain decls → AreSorts one decls → AreSorts other decls → one ≡ other }
+/// The law of declared sorts, whatever the declarations call: there are sorts for the values of all of them. A term
+/// has but one, where that is told behind some number of calls; not so where calls alone lead back to themselves.
+pub fn modules_have_sorts()
+    ensures there { (decls : List Decl) → (declared : List Sort) × AreSorts declared decls }
+    ensures unique { (decls : List Decl) (one other : List Sort) (depth : ℕ) (t : Term)
+        → AreSorts one decls → AreSorts other decls → ends decls depth t ≡ true → sort_of one t ≡ sort_of other t }
 {}

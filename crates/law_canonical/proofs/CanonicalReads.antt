@@ -54,13 +54,13 @@ module _ (subject : Subject) (decls : List Decl) (modules : Plain decls) (bounde
 
   -- where the term is plain and the reading is clean
   abbrev pub IfPlain : ℕ → Term → Pairs → ℕ → Reading → Type 0
-  IfPlain depth t env i r = (number : ℕ) → IsPlain number t → is_ok r ≡ true → HasBytes depth t env i r
+  IfPlain depth t env i r = IsPlain t → is_ok r ≡ true → HasBytes depth t env i r
 
   abbrev by : (depth : ℕ) (t : Term) (env : Pairs) (i : ℕ) (r s : Reading) → r ≡ s → HasBytes depth t env i s → HasBytes depth t env i r
   by depth t env i r s same h = subst (HasBytes depth t env i) (sym same) h
 
   never : (depth : ℕ) (t : Term) (env : Pairs) (i : ℕ) (cause : Cause) → IfPlain depth t env i (fails subject.origin cause i)
-  never depth t env i cause number is_plain ok = absurd (both_ways (is_ok (fails subject.origin cause i)) (fails-unclean subject.origin cause i) ok)
+  never depth t env i cause is_plain ok = absurd (both_ways (is_ok (fails subject.origin cause i)) (fails-unclean subject.origin cause i) ok)
 
   module _ (depth : ℕ) where
     abbrev call : Caller
@@ -91,13 +91,13 @@ module _ (subject : Subject) (decls : List Decl) (modules : Plain decls) (bounde
       short : i + length bytes ≤ end_of i readings
       fits : FitParts decls depth parts env (values readings) bytes
 
-    parts-have : (number : ℕ) (parts : List Part) → EachPart Has parts → EachPart (IsPlain number) parts → (env : Pairs) (i : ℕ) → CleanParts subject call parts env i
+    parts-have : (parts : List Part) → EachPart Has parts → EachPart IsPlain parts → (env : Pairs) (i : ℕ) → CleanParts subject call parts env i
         → PartsBytes parts env i (in_turn (map (part_reader subject call) parts) env i)
-    parts-have number [] h is_plain env i clean = record { bytes = []; is = refl; short = omega arith; fits = fit.no_part }
-    parts-have number (part ∷ parts) h is_plain env i clean =
+    parts-have [] h is_plain env i clean = record { bytes = []; is = refl; short = omega arith; fits = fit.no_part }
+    parts-have (part ∷ parts) h is_plain env i clean =
         let r = meaning subject decls depth part.term env i in
-        let here = h 0 part refl env i number (is_plain 0 part refl) clean.0 in
-        let later = parts-have number parts (λ n. h (suc n)) (λ n. is_plain (suc n)) (bind part.name r.value env) r.place clean.1 in
+        let here = h 0 part refl env i (is_plain 0 part refl) clean.0 in
+        let later = parts-have parts (λ n. h (suc n)) (λ n. is_plain (suc n)) (bind part.name r.value env) r.place clean.1 in
         record {
           bytes = here.bytes ++ later.bytes;
           is = both-bytes _ _ here.bytes later.bytes here.is later.is;
@@ -105,19 +105,19 @@ module _ (subject : Subject) (decls : List Decl) (modules : Plain decls) (bounde
           fits = fit.part here.fits later.fits;
         }
 
-    struct-plain : (number : ℕ) (parts : List Part) → IsPlain number (term.Struct parts) → EachPart (IsPlain number) parts
-    struct-plain number parts is_plain n part there =
+    struct-plain : (parts : List Part) → IsPlain (term.Struct parts) → EachPart IsPlain parts
+    struct-plain parts is_plain n part there =
         plain-inside (Term-F.Struct parts) (term.outs-Struct parts) is_plain n part.term
         (slice_get-map (λ (part : Part). part.term) parts n ∙ ap (option_map (λ (part : Part). part.term)) there)
 
     -- unions
-    arm-plain : (number : ℕ) (arms : List Arm) → IsPlain number (term.Alt arms) → (n : ℕ) (arm : Arm) → slice_get arms n ≡ Some arm → IsPlain number arm.term
-    arm-plain number arms is_plain n arm there =
+    arm-plain : (arms : List Arm) → IsPlain (term.Alt arms) → (n : ℕ) (arm : Arm) → slice_get arms n ≡ Some arm → IsPlain arm.term
+    arm-plain arms is_plain n arm there =
         plain-inside (Term-F.Alt arms) (term.outs-Alt arms) is_plain n arm.term
         (slice_get-map (λ (arm : Arm). arm.term) arms n ∙ ap (option_map (λ (arm : Arm). arm.term)) there)
 
-    case-plain : (number : ℕ) (e : Expr) (cases : List Case) → IsPlain number (term.Switch e cases) → (n : ℕ) (case : Case) → slice_get cases n ≡ Some case → IsPlain number case.arm.term
-    case-plain number e cases is_plain n case there =
+    case-plain : (e : Expr) (cases : List Case) → IsPlain (term.Switch e cases) → (n : ℕ) (case : Case) → slice_get cases n ≡ Some case → IsPlain case.arm.term
+    case-plain e cases is_plain n case there =
         plain-inside (Term-F.Switch e cases) (term.outs-Switch e cases) is_plain n case.arm.term
         (slice_get-map (λ (case : Case). case.arm.term) cases n ∙ ap (option_map (λ (case : Case). case.arm.term)) there)
 
@@ -150,12 +150,12 @@ module _ (subject : Subject) (decls : List Decl) (modules : Plain decls) (bounde
       short : j + length bytes ≤ begin
       fits : FitBetween decls depth o is_first env bytes
 
-    between-has : (number : ℕ) (o : Option Term) → WhereThere Has o → WhereThere (IsPlain number) o → IsSeparator o → (is_first : Bool) (env : Pairs) (j begin : ℕ)
+    between-has : (o : Option Term) → WhereThere Has o → WhereThere IsPlain o → IsSeparator o → (is_first : Bool) (env : Pairs) (j begin : ℕ)
         → Begins env (option_reader subject call o) is_first j begin → BetweenBytes o is_first env j begin
-    between-has number None h is_plain mark is_first env j begin at = record { bytes = []; is = refl; short = omega (arith, at); fits = fit.unseparated }
-    between-has number (Some t) h is_plain mark true env j begin at = record { bytes = []; is = refl; short = omega (arith, at); fits = fit.at_first }
-    between-has number (Some t) h is_plain mark false env j begin at =
-        let here = h t refl env j number (is_plain t refl) at.0 in
+    between-has None h is_plain mark is_first env j begin at = record { bytes = []; is = refl; short = omega (arith, at); fits = fit.unseparated }
+    between-has (Some t) h is_plain mark true env j begin at = record { bytes = []; is = refl; short = omega (arith, at); fits = fit.at_first }
+    between-has (Some t) h is_plain mark false env j begin at =
+        let here = h t refl env j (is_plain t refl) at.0 in
         let none = absorb-unit subject call env j t mark at.0 in
         record {
           bytes = here.bytes;
@@ -171,17 +171,17 @@ module _ (subject : Subject) (decls : List Decl) (modules : Plain decls) (bounde
       fits : FitElements decls depth s is_first env (values rest) bytes
 
     -- what the parts of a plain array are
-    record PlainSeq (number : ℕ) (s : Seq) : Type 0 where
-      elem : IsPlain number s.elem
-      sep : WhereThere (IsPlain number) s.sep
+    record PlainSeq (s : Seq) : Type 0 where
+      elem : IsPlain s.elem
+      sep : WhereThere IsPlain s.sep
       mark : IsSeparator s.sep
 
     first-there : (o : Option Term) (more : List Term) (t : Term) → o ≡ Some t → slice_get (if_there o ++ more) 0 ≡ Some t
     first-there None more t there = absurd cc
     first-there (Some found) more t there = there
 
-    seq-plain : (number : ℕ) (s : Seq) → IsPlain number (term.Seq s) → PlainSeq number s
-    seq-plain number s is_plain =
+    seq-plain : (s : Seq) → IsPlain (term.Seq s) → PlainSeq s
+    seq-plain s is_plain =
         let inside = plain-inside (Term-F.Seq s) (term.outs-Seq s) is_plain in
         record {
           elem = inside 0 s.elem refl;
@@ -189,15 +189,15 @@ module _ (subject : Subject) (decls : List Decl) (modules : Plain decls) (bounde
           mark = plain-here (Term-F.Seq s) (term.outs-Seq s) is_plain;
         }
 
-    elements-have : (number : ℕ) (s : Seq) → InSeq Has s → PlainSeq number s → (size : Option ℕ) (env : Pairs) (turns : ℕ) (earlier : List Val) (j : ℕ) (rest : List Reading)
+    elements-have : (s : Seq) → InSeq Has s → PlainSeq s → (size : Option ℕ) (env : Pairs) (turns : ℕ) (earlier : List Val) (j : ℕ) (rest : List Reading)
         → CleanTurns subject.bytes (seq_reader subject call s) size env turns earlier j rest → ElementsBytes s (is_empty earlier) env j rest
-    elements-have number s h is_plain size env turns earlier j [] clean = record { bytes = []; is = refl; short = omega arith; fits = fit.no_element }
-    elements-have number s h is_plain size env zero earlier j (r ∷ rest) clean = absurd clean
-    elements-have number s h is_plain size env (suc turns) earlier j (r ∷ rest) clean =
+    elements-have s h is_plain size env turns earlier j [] clean = record { bytes = []; is = refl; short = omega arith; fits = fit.no_element }
+    elements-have s h is_plain size env zero earlier j (r ∷ rest) clean = absurd clean
+    elements-have s h is_plain size env (suc turns) earlier j (r ∷ rest) clean =
         let kept = clean.1 in
-        let apart = between-has number s.sep h.sep is_plain.sep is_plain.mark (is_empty earlier) env j kept.begin kept.begins in
-        let here = subst (HasBytes depth s.elem env kept.begin) (sym kept.is) (h.elem env kept.begin number is_plain.elem (ap is_ok (sym kept.is) ∙ clean.2)) in
-        let more = elements-have number s h is_plain size env turns (earlier ++ r.value ∷ []) r.place rest clean.3 in
+        let apart = between-has s.sep h.sep is_plain.sep is_plain.mark (is_empty earlier) env j kept.begin kept.begins in
+        let here = subst (HasBytes depth s.elem env kept.begin) (sym kept.is) (h.elem env kept.begin is_plain.elem (ap is_ok (sym kept.is) ∙ clean.2)) in
+        let more = elements-have s h is_plain size env turns (earlier ++ r.value ∷ []) r.place rest clean.3 in
         let later = subst (λ is_first. ElementsBytes s is_first env r.place rest) (later-now earlier r.value) more in
         record {
           bytes = apart.bytes ++ (here.bytes ++ later.bytes);
@@ -206,11 +206,11 @@ module _ (subject : Subject) (decls : List Decl) (modules : Plain decls) (bounde
           fits = fit.element apart.fits here.fits later.fits;
         }
 
-    seq-has : (number : ℕ) (s : Seq) → InSeq Has s → IsPlain number (term.Seq s) → (env : Pairs) (i : ℕ) → is_ok (seq_of subject (seq_reader subject call s) env i) ≡ true
+    seq-has : (s : Seq) → InSeq Has s → IsPlain (term.Seq s) → (env : Pairs) (i : ℕ) → is_ok (seq_of subject (seq_reader subject call s) env i) ≡ true
         → HasBytes depth (term.Seq s) env i (seq_of subject (seq_reader subject call s) env i)
-    seq-has number s h is_plain env i ok =
+    seq-has s h is_plain env i ok =
         let clean = clean-seq subject (seq_reader subject call s) env i ok in
-        let all = elements-have number s h (seq-plain number s is_plain) clean.size env _ [] i clean.readings clean.turns in
+        let all = elements-have s h (seq-plain s is_plain) clean.size env _ [] i clean.readings clean.turns in
         by depth (term.Seq s) env i _ _ clean.is (record {
           bytes = all.bytes;
           is = spelled-Seq speller s env (val.Array (values clean.readings)) ∙ array-bytes (seq_speller speller s) env (values clean.readings) ∙ all.is;
@@ -219,13 +219,13 @@ module _ (subject : Subject) (decls : List Decl) (modules : Plain decls) (bounde
         })
 
     -- what is absorbed
-    absorb-has : (number : ℕ) (inner : Term) → Has inner → IsPlain number (term.Absorb inner) → (env : Pairs) (i : ℕ) → is_ok (absorb_of (meaning subject decls depth inner env i)) ≡ true
+    absorb-has : (inner : Term) → Has inner → IsPlain (term.Absorb inner) → (env : Pairs) (i : ℕ) → is_ok (absorb_of (meaning subject decls depth inner env i)) ≡ true
         → HasBytes depth (term.Absorb inner) env i (absorb_of (meaning subject decls depth inner env i))
-    absorb-has number inner h is_plain env i ok =
+    absorb-has inner h is_plain env i ok =
         let r = meaning subject decls depth inner env i in
         let clean = clean-absorb r ok in
         let is = term.outs-Absorb inner in
-        let here = h env i number (plain-inside (Term-F.Absorb inner) is is_plain 0 inner refl) clean.0 in
+        let here = h env i (plain-inside (Term-F.Absorb inner) is is_plain 0 inner refl) clean.0 in
         let none = mark-unit subject call env i inner (plain-here (Term-F.Absorb inner) is is_plain) clean.0 in
         record {
           bytes = here.bytes;
@@ -240,8 +240,8 @@ module _ (subject : Subject) (decls : List Decl) (modules : Plain decls) (bounde
 
   bytes-forms : EachReading IfPlain subject decls
   bytes-forms = record {
-    of_unit = λ depth env i number is_plain ok. unit-has depth term.Unit env i (spelled-Unit (speller depth) env val.Unit ∙ unit-bytes (Some [])) fit.unit;
-    of_base = λ depth base args env i number is_plain ok. (
+    of_unit = λ depth env i is_plain ok. unit-has depth term.Unit env i (spelled-Unit (speller depth) env val.Unit ∙ unit-bytes (Some [])) fit.unit;
+    of_base = λ depth base args env i is_plain ok. (
         let clean = clean-base subject base (arguments args env) i ok in
         let found = base-bytes base clean.found (drop i subject.bytes) clean.size clean.value
         (plain-here (Term-F.Base base args) (term.outs-Base base args) is_plain) (rest-bounded i) clean.reads in
@@ -251,40 +251,40 @@ module _ (subject : Subject) (decls : List Decl) (modules : Plain decls) (bounde
           short = omega (arith, found.short);
           fits = fit.base base args clean.given found.spells;
         }));
-    of_lit = λ depth literal env i number is_plain ok. by depth (term.Lit literal) env i _ _ (clean-lit subject literal i ok).is (lit-has depth literal env i);
-    of_eor = λ depth env i number is_plain ok. by depth term.Eor env i _ _ (clean-eor subject i ok).is
+    of_lit = λ depth literal env i is_plain ok. by depth (term.Lit literal) env i _ _ (clean-lit subject literal i ok).is (lit-has depth literal env i);
+    of_eor = λ depth env i is_plain ok. by depth term.Eor env i _ _ (clean-eor subject i ok).is
         (unit-has depth term.Eor env i (spelled-Eor (speller depth) env val.Unit ∙ unit-bytes (Some [])) fit.eor);
-    of_struct = λ depth parts h env i number is_plain ok. (
+    of_struct = λ depth parts h env i is_plain ok. (
         let readings = in_turn (map (part_reader subject (caller subject decls depth)) parts) env i in
-        let all = parts-have depth number parts h (struct-plain depth number parts is_plain) env i (clean-struct subject (caller subject decls depth) parts env i ok) in
+        let all = parts-have depth parts h (struct-plain depth parts is_plain) env i (clean-struct subject (caller subject decls depth) parts env i ok) in
         record {
           bytes = all.bytes;
           is = spelled-Struct (speller depth) parts env (val.Tuple (values readings)) ∙ tuple-bytes (map (part_speller (speller depth)) parts) env (values readings) ∙ all.is;
           short = all.short;
           fits = fit.struct all.fits;
         });
-    of_alt = λ depth arms h env i number is_plain ok. (
+    of_alt = λ depth arms h env i is_plain ok. (
         let clean = clean-alt subject (caller subject decls depth) arms env i ok in
-        let here = h clean.number clean.arm clean.there env i number (arm-plain depth number arms is_plain clean.number clean.arm clean.there) clean.clean in
+        let here = h clean.number clean.arm clean.there env i (arm-plain depth arms is_plain clean.number clean.arm clean.there) clean.clean in
         let same : 0 + clean.number ≡ clean.number = omega arith in
         by depth (term.Alt arms) env i _ _ (clean.is ∙ ap (λ n. branch_of subject.origin n (meaning subject decls depth clean.arm.term env i) i) same)
         (arm-has depth arms clean.number clean.arm clean.there env i _ here));
-    of_switch = λ depth e cases h env i number is_plain ok. (
+    of_switch = λ depth e cases h env i is_plain ok. (
         let clean = clean-switch subject (caller subject decls depth) (chosen (argument e env) (map (λ c. c.key) cases)) cases env i ok in
-        let here = h clean.number clean.case clean.there env i number (case-plain depth number e cases is_plain clean.number clean.case clean.there) clean.clean in
+        let here = h clean.number clean.case clean.there env i (case-plain depth e cases is_plain clean.number clean.case clean.there) clean.clean in
         by depth (term.Switch e cases) env i _ _ clean.is (case-has depth e cases clean.number clean.case clean.there env i _ here));
-    of_guard = λ depth inner binder condition h env i number is_plain ok. (
+    of_guard = λ depth inner binder condition h env i is_plain ok. (
         let r = meaning subject decls depth inner env i in
         let clean = clean-guard binder condition env r ok in
-        let here = h env i number (plain-inside (Term-F.Guard inner binder condition) (term.outs-Guard inner binder condition) is_plain 0 inner refl) clean.clean in
+        let here = h env i (plain-inside (Term-F.Guard inner binder condition) (term.outs-Guard inner binder condition) is_plain 0 inner refl) clean.clean in
         by depth (term.Guard inner binder condition) env i _ _ clean.is (record {
           bytes = here.bytes;
           is = spelled-Guard (speller depth) inner binder condition env r.value ∙ here.is;
           short = here.short;
           fits = fit.guard binder condition clean.holds here.fits;
         }));
-    of_seq = λ depth s h env i number is_plain ok. seq-has depth number s h is_plain env i ok;
-    of_compute = λ depth e form env i number is_plain ok. (
+    of_seq = λ depth s h env i is_plain ok. seq-has depth s h is_plain env i ok;
+    of_compute = λ depth e form env i is_plain ok. (
         let clean = clean-compute subject form (worth_or_none (value e env)) i ok in
         by depth (term.Compute e form) env i _ _ clean.is (record {
           bytes = [];
@@ -292,11 +292,11 @@ module _ (subject : Subject) (decls : List Decl) (modules : Plain decls) (bounde
           short = omega arith;
           fits = fit.compute e form clean.told;
         }));
-    of_absorb = λ depth inner h env i number is_plain ok. absorb-has depth number inner h is_plain env i ok;
-    of_scan = λ depth inner h env i number is_plain ok. (
+    of_absorb = λ depth inner h env i is_plain ok. absorb-has depth inner h is_plain env i ok;
+    of_scan = λ depth inner h env i is_plain ok. (
         let r = meaning subject decls depth inner env i in
         let clean = clean-scan subject (meaning subject decls depth inner) env i ok in
-        let here = h env i number (plain-inside (Term-F.Scan inner) (term.outs-Scan inner) is_plain 0 inner refl) clean.0 in
+        let here = h env i (plain-inside (Term-F.Scan inner) (term.outs-Scan inner) is_plain 0 inner refl) clean.0 in
         by depth (term.Scan inner) env i _ _ clean.1 (record {
           bytes = here.bytes;
           is = spelled-Scan (speller depth) inner env r.value ∙ here.is;
@@ -306,8 +306,8 @@ module _ (subject : Subject) (decls : List Decl) (modules : Plain decls) (bounde
     too_deep = λ number args env i. never 0 (term.Call number args) env i cause.Depth;
     unargued = λ depth number args env i none. never (suc depth) (term.Call number args) env i cause.BadParam;
     undeclared = λ depth number args env i none. never (suc depth) (term.Call number args) env i cause.BadParam;
-    of_body = λ depth number args found decl env i given there h within is_plain ok. (
-        let here = h number (modules number decl there) ok in
+    of_body = λ depth number args found decl env i given there h is_plain ok. (
+        let here = h (modules number decl there) ok in
         record {
           bytes = here.bytes;
           is = spelled-Call (call_spelled decls (suc depth)) number args env _ ∙ call-bytes decls depth number args found decl env _ given there ∙ here.is;

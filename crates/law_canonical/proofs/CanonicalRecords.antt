@@ -60,7 +60,7 @@ body-has : (decls : List Decl) (scan number : ℕ) (cut : Cut) → Plain decls �
     → RecordBytes decls number (body_reading decls scan number cut).value (length cut.bytes)
 body-has decls scan number cut plain bounded ok =
     let subject = subject_of_cut scan cut in
-    let here = call-has subject decls plain bounded deepest number [] [] 0 (suc number) (plain-call number []) ok in
+    let here = call-has subject decls plain bounded deepest number [] [] 0 (plain-call number []) ok in
     let sound = sound-caller subject decls deepest number [] [] 0 in
     record {
       bytes = here.bytes;

@@ -1,5 +1,5 @@
 -- What a plain term tells of the terms in it: they are plain, and what is absorbed in it has no value.
-use Rattle.std.proofs.Common.{◌≡◌, ◌∙◌, sym, ap, subst, arith, ℕ, suc, true, List, Some, slice_get}
+use Rattle.std.proofs.Common.{◌≡◌, ◌∙◌, sym, ap, subst, ℕ, true, List, Some, slice_get}
 use Rattle.pads_value.specs.declared.value.Val.TheVariants as val
 use Rattle.pads_expr.specs.declared.expr.Expr.{Expr}
 use Rattle.pads_expr.specs.Value.{Pairs}
@@ -21,21 +21,21 @@ abbrev pub Layer : Type 0
 Layer = Term-F Term Arm Case Part Seq
 
 -- each of these terms is plain
-abbrev pub EachPlain : ℕ → List Term → Type 0
-EachPlain number terms = (n : ℕ) (inner : Term) → slice_get terms n ≡ Some inner → IsPlain number inner
+abbrev pub EachPlain : List Term → Type 0
+EachPlain terms = (n : ℕ) (inner : Term) → slice_get terms n ≡ Some inner → IsPlain inner
 
-module _ {number : ℕ} {t : Term} (layer : Layer) (is : out-Term t ≡ layer) where
-  pub plain-here : IsPlain number t → IsPlainHere number layer
-  plain-here (plain here all) = subst (IsPlainHere number) is here
+module _ {t : Term} (layer : Layer) (is : out-Term t ≡ layer) where
+  pub plain-here : IsPlain t → IsPlainHere layer
+  plain-here (plain here all) = subst IsPlainHere is here
 
-  pub plain-inside : IsPlain number t → EachPlain number (terms_in layer)
-  plain-inside (plain here all) = subst (λ layer. EachPlain number (terms_in layer)) is all
+  pub plain-inside : IsPlain t → EachPlain (terms_in layer)
+  plain-inside (plain here all) = subst (λ layer. EachPlain (terms_in layer)) is all
 
--- a call is plain in the declaration behind the one that it names
-pub plain-call : (number : ℕ) (args : List Expr) → IsPlain (suc number) (term.Call number args)
+-- a call is plain
+pub plain-call : (number : ℕ) (args : List Expr) → IsPlain (term.Call number args)
 plain-call number args =
-    plain (subst (IsPlainHere (suc number)) (sym (term.outs-Call number args)) (omega arith))
-    (subst (λ layer. EachPlain (suc number) (terms_in layer)) (sym (term.outs-Call number args)) (λ n inner there. absurd cc))
+    plain (subst IsPlainHere (sym (term.outs-Call number args)) tt)
+    (subst (λ layer. EachPlain (terms_in layer)) (sym (term.outs-Call number args)) (λ n inner there. absurd cc))
 
 module _ (subject : Subject) (call : Caller) (env : Pairs) (i : ℕ) where
   -- where a term reads without a fault, it has no value

@@ -21,7 +21,7 @@ use Rattle.pads_rules.specs.Faults.{breaks, again}
 use Rattle.pads_ast.specs.NameTokens.{names_in_type, names_in_param, names_in_body, names_in_decl}
 use Rattle.pads_rules.specs.DifferentNames.{count_of_different}
 use Rattle.pads_rules.specs.Pieces.{Site, Piece, OfParam, body_pieces}
-use Rattle.pads_rules.specs.Resolving.{type_sort, param_named}
+use Rattle.pads_rules.specs.Resolving.{Sight, seen_from, type_sort, param_named}
 use Rattle.pads_ast.specs.Trees.{params_of, param_names, inner_names}
 use Rattle.pads_rules.specs.Violations.{violations}
 use Rattle.pads_rules.specs.declared.declared.Declared.{Declared}
@@ -77,8 +77,8 @@ module _ (tree : Ast) (none : violations tree ≡ []) (n : ℕ) (d : WrittenDecl
   abbrev site : Site
   site = site_of tree.decls n d
 
-  abbrev types : List Declared
-  types = take n (env tree none)
+  abbrev types : Sight
+  types = seen_from (env tree none) n
 
   abbrev Free_here : Piece → Type 0
   Free_here = FreePiece site

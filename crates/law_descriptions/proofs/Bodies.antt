@@ -20,7 +20,7 @@ use Rattle.pads_resolution.specs.JudgedNames.{judging_scope}
 use Rattle.pads_rules.specs.Judging.{Scope as Judging, judged}
 use Rattle.pads_ast.specs.NameTokens.{names_in_expr, names_in_option, names_in_type, names_in_branch, names_in_part}
 use Rattle.pads_rules.specs.Pieces.{Site, Piece, Used, Computed, conditions, part_pieces, parts_pieces, names_after as rule_names_after, texts_of_parts, branch_pieces}
-use Rattle.pads_rules.specs.Resolving.{type_sort, branch_named}
+use Rattle.pads_rules.specs.Resolving.{Sight, seen_from, type_sort, branch_named}
 use Rattle.pads_rules.specs.Sorts.{agree}
 use Rattle.pads_ast.specs.Trees.{part_names}
 use Rattle.pads_rules.specs.DeclRules.{same_name}
@@ -47,8 +47,8 @@ module _ (tree : Ast) (none : violations tree ≡ []) (n : ℕ) (d : WrittenDecl
   abbrev Free_here : Piece → Type 0
   Free_here = FreePiece site
 
-  abbrev types : List Declared
-  types = take n (env tree none)
+  abbrev types : Sight
+  types = seen_from (env tree none) n
 
   abbrev SeesHere : Names → SortScope → Type 0
   SeesHere = Sees (env tree none) (made tree none) (sorts tree none)

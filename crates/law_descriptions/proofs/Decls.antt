@@ -34,7 +34,7 @@ use Rattle.pads_rules.specs.Judging.{Scope as Judging, judged}
 use Rattle.pads_ast.specs.NameTokens.{names_in_expr, names_in_option, names_in_type, names_in_branch, names_in_array_option, names_in_constraint, names_in_union}
 use Rattle.pads_rules.specs.PieceRules.{is_num_or_text, const_sort, const_place}
 use Rattle.pads_rules.specs.Pieces.{Site, Piece, Used, Choice, conditions, sizes, option_pieces, constraint_pieces, union_body_pieces, array_pieces}
-use Rattle.pads_rules.specs.Resolving.{type_sort, content_in}
+use Rattle.pads_rules.specs.Resolving.{Sight, seen_from, type_sort, content_in}
 use Rattle.pads_rules.specs.Sorts as rules
 use Rattle.pads_rules.specs.Sorts.{accepts, agree, is_num_form, is_text_form}
 use Rattle.pads_ast.specs.Trees.{listed, branches_of}
@@ -73,8 +73,8 @@ module _ (tree : Ast) (none : violations tree ≡ []) (n : ℕ) (d : WrittenDecl
   abbrev Free_here : Piece → Type 0
   Free_here = FreePiece site
 
-  abbrev types : List Declared
-  types = take n (env tree none)
+  abbrev types : Sight
+  types = seen_from (env tree none) n
 
   abbrev plain_scope : List RuleNamed → Judging
   plain_scope seen = record { visible = seen; later = [] }

@@ -30,7 +30,7 @@ use Rattle.pads_resolution.specs.Types.{computed_of}
 use Rattle.pads_rules.specs.DeclRules.{part_count}
 use Rattle.pads_rules.specs.Members.{content_of}
 use Rattle.pads_rules.specs.Pieces.{Site, Piece, part_pieces, parts_pieces, names_after as rule_names_after, texts_of_parts, branch_pieces, union_body_pieces, body_pieces}
-use Rattle.pads_rules.specs.Resolving.{type_sort, named, branch_named, param_named, content_in, declared}
+use Rattle.pads_rules.specs.Resolving.{Sight, seen_from, type_sort, named, branch_named, param_named, content_in, declared}
 use Rattle.pads_rules.specs.Texts.{same_text, is_among, sort_of}
 use Rattle.pads_ast.specs.Trees.{listed, params_of, named_part, branches_of}
 use Rattle.pads_rules.specs.Violations.{violations}
@@ -74,8 +74,8 @@ module _ (tree : Ast) (none : violations tree ≡ []) where
     abbrev Free_here : Piece → Type 0
     Free_here = FreePiece (site_at n d)
 
-    abbrev types : List Declared
-    types = take n env_here
+    abbrev types : Sight
+    types = seen_from env_here n
 
     abbrev PartThere : Names → List WrittenPart → List ℕ → ExprSort → Type 0
     PartThere names parts name sort =

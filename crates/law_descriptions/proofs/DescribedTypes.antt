@@ -27,7 +27,7 @@ use Rattle.pads_rules.specs.Faults.{breaks}
 use Rattle.pads_rules.specs.Judging.{Scope as Judging, judged}
 use Rattle.pads_rules.specs.PieceRules.{is_bare, is_base, is_computable_base}
 use Rattle.pads_rules.specs.Pieces.{Site, Used, Computed}
-use Rattle.pads_rules.specs.Resolving.{Meaning, Base, Earlier, Undeclared, meaning, meaning_sort, behind_popt, type_sort, plain_meaning, declare}
+use Rattle.pads_rules.specs.Resolving.{Sight, Meaning, Base, Known as Declares, Undeclared, seen_from, meaning, meaning_sort, behind_popt, type_sort, plain_meaning, declare}
 use Rattle.pads_rules.specs.Sorts as rules
 use Rattle.pads_rules.specs.Sorts.{agree}
 use Rattle.pads_rules.specs.Texts.{same_text, sort_of}
@@ -46,7 +46,7 @@ use Rattle.law_descriptions.proofs.Environment.{site_of, site-back}
 use Rattle.pads_rules.proofs.Faultless.{not-when}
 use Rattle.law_descriptions.proofs.Free.{FreePiece}
 use Rattle.law_descriptions.proofs.TypedOperators.{same-swapped}
-use Rattle.law_descriptions.proofs.AcceptedTypes.{IsReadRole, IsReadAt, shape-off, Named, base-named, earlier-named, named-at, meaning-base, meaning-earlier, used-known, computed-known, no-list, env, made, sorts, free, decl-settled, used-settled, type-same}
+use Rattle.law_descriptions.proofs.AcceptedTypes.{IsReadRole, IsReadAt, shape-off, Named, base-named, type-named, named-at, meaning-base, meaning-known, used-known, computed-known, no-list, env, made, sorts, free, recur, decl-settled, used-settled, type-same}
 use Rattle.law_calculus.proofs.Expressions.{and_then-is}
 
 read-role : (r : Role) (inner found : DeclBody) → if_read r inner ≡ Some found → IsReadRole r
@@ -93,7 +93,7 @@ abbrev pub unless_popt : Option ℕ → Meaning → Meaning
 unless_popt (Some place) m = Undeclared
 unless_popt None m = m
 
-pub plain-is : (before : List Declared) (t : «Type») → plain_meaning before t ≡ unless_popt t.optional (meaning before t.name.text)
+pub plain-is : (before : Sight) (t : «Type») → plain_meaning before t ≡ unless_popt t.optional (meaning before t.name.text)
 plain-is before t = refl
 
 computed-base : (o : Option ℕ) (b : BaseName) (m : Meaning) → m ≡ Base b → is_base is_computable_base (unless_popt o m) ≡ true
@@ -101,9 +101,9 @@ computed-base : (o : Option ℕ) (b : BaseName) (m : Meaning) → m ≡ Base b �
 computed-base None b m is h = ap meaning_sort is ∙ computable b (sym (ap (is_base is_computable_base) is) ∙ h)
 computed-base (Some place) b m is h = cc
 
-computed-earlier : (o : Option ℕ) (x : Declared) (m : Meaning) → m ≡ Earlier x → is_base is_computable_base (unless_popt o m) ≡ true → ⊥
-computed-earlier None x m is h = let e = sym (ap (is_base is_computable_base) is) ∙ h in cc
-computed-earlier (Some place) x m is h = cc
+computed-declared : (o : Option ℕ) (x : Declared) (m : Meaning) → m ≡ Declares x → is_base is_computable_base (unless_popt o m) ≡ true → ⊥
+computed-declared None x m is h = let e = sym (ap (is_base is_computable_base) is) ∙ h in cc
+computed-declared (Some place) x m is h = cc
 
 module _ (tree : Ast) (none : violations tree ≡ []) where
   abbrev pub made_here : List Decl
@@ -139,12 +139,12 @@ module _ (tree : Ast) (none : violations tree ≡ []) where
 
   -- the type of a field or a branch
   pub used-sort : (n : ℕ) (d : WrittenDecl) (names : Names) (scope : Judging) (t : «Type») → slice_get tree.decls n ≡ Some d → IsReadAt tree.decls n d → FreePiece (site_at n d) (Used scope t)
-      → type_sort (take n env_here) t ≡ expr_sort.Known (sorts_of.type_sort sorts_here (type_at (site_at n d) names t))
+      → type_sort (seen_from env_here n) t ≡ expr_sort.Known (sorts_of.type_sort sorts_here (type_at (site_at n d) names t))
   used-sort n d names scope t there reads piece =
-      type-same tree none n d names t there (named-at tree.decls n t.name.text (used-known (site_at n d) scope t piece)) (no-list (site_at n d) t piece.records (shape-off tree.decls n d reads))
+      type-same tree none n d names t there (named-at tree.decls (recur tree none) n t.name.text (used-known (site_at n d) scope t piece)) (no-list (site_at n d) t piece.records (shape-off tree.decls n d reads))
 
   pub used-proper : (n : ℕ) (d : WrittenDecl) (names : Names) (scope : Judging) (t : «Type») → slice_get tree.decls n ≡ Some d → IsReadAt tree.decls n d → FreePiece (site_at n d) (Used scope t)
-      → (P : Sort → Type 0) → P (sorts_of.type_sort sorts_here (type_at (site_at n d) names t)) → Known P (type_sort (take n env_here) t)
+      → (P : Sort → Type 0) → P (sorts_of.type_sort sorts_here (type_at (site_at n d) names t)) → Known P (type_sort (seen_from env_here n) t)
   used-proper n d names scope t there reads piece P has =
       let s = sorts_of.type_sort sorts_here (type_at (site_at n d) names t) in
       let is = used-sort n d names scope t there reads piece in
@@ -152,32 +152,32 @@ module _ (tree : Ast) (none : violations tree ≡ []) where
       let same : h.0 ≡ s = let a = h.1 in cc in
       (s, is, subst (λ (s : Sort). IsProper env_here made_here s.form) same h.2, has)
 
-  computed-by : (n : ℕ) (t : «Type») → Named tree.decls n t.name.text → is_base is_computable_base (plain_meaning (take n env_here) t) ≡ true
-      → type_sort (take n env_here) t ≡ expr_sort.Known (sorts_of.computed_sort (computed_of t))
+  computed-by : (n : ℕ) (t : «Type») → Named tree.decls n t.name.text → is_base is_computable_base (plain_meaning (seen_from env_here n) t) ≡ true
+      → type_sort (seen_from env_here n) t ≡ expr_sort.Known (sorts_of.computed_sort (computed_of t))
   unfolding computed_of
   computed-by n t (base-named b is) plain =
-      let m = meaning (take n env_here) t.name.text in
-      computed-base t.optional b m (meaning-base (take n env_here) t.name.text b is) (sym (ap (is_base is_computable_base) (plain-is (take n env_here) t)) ∙ plain)
+      let m = meaning (seen_from env_here n) t.name.text in
+      computed-base t.optional b m (meaning-base (seen_from env_here n) t.name.text b is) (sym (ap (is_base is_computable_base) (plain-is (seen_from env_here n) t)) ∙ plain)
       ∙ ap (λ o. expr_sort.Known (sorts_of.computed_sort (computed_as o))) (sym is)
-  computed-by n t (earlier-named k e none_base less there found place) plain =
-      absurd (computed-earlier t.optional (declare (take k env_here) e) (meaning (take n env_here) t.name.text) (meaning-earlier (take n env_here) t.name.text (declare (take k env_here) e) none_base found)
-      (sym (ap (is_base is_computable_base) (plain-is (take n env_here) t)) ∙ plain))
+  computed-by n t (type-named k e none_base may there found place) plain =
+      absurd (computed-declared t.optional (declare (seen_from env_here k) e) (meaning (seen_from env_here n) t.name.text) (meaning-known (seen_from env_here n) t.name.text (declare (seen_from env_here k) e) none_base found)
+      (sym (ap (is_base is_computable_base) (plain-is (seen_from env_here n) t)) ∙ plain))
 
   -- the rule at a computed field: its type, and its value's sort
   computed-rule : (n : ℕ) (d : WrittenDecl) (scope : Judging) (t : «Type») (value : Tree) → FreePiece (site_at n d) (Computed scope t value)
-      → (is_bare is_computable_base (site_at n d) t ≡ true) × (agree (type_sort (take n env_here) t) (judged env_here value scope).sort ≡ true)
+      → (is_bare is_computable_base (site_at n d) t ≡ true) × (agree (type_sort (seen_from env_here n) t) (judged env_here value scope).sort ≡ true)
   computed-rule n d scope t value piece =
       let bare = is_bare is_computable_base (site_at n d) t in
-      let same = agree (type_sort (take n env_here) t) (judged env_here value scope).sort in
+      let same = agree (type_sort (seen_from env_here n) t) (judged env_here value scope).sort in
       let both = or_parts (not bare) (not same) (not-when (not bare || not same) (breaks rule.ComputedType t.name.at) piece.computed) in
       (not-false bare both.0, not-false same both.1)
 
   pub computed-sort : (n : ℕ) (d : WrittenDecl) (scope : Judging) (t : «Type») (value : Tree) → FreePiece (site_at n d) (Computed scope t value)
-      → (type_sort (take n env_here) t ≡ expr_sort.Known (sorts_of.computed_sort (computed_of t))) × (agree (type_sort (take n env_here) t) (judged env_here value scope).sort ≡ true)
+      → (type_sort (seen_from env_here n) t ≡ expr_sort.Known (sorts_of.computed_sort (computed_of t))) × (agree (type_sort (seen_from env_here n) t) (judged env_here value scope).sort ≡ true)
   computed-sort n d scope t value piece =
       let kept = computed-rule n d scope t value piece in (
-        computed-by n t (named-at tree.decls n t.name.text (computed-known (site_at n d) scope t value piece))
-            (and_parts (is_base is_computable_base (plain_meaning (take n env_here) t)) (is_empty (args_of t)) kept.0).0,
+        computed-by n t (named-at tree.decls (recur tree none) n t.name.text (computed-known (site_at n d) scope t value piece))
+            (and_parts (is_base is_computable_base (plain_meaning (seen_from env_here n) t)) (is_empty (args_of t)) kept.0).0,
         kept.1,
       )
 

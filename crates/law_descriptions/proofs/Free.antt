@@ -1,7 +1,7 @@
 -- A tree without violations has none of each rule at each declaration.
 use Rattle.std.proofs.Common.{◌≡◌, ℕ, List, [], ◌∷◌, ◌++◌, Some, slice_get}
 use Rattle.pads_ast.specs.declared.decl.Ast.{Ast}
-use Rattle.pads_rules.specs.DeclRules.{name_taken, name_again, other_name, spelling_again, marked_with_params, misplaced_source, too_much}
+use Rattle.pads_rules.specs.DeclRules.{name_taken, name_again, other_name, spelling_again, marked_with_params, misplaced_source, misplaced_precursive, too_much}
 use Rattle.pads_rules.specs.Faults.{each}
 use Rattle.pads_rules.specs.PieceRules.{unknown_type, later_type, argument_count, argument_sorts, size_sort, condition_sort, case_sorts, case_again, empty_literal, computed_type, param_type, record_type_named, in_expressions}
 use Rattle.pads_rules.specs.Pieces.{Site, Piece, sites, pieces}
@@ -30,6 +30,7 @@ pub record Free (site : Site) : Type 0 where
   pub spellings : spelling_again site ≡ []
   pub misplaced : misplaced_source site ≡ []
   pub counted : too_much site ≡ []
+  pub recurs : misplaced_precursive site ≡ []
   pub at_pieces : Each (FreePiece site) (pieces site)
 
 module _ (site : Site) where
@@ -110,13 +111,19 @@ module _ (tree : Ast) where
   abbrev to_23 : List CheckFault
   to_23 = to_22 ++ no_record_type tree
 
-  all-rules : violations tree ≡ [] → to_23 ++ at_sites too_much ≡ []
+  abbrev to_24 : List CheckFault
+  to_24 = to_23 ++ at_sites too_much
+
+  all-rules : violations tree ≡ [] → to_24 ++ at_sites misplaced_precursive ≡ []
   unfolding violations
   all-rules none = none
 
   module _ (none : violations tree ≡ []) where
+    from_25 : to_24 ≡ []
+    from_25 = none-left to_24 (at_sites misplaced_precursive) (all-rules none)
+
     from_24 : to_23 ≡ []
-    from_24 = none-left to_23 (at_sites too_much) (all-rules none)
+    from_24 = none-left to_23 (at_sites too_much) from_25
 
     pub some_record_type : no_record_type tree ≡ []
     some_record_type = none-right to_22 (no_record_type tree) from_24
@@ -177,7 +184,8 @@ module _ (tree : Ast) where
       again = none-at name_again (sites tree.decls) n site (none-right to_3 (at_sites name_again) from_5) there;
       spellings = none-at spelling_again (sites tree.decls) n site (none-right to_14 (at_sites spelling_again) from_18) there;
       misplaced = none-at misplaced_source (sites tree.decls) n site (none-right to_21 (at_sites misplaced_source) from_23) there;
-      counted = none-at too_much (sites tree.decls) n site (none-right to_23 (at_sites too_much) (all-rules none)) there;
+      counted = none-at too_much (sites tree.decls) n site (none-right to_23 (at_sites too_much) from_25) there;
+      recurs = none-at misplaced_precursive (sites tree.decls) n site (none-right to_24 (at_sites misplaced_precursive) (all-rules none)) there;
       at_pieces = together site (pieces site)
           (piece-rule unknown_type (none-right (at_sites name_taken) (at_pieces unknown_type) from_3) n site there)
           (piece-rule later_type (none-right to_2 (at_pieces later_type) from_4) n site there)

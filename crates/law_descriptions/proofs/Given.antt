@@ -46,7 +46,8 @@ use Rattle.pads_resolution.specs.Scopes.{NameScope as Names, known_in, hiding, n
 use Rattle.pads_resolution.specs.Types.{arg_exprs, args, type_at, param_of}
 use Rattle.pads_rules.specs.Members.{member, element}
 use Rattle.pads_ast.specs.NameTokens.{names_in_step, names_in_form, names_in_expr, names_in_option, names_in_arg, names_in_type, names_in_param, names_in_branch, names_in_part, names_in_array_option, names_in_union, names_in_constraint, names_in_body, names_in_decl}
-use Rattle.pads_rules.specs.Pieces.{Site, earlier}
+use Rattle.pads_rules.specs.Pieces.{Site, sight}
+use Rattle.pads_rules.specs.Resolving.{Sight}
 use Rattle.pads_rules.specs.Sorts as rules
 use Rattle.pads_ast.specs.Trees.{args_of, params_of, listed, points_of}
 use Rattle.pads_rules.specs.declared.declared.Declared.{Declared}
@@ -252,7 +253,7 @@ module _ (P : Name → Type 0) (whole_is : P at_sign) (some_is : P some_name) (n
     parts-given : (names : Names) (ps : List WrittenPart) → All (flat_map names_in_part ps) → All (flat_map in_part (parts_at site names ps))
     parts-given names [] written = tt
     parts-given names (p ∷ ps) written =
-        let behind = names_after (earlier site) names p in
+        let behind = names_after (sight site) names p in
         both (in_part (part_at site names p)) (flat_map in_part (parts_at site behind ps))
         (part-given names p (left (names_in_part p) (flat_map names_in_part ps) written))
         (parts-given behind ps (right (names_in_part p) (flat_map names_in_part ps) written))
@@ -267,7 +268,7 @@ module _ (P : Name → Type 0) (whole_is : P at_sign) (some_is : P some_name) (n
     struct-given names d written =
         both (flat_map in_part (parts_at site names d.parts)) _
         (parts-given names d.parts (left (flat_map names_in_part d.parts) (names_in_option d.condition) written))
-        (where-given (fields_after (earlier site) names 0 d.parts) d.condition (right (flat_map names_in_part d.parts) (names_in_option d.condition) written))
+        (where-given (fields_after (sight site) names 0 d.parts) d.condition (right (flat_map names_in_part d.parts) (names_in_option d.condition) written))
 
     -- unions
     cases-given : (names : Names) (cases : List WrittenCase) → All (flat_map names_in_branch (map (λ (c : WrittenCase). c.branch) cases)) → All (flat_map in_case (map (case_at site names) cases))
@@ -357,7 +358,7 @@ module _ (P : Name → Type 0) (whole_is : P at_sign) (some_is : P some_name) (n
     read-given role.Precord names inner written = body-given names inner written
     read-given role.Source names inner written = tt
 
-    params-given : (types : List Declared) (ps : List WrittenParam) → All (flat_map names_in_param ps) → All (map (λ param. param.name) (map (param_of types) ps))
+    params-given : (types : Sight) (ps : List WrittenParam) → All (flat_map names_in_param ps) → All (map (λ param. param.name) (map (param_of types) ps))
     unfolding param_of
     params-given types [] written = tt
     params-given types (p ∷ ps) written = (
@@ -370,7 +371,7 @@ module _ (P : Name → Type 0) (whole_is : P at_sign) (some_is : P some_name) (n
     decl-given written =
         let in_params = flat_map names_in_param (params_of site.decl.body) in (
           written.0,
-          both (map (λ param. param.name) (map (param_of (earlier site)) (params_of site.decl.body))) _
-              (params-given (earlier site) (params_of site.decl.body) (left in_params (names_in_body site.decl.body) written.1))
+          both (map (λ param. param.name) (map (param_of (sight site)) (params_of site.decl.body))) _
+              (params-given (sight site) (params_of site.decl.body) (left in_params (names_in_body site.decl.body) written.1))
               (read-given (role_of site) (params_scope site) site.decl.body (right in_params (names_in_body site.decl.body) written.1)),
         )

@@ -7,6 +7,7 @@ pub mod MeantOperators
 pub mod MeantParts
 pub mod SortedNames
 pub mod Options
+pub mod Outlines
 pub mod PlainTerms
 pub mod Scoped
 pub mod ScopedTerms

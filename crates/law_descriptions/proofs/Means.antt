@@ -1,5 +1,5 @@
 -- What the sorts of a description are in its module.
-use Rattle.std.proofs.Common.{◌≡◌, ◌∙◌, sym, ap, refl, subst, arith, ℕ, zero, suc, ◌+◌, ◌<◌, Bool, true, false, if◌then◌else◌, List, [], ◌∷◌, ◌++◌, map, Option, Some, None, unwrap_or, slice_get}
+use Rattle.std.proofs.Common.{◌≡◌, ◌∙◌, sym, ap, refl, subst, arith, ⊎_elim, ℕ, zero, suc, ◌+◌, ◌<◌, Bool, true, false, if◌then◌else◌, List, [], ◌∷◌, ◌++◌, map, Option, Some, None, unwrap_or, slice_get}
 use Rattle.pads_calc.specs.declared.decl.Decl.{Decl}
 use Rattle.pads_calc.specs.declared.term.Arm.{Arm}
 use Rattle.pads_calc.specs.declared.term.Case.{Case}
@@ -41,7 +41,7 @@ use Rattle.pads_trans.specs.Names.{Name, at_sign, number_of}
 use Rattle.law_descriptions.specs.Expressions.{SortScope, if_read, if_default, union_branches}
 use Rattle.law_descriptions.specs.Sorts as sorts_of
 use Rattle.law_descriptions.specs.Sorts.{num, text, named_sort, type_sort, behind_popt, body_sort}
-use Rattle.law_descriptions.specs.WellSorted.{AreSorts as AreSortsOf, IsNamed, IsType, IsBody, IsDecl, IfThere, params_scope}
+use Rattle.law_descriptions.specs.WellSorted.{AreSorts as AreSortsOf, MayBeCalled, TellsSort, TellsItself, IsNamed, IsType, IsBody, IsDecl, IfThere, params_scope}
 use Rattle.law_descriptions.proofs.Lists.{there-mapped}
 
 module _ (declared : List TermSort) where
@@ -149,7 +149,7 @@ module _ (declared : List TermSort) where
       base-means (base_name.Packed signed) args = refl
       base-means (base_name.Zoned signed) args = refl
 
-      named-means : (number : ℕ) → ((n : ℕ) → n < number → ReadMeans n) → (scope : SortScope) (given : List ExprTree) (args : List Expr) (name : TypeName) → IsNamed decls sorts number scope given name
+      named-means : (number : ℕ) → ((n : ℕ) → MayBeCalled decls sorts number n → ReadMeans n) → (scope : SortScope) (given : List ExprTree) (args : List Expr) (name : TypeName) → IsNamed decls sorts number scope given name
           → Means (named_sort sorts name) (sort_of declared (named_type ambient name args))
       named-means number before scope given args (type_name.Base b) h =
           subst (Means (sorts_of.base_sort b)) (sym (sort-by (term.Base (base_of ambient b args) args) (Term-F.Base (base_of ambient b args) args) (out-Base (base_of ambient b args) args))) (base-means b args)
@@ -164,14 +164,14 @@ module _ (declared : List TermSort) where
       popt-means true sort inner h = optional-means sort inner h
       popt-means false sort inner h = h
 
-      pub type-means : (number : ℕ) → ((n : ℕ) → n < number → ReadMeans n) → (scope : SortScope) (t : Typed) → IsType decls sorts number scope t
+      pub type-means : (number : ℕ) → ((n : ℕ) → MayBeCalled decls sorts number n → ReadMeans n) → (scope : SortScope) (t : Typed) → IsType decls sorts number scope t
           → Means (type_sort sorts t) (sort_of declared (type_of names ambient t))
       unfolding type_of bare_type
       type-means number before scope t h =
           popt-means t.optional (named_sort sorts t.name) (bare_type names ambient t) (named-means number before scope t.args (map (expr_of names) t.args) t.name h)
 
       -- bodies
-      body-means : (number : ℕ) → ((n : ℕ) → n < number → ReadMeans n) → (scope : SortScope) (inner : DeclBody) → sort_at declared number ≡ sort_of declared (body_of names ambient inner)
+      body-means : (number : ℕ) → ((n : ℕ) → MayBeCalled decls sorts number n → ReadMeans n) → (scope : SortScope) (inner : DeclBody) → sort_at declared number ≡ sort_of declared (body_of names ambient inner)
           → IsBody decls sorts number scope inner → Means (body_sort sorts number inner) (sort_of declared (body_of names ambient inner))
       unfolding body_of
       body-means number before scope (body.Struct s) is h = sym is
@@ -205,17 +205,38 @@ module _ (declared : List TermSort) where
         pub read-body : (n : ℕ) (d : DeclTree) → slice_get decls n ≡ Some d → if_read d.role d.body ≡ Some d.body → IsBody decls sorts n (params_scope d.params []) d.body
         read-body n d there is_read = subst (IfThere (IsBody decls sorts n (params_scope d.params []))) is_read (each n d there).2
 
+        -- a declaration that tells its sort itself
+        own-body : (n : ℕ) (inner : DeclBody) → TellsSort inner → sort_at declared n ≡ sort_of declared (body_of names ambient inner)
+            → Means (body_sort sorts n inner) (sort_of declared (body_of names ambient inner))
+        unfolding body_of
+        own-body n (body.Struct s) own is = sym is
+        own-body n (body.Union u) own is = sym is
+        own-body n (body.Array a) own is = (sym is, type_of names ambient a.of, array-sort a)
+        own-body n (body.Enum labels) own is = sym is
+        own-body n (body.Typedef t) own is = absurd own
+        own-body n (body.Opt inner) own is = absurd own
+
+        told-means : (n : ℕ) (d : DeclTree) → slice_get decls n ≡ Some d → sort_at declared n ≡ sort_of declared (body_of names ambient d.body)
+            → Means (body_sort sorts n d.body) (sort_of declared (body_of names ambient d.body)) → DeclMeans n
+        told-means n d there is mine =
+            subst (Means (unwrap_or (slice_get sorts n) num)) (sym is)
+            (subst (λ o. Means (unwrap_or o num) (sort_of declared (body_of names ambient d.body))) (sym (are_of n d there)) mine)
+
+        itself-means : (n : ℕ) → TellsItself (slice_get decls n) → ReadMeans n
+        itself-means n own d there is_read =
+            let is = read-sort n d there is_read in
+            told-means n d there is (own-body n d.body (subst TellsItself there own) is)
+
         below : (k n : ℕ) → n < k → ReadMeans n
         below zero n less d there is_read = absurd (omega arith)
         below (suc k) n less d there is_read =
             let is = read-sort n d there is_read in
-            let mine = body-means n (λ m earlier. below k m (omega arith)) (params_scope d.params []) d.body is (read-body n d there is_read) in
-            subst (Means (unwrap_or (slice_get sorts n) num)) (sym is)
-            (subst (λ o. Means (unwrap_or o num) (sort_of declared (body_of names ambient d.body))) (sym (are_of n d there)) mine)
+            told-means n d there is
+            (body-means n (λ m may. ⊎_elim (λ earlier. below k m (omega (arith, less, earlier))) (itself-means m) may) (params_scope d.params []) d.body is (read-body n d there is_read))
 
         -- each declaration that is read has values of its sort
         pub decl-means : (n : ℕ) → ReadMeans n
         decl-means n = below (n + 1) n (omega arith)
 
         pub any-type-means : (number : ℕ) (scope : SortScope) (t : Typed) → IsType decls sorts number scope t → Means (type_sort sorts t) (sort_of declared (type_of names ambient t))
-        any-type-means number scope t h = type-means number (λ n less. decl-means n) scope t h
+        any-type-means number scope t h = type-means number (λ n may. decl-means n) scope t h

@@ -45,10 +45,10 @@ use Rattle.law_descriptions.proofs.Lists.{all-append, either-one, mapped-there}
 
 module _ (names : List Name) (ambient : Coding) (decls : List DeclTree) (sorts : List Sort) (number : ℕ) where
   abbrev IsPlainTerm : Term → Type 0
-  IsPlainTerm = IsPlain number
+  IsPlainTerm = IsPlain
 
   unit-plain : IsPlainTerm term.Unit
-  unit-plain = plain-as number term.Unit Term-F.Unit out-Unit tt tt
+  unit-plain = plain-as term.Unit Term-F.Unit out-Unit tt tt
 
   -- types
   base-labels : (b : BaseName) (args : List Expr) → HasPlainLabels (base_of ambient b args)
@@ -66,13 +66,13 @@ module _ (names : List Name) (ambient : Coding) (decls : List DeclTree) (sorts :
   base-labels (base_name.Zoned signed) args = tt
 
   named-plain : (scope : SortScope) (given : List ExprTree) (args : List Expr) (name : TypeName) → IsNamed decls sorts number scope given name → IsPlainTerm (named_type ambient name args)
-  named-plain scope given args (type_name.Base b) h = plain-as number (term.Base (base_of ambient b args) args) (Term-F.Base (base_of ambient b args) args) (out-Base (base_of ambient b args) args) (base-labels b args) tt
-  named-plain scope given args (type_name.Declared n) h = plain-as number (term.Call n args) (Term-F.Call n args) (out-Call n args) h.0 tt
+  named-plain scope given args (type_name.Base b) h = plain-as (term.Base (base_of ambient b args) args) (Term-F.Base (base_of ambient b args) args) (out-Base (base_of ambient b args) args) (base-labels b args) tt
+  named-plain scope given args (type_name.Declared n) h = plain-as (term.Call n args) (Term-F.Call n args) (out-Call n args) tt tt
 
   optional-plain : (inner : Term) → IsPlainTerm inner → IsPlainTerm (optional names inner)
   unfolding optional
   optional-plain inner h =
-      plain-as number (term.Alt (some_arm names inner ∷ none_arm names ∷ [])) (Term-F.Alt (some_arm names inner ∷ none_arm names ∷ [])) (out-Alt (some_arm names inner ∷ none_arm names ∷ []))
+      plain-as (term.Alt (some_arm names inner ∷ none_arm names ∷ [])) (Term-F.Alt (some_arm names inner ∷ none_arm names ∷ [])) (out-Alt (some_arm names inner ∷ none_arm names ∷ []))
       tt (h, (unit-plain, tt))
 
   type-plain : (scope : SortScope) (t : Typed) → IsType decls sorts number scope t → IsPlainTerm (type_of names ambient t)
@@ -84,7 +84,7 @@ module _ (names : List Name) (ambient : Coding) (decls : List DeclTree) (sorts :
   constrained-plain : (inner : Term) (name : Name) (condition : Option ExprTree) → IsPlainTerm inner → IsPlainTerm (constrained names inner name condition)
   constrained-plain inner name None h = h
   constrained-plain inner name (Some e) h =
-      plain-as number (term.Guard inner (number_of names name) (expr_of names e)) (Term-F.Guard inner (number_of names name) (expr_of names e))
+      plain-as (term.Guard inner (number_of names name) (expr_of names e)) (Term-F.Guard inner (number_of names name) (expr_of names e))
       (out-Guard inner (number_of names name) (expr_of names e)) tt (h, tt)
 
   -- parts and branches
@@ -95,19 +95,19 @@ module _ (names : List Name) (ambient : Coding) (decls : List DeclTree) (sorts :
   literal-plain : (l : Literal) → IsPlainTerm (literal_of ambient l) × IsMark (out-Term (literal_of ambient l))
   literal-plain (literal.Word points) =
       let layer = out-Lit _ in
-      (plain-as number (text_of ambient points) (Term-F.Lit _) layer tt tt, subst IsMark (sym layer) tt)
-  literal-plain literal.Peor = (plain-as number term.Eor Term-F.Eor out-Eor tt tt, subst IsMark (sym out-Eor) tt)
+      (plain-as (text_of ambient points) (Term-F.Lit _) layer tt tt, subst IsMark (sym layer) tt)
+  literal-plain literal.Peor = (plain-as term.Eor Term-F.Eor out-Eor tt tt, subst IsMark (sym out-Eor) tt)
 
   absorbed-plain : (l : Literal) → IsPlainTerm (term.Absorb (literal_of ambient l))
   absorbed-plain l =
       let inner = literal-plain l in
-      plain-as number (term.Absorb (literal_of ambient l)) (Term-F.Absorb (literal_of ambient l)) (out-Absorb (literal_of ambient l)) inner.1 (inner.0, tt)
+      plain-as (term.Absorb (literal_of ambient l)) (Term-F.Absorb (literal_of ambient l)) (out-Absorb (literal_of ambient l)) inner.1 (inner.0, tt)
 
   searched-plain : (inner : Term) → IsPlainTerm inner → IsPlainTerm (term.Scan inner)
-  searched-plain inner h = plain-as number (term.Scan inner) (Term-F.Scan inner) (out-Scan inner) tt (h, tt)
+  searched-plain inner h = plain-as (term.Scan inner) (Term-F.Scan inner) (out-Scan inner) tt (h, tt)
 
   computed-plain : (e : Expr) (form : _) → IsPlainTerm (term.Compute e form)
-  computed-plain e form = plain-as number (term.Compute e form) (Term-F.Compute e form) (out-Compute e form) tt tt
+  computed-plain e form = plain-as (term.Compute e form) (Term-F.Compute e form) (out-Compute e form) tt tt
 
   part-plain : (scope : SortScope) (p : PartTree) → IsPart decls sorts number scope p → IsPlainTerm (part_of names ambient p).term
   unfolding part_of
@@ -124,7 +124,7 @@ module _ (names : List Name) (ambient : Coding) (decls : List DeclTree) (sorts :
   struct-plain scope s h =
       let parts = map (part_of names ambient) s.parts in
       constrained-plain (term.Struct parts) at_sign s.condition
-      (plain-as number (term.Struct parts) (Term-F.Struct parts) (out-Struct parts) tt (parts-plain scope s.parts h.1))
+      (plain-as (term.Struct parts) (Term-F.Struct parts) (out-Struct parts) tt (parts-plain scope s.parts h.1))
 
   arms-plain : (scope : SortScope) (branches : List Branch) → Each (IsBranch decls sorts number scope) branches → AllOf IsPlainTerm (map (λ arm. arm.term) (map (arm_of names ambient) branches))
   unfolding arm_of
@@ -142,10 +142,10 @@ module _ (names : List Name) (ambient : Coding) (decls : List DeclTree) (sorts :
   unfolding union_of switch_of
   union-plain scope (union.Branches branches) h =
       let arms = map (arm_of names ambient) branches in
-      plain-as number (term.Alt arms) (Term-F.Alt arms) (out-Alt arms) tt (arms-plain scope branches h.2)
+      plain-as (term.Alt arms) (Term-F.Alt arms) (out-Alt arms) tt (arms-plain scope branches h.2)
   union-plain scope (union.Pswitch s) h =
       let cases = map (case_of names ambient) s.cases ++ default_of names ambient s.default in
-      plain-as number (term.Switch (expr_of names s.value) cases) (Term-F.Switch (expr_of names s.value) cases) (out-Switch (expr_of names s.value) cases)
+      plain-as (term.Switch (expr_of names s.value) cases) (Term-F.Switch (expr_of names s.value) cases) (out-Switch (expr_of names s.value) cases)
       tt (cases-plain scope s.cases s.default h.2)
 
   -- arrays
@@ -166,14 +166,14 @@ module _ (names : List Name) (ambient : Coding) (decls : List DeclTree) (sorts :
   array-plain scope a h =
       let s = seq_of names ambient a in
       constrained-plain (term.Seq s) at_sign a.condition
-      (plain-as number (term.Seq s) (Term-F.Seq s) (out-Seq s) (is-separator (first separator a.options))
+      (plain-as (term.Seq s) (Term-F.Seq s) (out-Seq s) (is-separator (first separator a.options))
       (type-plain scope a.of h.0, all-append IsPlainTerm (if_there s.sep) (if_there s.stop) (separators-plain (first separator a.options)) (terminators-plain (first terminator a.options))))
 
   -- bodies
   enum-plain : (labels : _) → IsEnum decls sorts number labels → IsPlainTerm (enum_of ambient labels)
   enum-plain labels h =
       let b = base.Enum ambient (map label_of labels) in
-      plain-as number (term.Base b []) (Term-F.Base b []) (out-Base b []) h.1 tt
+      plain-as (term.Base b []) (Term-F.Base b []) (out-Base b []) h.1 tt
 
   typedef-plain : (inner : Term) (constraint : Option Constraint) → IsPlainTerm inner → IsPlainTerm (constrained_type names inner constraint)
   typedef-plain inner None h = h
@@ -202,4 +202,4 @@ pub module-plain : (d : Description) (ambient : Coding) → WellSorted d → Pla
 module-plain d ambient well number made there =
     let names = names_of d in
     let tree = mapped-there (decl_of names ambient) d.decls number made there in
-    subst (λ (made : Decl). IsPlain number made.body) tree.2 (decl-plain names ambient d.decls well.sorts number tree.0 (well.decls number tree.0 tree.1))
+    subst (λ (made : Decl). IsPlain made.body) tree.2 (decl-plain names ambient d.decls well.sorts number tree.0 (well.decls number tree.0 tree.1))

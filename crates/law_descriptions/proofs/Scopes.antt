@@ -21,7 +21,7 @@ use Rattle.pads_resolution.specs.JudgedNames.{as_named}
 use Rattle.pads_rules.specs.DeclRules.{same_name}
 use Rattle.pads_rules.specs.Faults.{breaks, when, again}
 use Rattle.pads_rules.specs.Pieces.{OfParam}
-use Rattle.pads_rules.specs.Resolving.{type_sort, param_named}
+use Rattle.pads_rules.specs.Resolving.{Sight, seen_from, type_sort, param_named}
 use Rattle.pads_rules.specs.Texts.{same_text}
 use Rattle.pads_rules.specs.Violations.{violations}
 use Rattle.pads_rules.specs.Sorts as rules
@@ -174,8 +174,8 @@ module _ (tree : Ast) (none : violations tree ≡ []) where
       none-right (when (list_any (same_name x) before) (breaks rule.NameAgain x.at)) (again same_name (λ (name : Name). breaks rule.NameAgain name.at) (before ++ x ∷ []) rest) free
 
   module _ (n : ℕ) (d : WrittenDecl) where
-    abbrev types : List Declared
-    types = take n (env tree none)
+    abbrev types : Sight
+    types = seen_from (env tree none) n
 
     abbrev as_variable : WrittenParam → Visible
     as_variable param = variable (param_named types param)

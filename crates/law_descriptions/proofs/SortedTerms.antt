@@ -30,7 +30,7 @@ use Rattle.law_calculus.specs.Sorts.{Sort as TermSort, Array, is_truth, sort_at,
 use Rattle.law_calculus.specs.Terms.{if_there}
 use Rattle.law_calculus.proofs.Layers.{out-Base, out-Seq}
 use Rattle.law_calculus.proofs.Made.{Each as AllOf, sorted-as}
-use Rattle.law_calculus.proofs.PlainSorts.{plain-sorts}
+use Rattle.law_calculus.proofs.ModuleSorts.{module-sorts}
 use Rattle.pads_trans.specs.Modules.{module_of}
 use Rattle.pads_trans.specs.Terms.{text_of, literal_of, label_of, first, separator, terminator, last, constrained_type, type_of, seq_of, array_of, body_of, read_body, decl_of}
 use Rattle.pads_trans.specs.Expressions.{option_of}
@@ -44,7 +44,6 @@ use Rattle.law_descriptions.proofs.Means.{Means, sort-by, array-sort, read-sort,
 use Rattle.law_descriptions.proofs.Meant.{scope-more}
 use Rattle.law_descriptions.proofs.SortedNames.{Known, all-met}
 use Rattle.law_descriptions.proofs.Options.{first-holds}
-use Rattle.law_descriptions.proofs.PlainTerms.{module-plain}
 use Rattle.law_descriptions.proofs.SortedParts as lower
 use Rattle.law_descriptions.proofs.SortedParts.{param_form, param_sort, params_of, number-has, truth-has, param-means}
 
@@ -220,5 +219,5 @@ module _ (d : Description) (ambient : Coding) (well : WellSorted d) (declared : 
 
 pub module-sorted : (d : Description) (ambient : Coding) → WellSorted d → Sorted (module_of d ambient).decls
 module-sorted d ambient well =
-    let sorts = plain-sorts (module_of d ambient).decls (module-plain d ambient well) in
+    let sorts = module-sorts (module_of d ambient).decls in
     sorted-with d ambient well sorts.0 sorts.1

@@ -16,9 +16,9 @@ use Rattle.pads_rules.specs.DeclRules.{decl_name}
 use Rattle.pads_rules.specs.Faults.{breaks}
 use Rattle.pads_rules.specs.PieceRules.{is_source_shape, is_header_shape}
 use Rattle.pads_rules.specs.Pieces.{body_pieces}
-use Rattle.pads_rules.specs.Resolving.{is_record_list_body, param_named, sort_in}
+use Rattle.pads_rules.specs.Resolving.{Sight, seen_from, is_record_list_body, param_named, sort_in}
 use Rattle.pads_rules.specs.Sorts as rules
-use Rattle.pads_ast.specs.Trees.{params_of, is_precord, is_psource}
+use Rattle.pads_ast.specs.Trees.{params_of, is_precord, is_psource, is_precursive}
 use Rattle.pads_rules.specs.Violations.{violations}
 use Rattle.pads_rules.specs.declared.declared.Declared.{Declared}
 use Rattle.pads_rules.specs.declared.rule.Rule.TheVariants as rule
@@ -29,17 +29,17 @@ use Rattle.law_descriptions.proofs.DescribedTypes.{used-sort}
 use Rattle.law_descriptions.proofs.Environment.{site_of, site-back}
 use Rattle.pads_rules.proofs.Faultless.{not-when}
 use Rattle.law_descriptions.proofs.Free.{FreePiece}
-use Rattle.law_descriptions.proofs.AcceptedTypes.{unless, IsReadAt, reads-at, env, made, sorts, free, few, body-pieces, earlier-length, sort-here, used-settled, decl-settled, optional-same}
+use Rattle.law_descriptions.proofs.AcceptedTypes.{unless, IsReadAt, reads-at, env, made, sorts, free, few, body-pieces, sort-here, used-settled, decl-settled, optional-same}
 
 module _ (tree : Ast) (none : violations tree ≡ []) (n : ℕ) (d : WrittenDecl) (there : slice_get tree.decls n ≡ Some d) where
-  abbrev types : List Declared
-  types = take n (env tree none)
+  abbrev types : Sight
+  types = seen_from (env tree none) n
 
   -- what is no source shape is read
   shapeless : is_record_list_body types d.body ≡ false → is_header_shape types d.body ≡ false → IsReadAt tree.decls n d
   shapeless no_list no_header =
       let site = site_of tree.decls n d in
-      let list = and_right (not (is_precord d.mark)) (is_record_list_body types d.body) no_list in
+      let list = and_right (not (is_precord d.mark || is_precursive d.mark)) (is_record_list_body types d.body) no_list in
       let shape : is_source_shape site ≡ false = ap (λ b. b || (is_psource d.mark && is_header_shape types d.body)) list ∙ and_right (is_psource d.mark) (is_header_shape types d.body) no_header in
       let marked = unless (is_psource d.mark) ((suc n == length tree.decls) && is_source_shape site)
       (not-when (is_psource d.mark && not ((suc n == length tree.decls) && is_source_shape site)) (breaks rule.MisplacedSource (decl_name site).at) (free tree none n d there).misplaced)
@@ -48,10 +48,10 @@ module _ (tree : Ast) (none : violations tree ≡ []) (n : ℕ) (d : WrittenDecl
 
   sorts-by : (inner : WrittenBody) → d.body ≡ inner → sort_known (sort_in types inner) ≡ sorts_of.body_sort (sorts tree none) n (made_body (site_of tree.decls n d) (made_params (site_of tree.decls n d)) inner)
   unfolding made_body typedef_at
-  sorts-by (written_body.Struct b) is = ap (λ (k : ℕ). sorts_of.plain (form.Struct k)) (earlier-length tree none n d there)
-  sorts-by (written_body.Union b) is = ap (λ (k : ℕ). sorts_of.plain (form.Union k)) (earlier-length tree none n d there)
-  sorts-by (written_body.Array b) is = ap (λ (k : ℕ). sorts_of.plain (form.Array k)) (earlier-length tree none n d there)
-  sorts-by (written_body.Enum b) is = ap (λ (k : ℕ). sorts_of.plain (form.Enum k)) (earlier-length tree none n d there)
+  sorts-by (written_body.Struct b) is = refl
+  sorts-by (written_body.Union b) is = refl
+  sorts-by (written_body.Array b) is = refl
+  sorts-by (written_body.Enum b) is = refl
   sorts-by (written_body.Typedef b) is =
       let reads = shapeless (ap (is_record_list_body types) is) (ap (is_header_shape types) is) in
       let pieces = subst (λ inner. Each (FreePiece (site_of tree.decls n d)) (body_pieces types n (map (param_named types) (params_of d.body)) inner)) is (body-pieces tree none n d there) in

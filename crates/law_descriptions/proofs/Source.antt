@@ -17,24 +17,19 @@ use Rattle.pads_resolution.specs.declared.decl.Source.{Source}
 use Rattle.pads_resolution.specs.Numbers.{short, number_of}
 use Rattle.pads_resolution.specs.Resolution.{named_number, listed_record, list_record, plain_source, parts_source, shaped_source, source_by, source_after, source_of, decl_at, resolved}
 use Rattle.pads_rules.specs.Faults.{breaks}
-use Rattle.pads_rules.specs.Pieces.{Site, sites, earlier}
-use Rattle.pads_rules.specs.Resolving.{declared}
+use Rattle.pads_rules.specs.Pieces.{Site, sites, sight}
+use Rattle.pads_rules.specs.Resolving.{Sight, seen_from, declared}
 use Rattle.pads_rules.specs.Texts.{same_text}
 use Rattle.pads_ast.specs.Trees.{is_precord}
 use Rattle.pads_rules.specs.Violations.{violations}
 use Rattle.pads_rules.specs.declared.declared.Declared.{Declared}
 use Rattle.pads_rules.specs.declared.rule.Rule.TheVariants as rule
 use Rattle.law_descriptions.specs.WellSorted.{Each, IfThere}
-use Rattle.law_descriptions.proofs.Environment.{env-length}
+use Rattle.law_descriptions.proofs.Outlines.{env-length}
 use Rattle.pads_rules.proofs.Faultless.{not-when}
 use Rattle.law_descriptions.proofs.Free.{some_record_type}
 use Rattle.law_descriptions.proofs.AcceptedLists.{get-there}
 use Rattle.law_descriptions.proofs.AcceptedTypes.{few as few-here}
-
-taken-within : {A : Type 0} (xs : List A) (n : ℕ) → length (take n xs) ≤ length xs
-taken-within xs zero = omega arith
-taken-within [] (suc n) = omega arith
-taken-within (x ∷ xs) (suc n) = let h = taken-within xs n in omega (arith, h)
 
 short-below : (k l : ℕ) → k < l → short k < l
 short-below k l less = omega arith
@@ -48,9 +43,9 @@ module _ (l : ℕ) (some : 0 < l) where
       by true is = let h = ltb-true (position_or_len p xs) (length xs) is in short-below (position_or_len p xs) l (omega arith)
       by false is = some
 
-  named-below : (types : List Declared) (t : «Type») → length types ≤ l → named_number types t < l
+  named-below : (types : Sight) (t : «Type») → length types.types ≤ l → named_number types t < l
   unfolding named_number
-  named-below types t within = place-below (λ declared. same_text declared.name t.name.text) types within
+  named-below types t within = place-below (λ declared. same_text declared.name t.name.text) types.types within
 
   abbrev IsThere : Source → Type 0
   IsThere source = (source.«record» < l) × IfThere (λ number. number < l) source.header
@@ -58,10 +53,7 @@ module _ (l : ℕ) (some : 0 < l) where
   abbrev IsSite : Site → Type 0
   IsSite site = (length site.env ≤ l) × (site.number < l)
 
-  earlier-within : (site : Site) → IsSite site → length (earlier site) ≤ l
-  earlier-within site h = let a = taken-within site.env site.number in let b = h.0 in omega (arith, a, b)
-
-  listed-below : (types : List Declared) (inner : WrittenBody) → length types ≤ l → listed_record types inner < l
+  listed-below : (types : Sight) (inner : WrittenBody) → length types.types ≤ l → listed_record types inner < l
   listed-below types (written_body.Array d) within = named-below types d.of within
   listed-below types (written_body.Struct d) within = some
   listed-below types (written_body.Union d) within = some
@@ -75,20 +67,20 @@ module _ (l : ℕ) (some : 0 < l) where
     where
       found : Option WrittenDecl → ℕ
       found None = 0
-      found (Some d) = listed_record (take list site.env) d.body
+      found (Some d) = listed_record (seen_from site.env list) d.body
 
       by : (o : Option WrittenDecl) → found o < l
       by None = some
-      by (Some d) = listed-below (take list site.env) d.body (let a = taken-within site.env list in let b = h.0 in omega (arith, a, b))
+      by (Some d) = listed-below (seen_from site.env list) d.body h.0
 
   parts-there : (site : Site) (parts : List WrittenPart) → IsSite site → IsThere (parts_source site parts)
   parts-there site (written_part.Field header ∷ written_part.Field list ∷ []) h =
-      (list-below site (named_number (earlier site) list.of) h, named-below (earlier site) header.of (earlier-within site h))
+      (list-below site (named_number (sight site) list.of) h, named-below (sight site) header.of h.0)
   parts-there site _ h = (some, tt)
 
   shaped-there : (site : Site) (inner : WrittenBody) → IsSite site → IsThere (shaped_source site inner)
   shaped-there site (written_body.Struct d) h = parts-there site d.parts h
-  shaped-there site (written_body.Array d) h = (named-below (earlier site) d.of (earlier-within site h), tt)
+  shaped-there site (written_body.Array d) h = (named-below (sight site) d.of h.0, tt)
   shaped-there site (written_body.Union d) h = (some, tt)
   shaped-there site (written_body.Enum d) h = (some, tt)
   shaped-there site (written_body.Typedef d) h = (some, tt)
@@ -98,6 +90,7 @@ module _ (l : ℕ) (some : 0 < l) where
   by-mark None source site h is = is
   by-mark (Some mark.Precord) source site h is = (short-below site.number l h.1, tt)
   by-mark (Some mark.Psource) source site h is = shaped-there site site.decl.body h
+  by-mark (Some mark.Precursive) source site h is = is
 
   folded-there : (all : List Site) (source : Source) → Each IsSite all → IsThere source → IsThere (fold source_after source all)
   unfolding source_after

@@ -23,7 +23,7 @@ use Rattle.pads_resolution.specs.JudgedNames.{as_named}
 use Rattle.pads_rules.specs.DeclRules.{part_count}
 use Rattle.pads_ast.specs.NameTokens.{names_in_option, names_in_part}
 use Rattle.pads_rules.specs.Pieces.{Site, Piece, conditions, part_pieces, parts_pieces, names_after as rule_names_after, names_after_all, texts_of_parts, struct_pieces, scope_of}
-use Rattle.pads_rules.specs.Resolving.{type_sort, named}
+use Rattle.pads_rules.specs.Resolving.{Sight, seen_from, type_sort, named}
 use Rattle.pads_ast.specs.Trees.{named_part, part_names}
 use Rattle.pads_rules.specs.Violations.{violations}
 use Rattle.pads_rules.specs.declared.declared.Declared.{Declared}
@@ -52,8 +52,8 @@ module _ (tree : Ast) (none : violations tree ≡ []) (n : ℕ) (d : WrittenDecl
   abbrev Free_here : Piece → Type 0
   Free_here = FreePiece site
 
-  abbrev types : List Declared
-  types = take n (env tree none)
+  abbrev types : Sight
+  types = seen_from (env tree none) n
 
   abbrev IsKnownHere : (Sort → Type 0) → ExprSort → Type 0
   IsKnownHere = IsKnown (env tree none) (made tree none)

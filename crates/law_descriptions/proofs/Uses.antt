@@ -1,5 +1,5 @@
 -- What types, arguments and conditions of a description without violations are.
-use Rattle.std.proofs.Common.{◌≡◌, ◌∙◌, sym, ap, ap₂, refl, subst, arith, ◌⊎◌, inl, inr, ⊎_elim, ℕ, zero, suc, ◌+◌, Bool, true, false, not, ◌&&◌, ◌||◌, ◌==◌, List, [], ◌∷◌, map, flat_map, length, take, Option, Some, None, slice_get, eqb-true}
+use Rattle.std.proofs.Common.{◌≡◌, ◌∙◌, sym, ap, ap₂, refl, subst, arith, ◌⊎◌, inl, inr, ⊎_elim, ℕ, zero, suc, ◌+◌, ◌<◌, Bool, true, false, not, ◌&&◌, ◌||◌, ◌==◌, List, [], ◌∷◌, map, flat_map, length, take, Option, Some, None, slice_get, eqb-true}
 use Rattle.std.specs.List.{enumerate_from}
 use Rattle.std.proofs.lemmas.List.{length-map}
 use Rattle.std.proofs.lemmas.Bool.{not-false, and_parts}
@@ -31,10 +31,13 @@ use Rattle.pads_rules.specs.Judging.{Judged, judged, wrong_sort, no_truth}
 use Rattle.pads_ast.specs.NameTokens.{names_in_expr, names_in_arg}
 use Rattle.pads_rules.specs.PieceRules.{takes_so_many, is_count_of, base_params, params_in, takes_end, agrees_with, argument_sort, argument_faults, is_bare, is_base, is_param_base}
 use Rattle.pads_rules.specs.Pieces.{Site, Used, OfParam}
-use Rattle.pads_rules.specs.Resolving.{Meaning, Base, Earlier, meaning, meaning_sort, behind_popt, type_sort, plain_meaning, declare}
+use Rattle.pads_rules.specs.Resolving.{Meaning, Base, Known, seen_from, meaning, meaning_sort, behind_popt, type_sort, plain_meaning, declare}
 use Rattle.pads_rules.specs.Sorts as rules
 use Rattle.pads_rules.specs.Sorts.{accepts, agree, is_num_form, is_text_form, is_truth_form}
-use Rattle.pads_ast.specs.Trees.{is_empty, args_of, params_of}
+use Rattle.pads_ast.specs.Trees.{is_empty, args_of, params_of, is_precursive}
+use Rattle.pads_ast.specs.declared.decl.DeclBody.{DeclBody as WrittenBody}
+use Rattle.pads_ast.specs.declared.decl.DeclBody.TheVariants as written_body
+use Rattle.pads_rules.specs.DeclRules.{may_recur}
 use Rattle.pads_rules.specs.Violations.{violations}
 use Rattle.pads_rules.specs.declared.declared.Declared.{Declared}
 use Rattle.pads_rules.specs.declared.expr_sort.ExprSort.{ExprSort}
@@ -42,7 +45,7 @@ use Rattle.pads_rules.specs.declared.expr_sort.ExprSort.TheVariants as expr_sort
 use Rattle.pads_rules.specs.declared.rule.Rule.TheVariants as rule
 use Rattle.law_descriptions.specs.Expressions.{SortScope, sort_in}
 use Rattle.law_descriptions.specs.Sorts as sorts_of
-use Rattle.law_descriptions.specs.WellSorted.{AreTaken, HaveSorts, IsCall, IsNamed, IsType, param_sorts}
+use Rattle.law_descriptions.specs.WellSorted.{AreTaken, HaveSorts, TellsSort, TellsItself, MayBeCalled, IsCall, IsNamed, IsType, param_sorts}
 use Rattle.law_descriptions.proofs.Lists.{each-left, each-right, each-there, there-mapped, mapped-there}
 use Rattle.law_descriptions.specs.Described.{AreSpelled, IsSpelled, Typed, Sees}
 use Rattle.law_descriptions.proofs.Described.{described}
@@ -53,7 +56,7 @@ use Rattle.law_descriptions.proofs.Forms.{num-form, truth-form}
 use Rattle.law_descriptions.proofs.Free.{FreePiece}
 use Rattle.law_descriptions.proofs.Typed.{lawful}
 use Rattle.law_descriptions.proofs.TypedOperators.{known-operand}
-use Rattle.law_descriptions.proofs.AcceptedTypes.{base-plain, IsReadAt, shape-off, Named, base-named, earlier-named, named-at, meaning-base, meaning-earlier, used-known, param-known, no-list, read-if, env, made, sorts, free, few, made-there, earlier-read, short-is}
+use Rattle.law_descriptions.proofs.AcceptedTypes.{base-plain, IsReadAt, shape-off, Named, base-named, type-named, named-at, meaning-base, meaning-known, used-known, param-known, no-list, read-if, env, made, sorts, free, few, recur, made-there, named-read, short-is}
 
 -- sorts that are the same
 pub sort-is : (s : Sort) (f : Form) → s.optional ≡ 0 → s.form ≡ f → s ≡ sorts_of.plain f
@@ -96,9 +99,9 @@ param-base None b m is h =
     ⊎_elim (λ number. (sorts_of.num, ap meaning_sort is ∙ number, inl refl)) (λ words. (sorts_of.text, ap meaning_sort is ∙ words, inr refl)) (base-plain b)
 param-base (Some place) b m is h = cc
 
-param-earlier : (o : Option ℕ) (x : Declared) (m : Meaning) → m ≡ Earlier x → is_base is_param_base (unless_popt o m) ≡ true → ⊥
-param-earlier None x m is h = let e = sym (ap (is_base is_param_base) is) ∙ h in cc
-param-earlier (Some place) x m is h = cc
+param-declared : (o : Option ℕ) (x : Declared) (m : Meaning) → m ≡ Known x → is_base is_param_base (unless_popt o m) ≡ true → ⊥
+param-declared None x m is h = let e = sym (ap (is_base is_param_base) is) ∙ h in cc
+param-declared (Some place) x m is h = cc
 
 module _ (tree : Ast) (none : violations tree ≡ []) where
   abbrev TypedHere : SortScope → Expr → ExprSort → Type 0
@@ -118,24 +121,24 @@ module _ (tree : Ast) (none : violations tree ≡ []) where
 
   -- a parameter of a declaration
   pub param-sort : (n : ℕ) (d : WrittenDecl) (param : WrittenParam) → FreePiece (site_of tree.decls n d) (OfParam param.of)
-      → (s : Sort) × (type_sort (take n (env tree none)) param.of ≡ expr_sort.Known s) × ((s ≡ sorts_of.num) ⊎ (s ≡ sorts_of.text))
+      → (s : Sort) × (type_sort (seen_from (env tree none) n) param.of ≡ expr_sort.Known s) × ((s ≡ sorts_of.num) ⊎ (s ≡ sorts_of.text))
   param-sort n d param piece =
       let site = site_of tree.decls n d in
       let t = param.of in
-      let types = take n (env tree none) in
+      let types = seen_from (env tree none) n in
       let m = meaning types t.name.text in
       let plain : is_base is_param_base (unless_popt t.optional m) ≡ true =
       sym (ap (is_base is_param_base) (plain-is types t))
       ∙ (and_parts (is_base is_param_base (plain_meaning types t)) (is_empty (args_of t)) (not-false (is_bare is_param_base site t) (not-when (not (is_bare is_param_base site t)) (breaks rule.ParameterType t.name.at) piece.params))).0 in
-      by t m plain (named-at tree.decls n t.name.text (param-known site t piece))
+      by t m plain (named-at tree.decls (recur tree none) n t.name.text (param-known site t piece))
     where
-      by : (t : «Type») (m : Meaning) → is_base is_param_base (unless_popt t.optional (meaning (take n (env tree none)) t.name.text)) ≡ true → Named tree.decls n t.name.text
-          → (s : Sort) × (type_sort (take n (env tree none)) t ≡ expr_sort.Known s) × ((s ≡ sorts_of.num) ⊎ (s ≡ sorts_of.text))
+      by : (t : «Type») (m : Meaning) → is_base is_param_base (unless_popt t.optional (meaning (seen_from (env tree none) n) t.name.text)) ≡ true → Named tree.decls n t.name.text
+          → (s : Sort) × (type_sort (seen_from (env tree none) n) t ≡ expr_sort.Known s) × ((s ≡ sorts_of.num) ⊎ (s ≡ sorts_of.text))
       by t m plain (base-named b is) =
-          param-base t.optional b (meaning (take n (env tree none)) t.name.text) (meaning-base (take n (env tree none)) t.name.text b is) plain
-      by t m plain (earlier-named k e none_base less there found place) =
-          absurd (param-earlier t.optional (declare (take k (env tree none)) e) (meaning (take n (env tree none)) t.name.text)
-          (meaning-earlier (take n (env tree none)) t.name.text (declare (take k (env tree none)) e) none_base found) plain)
+          param-base t.optional b (meaning (seen_from (env tree none) n) t.name.text) (meaning-base (seen_from (env tree none) n) t.name.text b is) plain
+      by t m plain (type-named k e none_base may there found place) =
+          absurd (param-declared t.optional (declare (seen_from (env tree none) k) e) (meaning (seen_from (env tree none) n) t.name.text)
+          (meaning-known (seen_from (env tree none) n) t.name.text (declare (seen_from (env tree none) k) e) none_base found) plain)
 
   -- expressions
   pub expr-typed : (n : ℕ) (d : WrittenDecl) (e : Tree) (names : Names) (later : List (List ℕ)) (w : SortScope) → SeesHere names w → AreSpelled (names_in_expr e) → (judged_here e names later).faults ≡ []
@@ -266,59 +269,76 @@ module _ (tree : Ast) (none : violations tree ≡ []) where
 
     -- the parameters of a declaration
     abbrev made_params_of : ℕ → WrittenDecl → List Param
-    made_params_of k e = map (param_of (take k (env tree none))) (params_of e.body)
+    made_params_of k e = map (param_of (seen_from (env tree none) k)) (params_of e.body)
 
     wanted-there : (k : ℕ) (e : WrittenDecl) → slice_get tree.decls k ≡ Some e → (j : ℕ) (p : Sort) → slice_get (param_sorts (made_params_of k e)) j ≡ Some p
-        → slice_get (map (λ (param : WrittenParam). type_sort (take k (env tree none)) param.of) (params_of e.body)) (0 + j) ≡ Some (expr_sort.Known p)
+        → slice_get (map (λ (param : WrittenParam). type_sort (seen_from (env tree none) k) param.of) (params_of e.body)) (0 + j) ≡ Some (expr_sort.Known p)
     unfolding param_of
     wanted-there k e there j p found =
         let x = mapped-there (λ (param : Param). param.sort) (made_params_of k e) j p found in
-        let y = mapped-there (param_of (take k (env tree none))) (params_of e.body) j x.0 x.1 in
+        let y = mapped-there (param_of (seen_from (env tree none) k)) (params_of e.body) j x.0 x.1 in
         let pieces = each-left (FreePiece (site_of tree.decls k e)) (map (λ (param : WrittenParam). OfParam param.of) (params_of e.body)) _ (free tree none k e there).at_pieces in
         let piece = each-there (FreePiece (site_of tree.decls k e)) (map (λ (param : WrittenParam). OfParam param.of) (params_of e.body)) j (OfParam (y.0).of) pieces
         (there-mapped (λ (param : WrittenParam). OfParam param.of) (params_of e.body) j y.0 y.1) in
         let s = param-sort k e y.0 piece in
-        let is : sort_known (type_sort (take k (env tree none)) (y.0).of) ≡ p = ap (λ (param : Param). param.sort) y.2 ∙ x.2 in
+        let is : sort_known (type_sort (seen_from (env tree none) k) (y.0).of) ≡ p = ap (λ (param : Param). param.sort) y.2 ∙ x.2 in
         let same : s.0 ≡ p = sym (ap sort_known s.1) ∙ is in
         let number : 0 + j ≡ j = omega arith in
-        ap (slice_get (map (λ (param : WrittenParam). type_sort (take k (env tree none)) param.of) (params_of e.body))) number
-        ∙ there-mapped (λ (param : WrittenParam). type_sort (take k (env tree none)) param.of) (params_of e.body) j y.0 y.1
+        ap (slice_get (map (λ (param : WrittenParam). type_sort (seen_from (env tree none) k) param.of) (params_of e.body))) number
+        ∙ there-mapped (λ (param : WrittenParam). type_sort (seen_from (env tree none) k) param.of) (params_of e.body) j y.0 y.1
         ∙ ap (λ s. Some s) (s.1 ∙ ap (λ s. expr_sort.Known s) same)
 
     abbrev UsedHere : «Type» → Type 0
     UsedHere t = FreePiece site (Used (judging_scope names later) t)
 
-    count-rule : (t : «Type») → UsedHere t → is_count_of (meaning (take n (env tree none)) t.name.text) (length (args_of t)) ≡ true
+    count-rule : (t : «Type») → UsedHere t → is_count_of (meaning (seen_from (env tree none) n) t.name.text) (length (args_of t)) ≡ true
     count-rule t piece =
-        let ok = is_count_of (meaning (take n (env tree none)) t.name.text) (length (args_of t)) in not-false ok (not-when (not ok) (breaks rule.ArgumentCount t.name.at) piece.counts)
+        let ok = is_count_of (meaning (seen_from (env tree none) n) t.name.text) (length (args_of t)) in not-false ok (not-when (not ok) (breaks rule.ArgumentCount t.name.at) piece.counts)
+
+    -- what may recur tells its sort itself
+    tells : (at : Site) (params : Names) (inner : WrittenBody) → may_recur inner ≡ true → TellsSort (made_body at params inner)
+    unfolding made_body
+    tells at params (written_body.Struct b) h = tt
+    tells at params (written_body.Union b) h = tt
+    tells at params (written_body.Array b) h = tt
+    tells at params (written_body.Enum b) h = cc
+    tells at params (written_body.Typedef b) h = cc
+    tells at params (written_body.Opt b) h = cc
+
+    may-call : (k : ℕ) (e : WrittenDecl) → slice_get tree.decls k ≡ Some e → (k < n) ⊎ (is_precursive e.mark ≡ true) → MayBeCalled (made tree none) (sorts tree none) n k
+    unfolding decl_at
+    may-call k e named (inl less) = inl less
+    may-call k e named (inr marked) =
+        inr (subst TellsItself (sym (made-there tree none k e named)) (tells (site_of tree.decls k e) (made_params (site_of tree.decls k e)) e.body (recur tree none k e named marked)))
 
     named-typed : slice_get tree.decls n ≡ Some d → IsReadAt tree.decls n d → (t : «Type») → UsedHere t → Spelled (args_of t) → Named tree.decls n t.name.text
-        → IsNamed (made tree none) (sorts tree none) n w (made_args (args_of t)) (named_type (take n (env tree none)) t)
+        → IsNamed (made tree none) (sorts tree none) n w (made_args (args_of t)) (named_type (seen_from (env tree none) n) t)
     unfolding named_type decl_at
     named-typed there reads t piece spelled (base-named b is) =
-        let m = meaning-base (take n (env tree none)) t.name.text b is in
-        subst (λ o. IsNamed (made tree none) (sorts tree none) n w (made_args (args_of t)) (type_name_of o (declared_number (take n (env tree none)) t.name.text))) (sym is)
+        let m = meaning-base (seen_from (env tree none) n) t.name.text b is in
+        subst (λ o. IsNamed (made tree none) (sorts tree none) n w (made_args (args_of t)) (type_name_of o (declared_number (env tree none) t.name.text))) (sym is)
         (base-typed b (args_of t) (sym (ap (λ m. is_count_of m (length (args_of t))) m) ∙ count-rule t piece) spelled piece.expressions
         (subst (λ m. SortedArgs m (args_of t)) m piece.arguments))
-    named-typed there reads t piece spelled (earlier-named k e none_base less named found place) =
-        let types = take n (env tree none) in
-        let x = declare (take k (env tree none)) e in
-        let m = meaning-earlier types t.name.text x none_base found in
+    named-typed there reads t piece spelled (type-named k e none_base may named found place) =
+        let types = seen_from (env tree none) n in
+        let x = declare (seen_from (env tree none) k) e in
+        let m = meaning-known types t.name.text x none_base found in
         let list = no-list site t piece.records (shape-off tree.decls n d reads) in
-        let read = earlier-read tree none n k d e t.name.text there named less none_base found list in
+        let read = named-read tree none n k d e t.name.text there named may none_base found list in
         let number = short-is tree none k (few tree none k e named) in
         let counted = eqb-true (length (args_of t)) (length x.params) (sym (ap (λ m. is_count_of m (length (args_of t))) m) ∙ count-rule t piece) in
         let long : length (args_of t) ≡ length (param_sorts (made_params_of k e)) =
-        counted ∙ length-map (params_of e.body) (λ (param : WrittenParam). type_sort (take k (env tree none)) param.of)
-        ∙ sym (length-map (params_of e.body) (param_of (take k (env tree none)))) ∙ sym (length-map (made_params_of k e) (λ (param : Param). param.sort)) in
-        let given = arguments-typed (Earlier x) (length (args_of t)) (args_of t) 0 (param_sorts (made_params_of k e)) refl (wanted-there k e named) long spelled piece.expressions
+        counted ∙ length-map (params_of e.body) (λ (param : WrittenParam). type_sort (seen_from (env tree none) k) param.of)
+        ∙ sym (length-map (params_of e.body) (param_of (seen_from (env tree none) k))) ∙ sym (length-map (made_params_of k e) (λ (param : Param). param.sort)) in
+        let given = arguments-typed (Known x) (length (args_of t)) (args_of t) 0 (param_sorts (made_params_of k e)) refl (wanted-there k e named) long spelled piece.expressions
         (subst (λ m. SortedArgs m (args_of t)) m piece.arguments) in
+        let called : MayBeCalled (made tree none) (sorts tree none) n k = may-call k e named may in
         let call : IsCall (made tree none) (sorts tree none) n w (made_args (args_of t)) k =
-        (less, decl_at (site_of tree.decls k e), made-there tree none k e named, read-if (role_of (site_of tree.decls k e)) (made_body (site_of tree.decls k e) (made_params (site_of tree.decls k e)) e.body) read, given) in
-        subst (λ o. IsNamed (made tree none) (sorts tree none) n w (made_args (args_of t)) (type_name_of o (declared_number types t.name.text))) (sym none_base)
+        (called, decl_at (site_of tree.decls k e), made-there tree none k e named, read-if (role_of (site_of tree.decls k e)) (made_body (site_of tree.decls k e) (made_params (site_of tree.decls k e)) e.body) read, given) in
+        subst (λ o. IsNamed (made tree none) (sorts tree none) n w (made_args (args_of t)) (type_name_of o (declared_number (env tree none) t.name.text))) (sym none_base)
         (subst (λ o. IsNamed (made tree none) (sorts tree none) n w (made_args (args_of t)) (declared_type o)) (sym place)
         (subst (IsCall (made tree none) (sorts tree none) n w (made_args (args_of t))) (sym number) call))
 
     pub type-typed : slice_get tree.decls n ≡ Some d → IsReadAt tree.decls n d → (t : «Type») → UsedHere t → Spelled (args_of t) → IsType (made tree none) (sorts tree none) n w (type_at site names t)
     unfolding type_at
-    type-typed there reads t piece spelled = named-typed there reads t piece spelled (named-at tree.decls n t.name.text (used-known site (judging_scope names later) t piece))
+    type-typed there reads t piece spelled = named-typed there reads t piece spelled (named-at tree.decls (recur tree none) n t.name.text (used-known site (judging_scope names later) t piece))

@@ -1,5 +1,5 @@
 -- Well-sorted descriptions: each expression has the sort that its use asks for, calls name earlier
--- declarations, and 16 bits count what is counted.
+-- declarations or such as tell their sort themselves, and 16 bits count what is counted.
 use Rattle.std.specs.Prelude.{◌≡◌, ◌⊎◌, ⊤, ℕ, ◌<◌, true, List, [], ◌∷◌, map, length, Option, Some, None, slice_get}
 use Rattle.pads_base_names.specs.Names.{takes}
 use Rattle.pads_base_names.specs.declared.meaning.Takes.{Takes}
@@ -74,6 +74,19 @@ params_scope (param ∷ params) scope = params_scope params ((param.name, param.
 abbrev pub param_sorts : List Param → List Sort
 param_sorts params = map (λ param. param.sort) params
 
+-- A body tells the sort of its values itself: it doesn't have that of another declaration.
+abbrev pub TellsSort : DeclBody → Type 0
+TellsSort (body.Struct s) = ⊤
+TellsSort (body.Union u) = ⊤
+TellsSort (body.Array a) = ⊤
+TellsSort (body.Enum labels) = ⊤
+TellsSort (body.Typedef t) = ⊥
+TellsSort (body.Opt inner) = ⊥
+
+abbrev pub TellsItself : Option Decl → Type 0
+TellsItself None = ⊥
+TellsItself (Some d) = TellsSort d.body
+
 -- of these declarations, whose values have these sorts
 module _ (decls : List Decl) (sorts : List Sort) where
   abbrev pub HasSort : SortScope → Expr → Sort → Type 0
@@ -98,10 +111,14 @@ module _ (decls : List Decl) (sorts : List Sort) where
 
   -- in the declaration of this number
   module _ (number : ℕ) where
-    -- A call names an earlier declaration that is read, and has arguments for its parameters.
+    -- A declaration that may be called from here: an earlier one, or any that tells its sort itself.
+    abbrev pub MayBeCalled : ℕ → Type 0
+    MayBeCalled n = (n < number) ⊎ TellsItself (slice_get decls n)
+
+    -- A call names such a declaration that is read, and has arguments for its parameters.
     abbrev pub IsCall : SortScope → List Expr → ℕ → Type 0
     IsCall scope args n =
-        (n < number) × (d : Decl) × (slice_get decls n ≡ Some d) × (if_read d.role d.body ≡ Some d.body)
+        MayBeCalled n × (d : Decl) × (slice_get decls n ≡ Some d) × (if_read d.role d.body ≡ Some d.body)
         × HaveSorts scope args (param_sorts d.params)
 
     abbrev pub IsNamed : SortScope → List Expr → TypeName → Type 0

@@ -81,9 +81,17 @@ points_of (word.Text points at) = points
 abbrev pub is_precord : Option DeclMark → Bool
 is_precord (Some mark.Precord) = true
 is_precord (Some mark.Psource) = false
+is_precord (Some mark.Precursive) = false
 is_precord None = false
 
 abbrev pub is_psource : Option DeclMark → Bool
 is_psource (Some mark.Precord) = false
 is_psource (Some mark.Psource) = true
+is_psource (Some mark.Precursive) = false
 is_psource None = false
+
+abbrev pub is_precursive : Option DeclMark → Bool
+is_precursive (Some mark.Precord) = false
+is_precursive (Some mark.Psource) = false
+is_precursive (Some mark.Precursive) = true
+is_precursive None = false

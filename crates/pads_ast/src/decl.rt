@@ -118,6 +118,7 @@ pub enum DeclBody {
 pub enum DeclMark {
     Precord,
     Psource,
+    Precursive,
 }
 
 #[derive(Debug, Drop)]

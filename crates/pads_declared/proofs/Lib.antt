@@ -1,3 +1,4 @@
+pub mod LeadLemmas
 pub mod Lists
 pub mod MemberLemmas
 pub mod NameLemmas

@@ -1,13 +1,9 @@
 -- The first type of a name among some, as their table finds it.
-use Rattle.std.proofs.Common.{◌≡◌, ◌∙◌, sym, ap, refl, ℕ, zero, suc, ◌<◌, ◌≤◌, nat_lt, Bool, true, false, cond, List, [], ◌∷◌, length, take, Option, Some, None, find, position, slice_get, ltb-true, ltb-false, lt-ltb, arith}
-use Rattle.std.specs.List.{position_or_len}
+use Rattle.std.proofs.Common.{◌≡◌, ◌∙◌, sym, ap, refl, ℕ, zero, suc, nat_lt, Bool, true, false, ◌||◌, cond, List, [], ◌∷◌, length, take, Option, Some, None, is_some, find, position, slice_get, ltb-false, arith}
+use Rattle.std.specs.List.{position_or_len, list_any}
 use Rattle.std.proofs.lemmas.List.Folds.{find_at}
 use Rattle.std.proofs.lemmas.Option.{slice_get_past}
-use Rattle.pads_rules.specs.declared.declared.Declared.{Declared}
-use Rattle.pads_rules.specs.Texts.{same_text}
-use Rattle.pads_declared.specs.declared.first_numbers.FirstNumbers.{FirstNumbers}
-use Rattle.pads_declared.specs.Numbered.{number_in, is_declared_as, IsNumbered}
-use Rattle.pads_declared.proofs.NumberLemmas.{next, first-less, position-first}
+use Rattle.pads_declared.proofs.NumberLemmas.{next, first-less, position-first, any-position}
 
 -- the first place among the first so many
 abbrev pub within : ℕ → Option ℕ → Option ℕ
@@ -39,39 +35,28 @@ position-take p (suc n) (x ∷ xs) = by (p x) refl (position-take p n xs)
         position-first p x (take n xs) false is ∙ ap (next false) rest ∙ later-within n (position p xs)
         ∙ sym (ap (within (suc n)) (position-first p x xs false is))
 
--- what the table tells of the first types
-among-first : (types : List Declared) (numbers : FirstNumbers) (count : ℕ) (name : List ℕ) (o : Option ℕ) → IsNumbered is_declared_as types numbers → o ≡ number_in numbers name
-    → within count o ≡ position (λ (d : Declared). same_text d.name name) (take count types)
-among-first types numbers count name o is found = ap (within count) (found ∙ is name) ∙ sym (position-take (λ (d : Declared). same_text d.name name) count types)
+-- one passes where one is found
+found-any : {X : Type 0} (p : X → Bool) (xs : List X) → is_some (find p xs) ≡ list_any p xs
+found-any p [] = refl
+found-any p (x ∷ xs) = by (p x) (found-any p xs)
+  where
+    by : (b : Bool) → is_some (find p xs) ≡ list_any p xs → is_some (cond b (Some x) (find p xs)) ≡ (b || list_any p xs)
+    by true rest = refl
+    by false rest = rest
 
-pub none-among : (types : List Declared) (numbers : FirstNumbers) (count : ℕ) (name : List ℕ) → IsNumbered is_declared_as types numbers → None ≡ number_in numbers name
-    → None ≡ position (λ (d : Declared). same_text d.name name) (take count types)
-none-among types numbers count name is none = among-first types numbers count name None is none
+pub found-there : {X : Type 0} (p : X → Bool) (xs : List X) → is_some (position p xs) ≡ is_some (find p xs)
+found-there p xs = any-position p xs ∙ sym (found-any p xs)
 
-pub there-among : (types : List Declared) (numbers : FirstNumbers) (count : ℕ) (name : List ℕ) (i : ℕ) → IsNumbered is_declared_as types numbers → Some i ≡ number_in numbers name → i < count
-    → Some i ≡ position (λ (d : Declared). same_text d.name name) (take count types)
-there-among types numbers count name i is there less = sym (ap (λ b. cond b (Some i) None) (lt-ltb i count less)) ∙ among-first types numbers count name (Some i) is there
+-- one of the first so many is found where the first of all is one of them
+pub found-before : {X : Type 0} (p : X → Bool) (n : ℕ) (xs : List X) (o : Option ℕ) → position p xs ≡ o → is_some (within n o) ≡ is_some (find p (take n xs))
+found-before p n xs o is = ap (λ i. is_some (within n i)) (sym is) ∙ sym (ap is_some (position-take p n xs)) ∙ found-there p (take n xs)
 
-pub past-among : (types : List Declared) (numbers : FirstNumbers) (count : ℕ) (name : List ℕ) (i : ℕ) → IsNumbered is_declared_as types numbers → Some i ≡ number_in numbers name → count ≤ i
-    → None ≡ position (λ (d : Declared). same_text d.name name) (take count types)
-past-among types numbers count name i is there past =
-    let e : nat_lt i count ≡ false = grind arith in
-    sym (ap (λ b. cond b (Some i) None) e) ∙ among-first types numbers count name (Some i) is there
-
--- what stands among the first stands in the whole
-taken-there : {A : Type 0} (xs : List A) (n k : ℕ) → k < length (take n xs) → slice_get (take n xs) k ≡ slice_get xs k
-taken-there xs zero k less = absurd (omega arith)
-taken-there [] (suc n) k less = refl
-taken-there (x ∷ xs) (suc n) zero less = refl
-taken-there (x ∷ xs) (suc n) (suc k) less = taken-there xs n k (omega (arith, less))
-
-found-by : {A : Type 0} (p : A → Bool) (xs : List A) (n i k : ℕ) (b : Bool) → nat_lt k (length (take n xs)) ≡ b → Some i ≡ cond b (Some k) None → slice_get (take n xs) k ≡ slice_get xs i
-found-by p xs n i k true less is = let same : i ≡ k = cc in taken-there xs n k (ltb-true k (length (take n xs)) less) ∙ ap (slice_get xs) (sym same)
-found-by p xs n i k false less is = cc
-
--- the first that passes stands at the first place
-pub found-first : {A : Type 0} (p : A → Bool) (xs : List A) (n i : ℕ) → Some i ≡ position p (take n xs) → slice_get xs i ≡ find p (take n xs)
-found-first p xs n i is = sym (find_at p (take n xs) ∙ found-by p xs n i (position_or_len p (take n xs)) (nat_lt (position_or_len p (take n xs)) (length (take n xs))) refl is)
+pub first-before : {X : Type 0} (p : X → Bool) (n : ℕ) (xs : List X) (i : ℕ) → position p xs ≡ Some i → nat_lt i n ≡ is_some (find p (take n xs))
+first-before p n xs i is = by (nat_lt i n) ∙ found-before p n xs (Some i) is
+  where
+    by : (b : Bool) → b ≡ is_some (cond b (Some i) None)
+    by true = refl
+    by false = refl
 
 none-by : {A : Type 0} (xs : List A) (k : ℕ) (b : Bool) → nat_lt k (length xs) ≡ b → None ≡ cond b (Some k) None → None ≡ slice_get xs k
 none-by xs k true less is = cc

@@ -12,7 +12,7 @@ use Rattle.pads_declared.specs.declared.types.Meaning.TheVariants as meaning
 -- The meaning that a borrowed one stands for.
 abbrev pub meant : Meaning → resolving.Meaning
 meant (meaning.Base base) = resolving.Base base
-meant (meaning.Earlier declared) = resolving.Earlier declared.now
+meant (meaning.Known declared) = resolving.Known declared.now
 meant meaning.Undeclared = resolving.Undeclared
 
 abbrev pub with_sort : Name → ExprSort → Named

@@ -5,7 +5,7 @@ ghost use Rattle.pads_rules.specs.Pieces.{names_after, names_after_all};
 ghost use Rattle.pads_rules.specs.Resolving as resolving;
 ghost use Rattle.pads_declared.specs.Meanings.{with_sort};
 
-use crate::EarlierTypes;
+use crate::Sight;
 use crate::types::type_sort;
 use pads_ast::{Branch, Label, Name, Param, Part};
 use pads_rules::{ExprSort, Named};
@@ -31,42 +31,42 @@ fn add(alloc: Global, names: &mut Items<Named>, name: &Name, sort: ExprSort) -> 
 /// Puts the name of a field or branch behind some others.
 pub fn add_branch(
     alloc: Global,
-    earlier: &EarlierTypes<'_>,
+    sight: &Sight<'_>,
     names: &mut Items<Named>,
     branch: &Branch,
 ) -> Result<(), Memory>
-    ensures added { OnOk result (names.new ≡ names.old ++ resolving.branch_named earlier.now branch.now ∷ []) }
+    ensures added { OnOk result (names.new ≡ names.old ++ resolving.branch_named sight.now branch.now ∷ []) }
 {
-    add(alloc, names, &branch.name, type_sort(earlier, &branch.of))
+    add(alloc, names, &branch.name, type_sort(sight, &branch.of))
 }
 
 /// Puts the name of a struct's part behind some others, where it has one.
 pub fn add_part(
     alloc: Global,
-    earlier: &EarlierTypes<'_>,
+    sight: &Sight<'_>,
     names: &mut Items<Named>,
     part: &Part,
 ) -> Result<(), Memory>
-    ensures added { OnOk result (names.new ≡ names_after earlier.now names.old part.now) }
+    ensures added { OnOk result (names.new ≡ names_after sight.now names.old part.now) }
 {
     match part {
         Part::Literal(_) => Ok(()),
-        Part::Pcompute { of, name, .. } => add(alloc, names, name, type_sort(earlier, of)),
-        Part::Field(branch) => add_branch(alloc, earlier, names, branch),
+        Part::Pcompute { of, name, .. } => add(alloc, names, name, type_sort(sight, of)),
+        Part::Field(branch) => add_branch(alloc, sight, names, branch),
     }
 }
 
 /// Puts the names of a struct's parts behind some others.
 pub fn add_parts(
     alloc: Global,
-    earlier: &EarlierTypes<'_>,
+    sight: &Sight<'_>,
     names: &mut Items<Named>,
     parts: &[Part],
 ) -> Result<(), Memory>
-    ensures added { OnOk result (names.new ≡ names_after_all earlier.now names.old parts.now) }
+    ensures added { OnOk result (names.new ≡ names_after_all sight.now names.old parts.now) }
 {
     for part in parts {
-        add_part(alloc, earlier, names, part)?;
+        add_part(alloc, sight, names, part)?;
     }
     Ok(())
 }
@@ -75,14 +75,14 @@ pub fn add_parts(
 #[tactic(auto, using(std::proofs::lemmas::Grind::common_steps, crate::proofs::Lists::lists))]
 pub fn branch_names(
     alloc: Global,
-    earlier: &EarlierTypes<'_>,
+    sight: &Sight<'_>,
     branches: &[&Branch],
 ) -> Result<Items<Named>, Memory>
-    ensures names { IfOk result (λ names. names ≡ map (λ branch. resolving.branch_named earlier.now branch.now) branches.now) }
+    ensures names { IfOk result (λ names. names ≡ map (λ branch. resolving.branch_named sight.now branch.now) branches.now) }
 {
     let mut names = Items::new(alloc);
     for branch in branches {
-        add_branch(alloc, earlier, &mut names, *branch)?;
+        add_branch(alloc, sight, &mut names, *branch)?;
     }
     Ok(names)
 }
@@ -90,19 +90,14 @@ pub fn branch_names(
 /// The names of parameters with their sorts.
 pub fn param_names(
     alloc: Global,
-    earlier: &EarlierTypes<'_>,
+    sight: &Sight<'_>,
     params: &[Param],
 ) -> Result<Items<Named>, Memory>
-    ensures names { IfOk result (λ names. names ≡ map (resolving.param_named earlier.now) params.now) }
+    ensures names { IfOk result (λ names. names ≡ map (resolving.param_named sight.now) params.now) }
 {
     let mut names = Items::new(alloc);
     for param in params {
-        add(
-            alloc,
-            &mut names,
-            &param.name,
-            type_sort(earlier, &param.of),
-        )?;
+        add(alloc, &mut names, &param.name, type_sort(sight, &param.of))?;
     }
     Ok(names)
 }
@@ -110,14 +105,14 @@ pub fn param_names(
 /// The sorts of parameters.
 pub(crate) fn param_sorts(
     alloc: Global,
-    earlier: &EarlierTypes<'_>,
+    sight: &Sight<'_>,
     params: &[Param],
 ) -> Result<Items<ExprSort>, Memory>
-    ensures sorts { IfOk result (λ sorts. sorts ≡ map (λ param. resolving.type_sort earlier.now param.of) params.now) }
+    ensures sorts { IfOk result (λ sorts. sorts ≡ map (λ param. resolving.type_sort sight.now param.of) params.now) }
 {
     let mut sorts = Items::new(alloc);
     for param in params {
-        sorts.push(type_sort(earlier, &param.of))?;
+        sorts.push(type_sort(sight, &param.of))?;
     }
     Ok(sorts)
 }

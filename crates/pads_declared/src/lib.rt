@@ -7,6 +7,7 @@
 mod copies;
 mod environment;
 mod first_numbers;
+mod leads;
 mod member_numbers;
 mod members;
 mod name_set;
@@ -20,9 +21,11 @@ pub use environment::{declare, declared};
 pub use first_numbers::FirstNumbers;
 pub use members::{choice_position, element, has_choice, may_choose, member};
 pub use name_set::NameSet;
-pub use records::{is_precord, is_precord_type, is_psource, is_record_list, is_record_list_type};
+pub use records::{
+    is_precord, is_precord_type, is_precursive, is_psource, is_record_list, is_record_list_type,
+};
 pub use trees::{branches_of, name_of, params_of};
-pub use type_table::{EarlierTypes, TypeTable};
+pub use type_table::{Sight, TypeTable};
 pub use types::{
     Meaning, base_sort, meaning_of, meaning_sort, plain_meaning, same_text, type_sort,
 };

@@ -5,7 +5,7 @@ ghost use Rattle.pads_rules.specs.Resolving as resolving;
 ghost use Rattle.pads_ast.specs.Trees as trees;
 ghost use Rattle.pads_declared.specs.Meanings.{meant, is_bare_array};
 
-use crate::EarlierTypes;
+use crate::Sight;
 use crate::trees::written;
 use crate::types::{Meaning, plain_meaning};
 use pads_ast::{Array, Decl, DeclBody, DeclMark};
@@ -16,7 +16,7 @@ pub fn is_precord(mark: Option<DeclMark>) -> bool
 {
     match mark {
         Some(DeclMark::Precord) => true,
-        Some(DeclMark::Psource) | None => false,
+        Some(DeclMark::Psource | DeclMark::Precursive) | None => false,
     }
 }
 
@@ -26,7 +26,17 @@ pub fn is_psource(mark: Option<DeclMark>) -> bool
 {
     match mark {
         Some(DeclMark::Psource) => true,
-        Some(DeclMark::Precord) | None => false,
+        Some(DeclMark::Precord | DeclMark::Precursive) | None => false,
+    }
+}
+
+/// Whether a declaration is marked `Precursive`.
+pub fn is_precursive(mark: Option<DeclMark>) -> bool
+    ensures marked { result ≡ trees.is_precursive mark }
+{
+    match mark {
+        Some(DeclMark::Precursive) => true,
+        Some(DeclMark::Precord | DeclMark::Psource) | None => false,
     }
 }
 
@@ -35,7 +45,7 @@ pub fn is_precord_type(meaning: Meaning<'_>) -> bool
     ensures record { result ≡ resolving.is_precord_type (meant meaning.entry) }
 {
     match meaning {
-        Meaning::Earlier(declared) => is_precord(declared.mark),
+        Meaning::Known(declared) => is_precord(declared.mark),
         Meaning::Base(_) | Meaning::Undeclared => false,
     }
 }
@@ -45,7 +55,7 @@ pub fn is_record_list_type(meaning: Meaning<'_>) -> bool
     ensures list { result ≡ resolving.is_record_list_type (meant meaning.entry) }
 {
     match meaning {
-        Meaning::Earlier(declared) => declared.record_list,
+        Meaning::Known(declared) => declared.record_list,
         Meaning::Base(_) | Meaning::Undeclared => false,
     }
 }
@@ -61,14 +71,15 @@ fn is_bare(array: &Array) -> bool
 }
 
 /// Whether a declaration declares a record list.
-pub fn is_record_list(earlier: &EarlierTypes<'_>, decl: &Decl) -> bool
-    ensures list { result ≡ resolving.is_record_list earlier.now decl.now }
+pub fn is_record_list(sight: &Sight<'_>, decl: &Decl) -> bool
+    ensures list { result ≡ resolving.is_record_list sight.now decl.now }
 {
     match &decl.body {
         DeclBody::Array(array) => {
             let bare = is_bare(array);
-            let records = is_precord_type(plain_meaning(earlier, &array.of));
-            !is_precord(decl.mark) && bare && records
+            let records = is_precord_type(plain_meaning(sight, &array.of));
+            let other = is_precord(decl.mark) || is_precursive(decl.mark);
+            !other && bare && records
         }
         _ => false,
     }

@@ -1,14 +1,14 @@
 //! The declared types of a description, found by their names.
 
-ghost use Rattle.std.specs.Prelude.{◌≡◌, ◌++◌, ◌∷◌, [], length, take, position, slice_get, option_map, IfOk};
+ghost use Rattle.std.specs.Prelude.{◌≡◌, ◌++◌, ◌∷◌, [], length, take, is_some, slice_get, option_map, IfOk};
 ghost use Rattle.std.specs.Option.{option_copied};
 ghost use Rattle.pads_rules.specs.Members.{content_of};
 ghost use Rattle.pads_rules.specs.Resolving as resolving;
-ghost use Rattle.pads_rules.specs.Texts.{same_text};
 ghost use Rattle.pads_declared.specs.Numbered.{member_position};
 
 use crate::FirstNumbers;
 use crate::member_numbers::number_members;
+use crate::records::is_precursive;
 use pads_rules::{Declared, Environment};
 use pads_value::{Items, Memory};
 use std::alloc::Global;
@@ -89,66 +89,102 @@ impl TypeTable {
         self.members.get(number)?.number_of(name)
     }
 
-    /// All types.
-    pub fn all<'a>(&'a self) -> EarlierTypes<'a>
-        ensures types { result ≡ self.now }
+    /// The number of the first type of a name; `None` exactly where none has it.
+    pub fn number_of(&self, name: &[u8]) -> Option<usize>
+        ensures first { result ≡ resolving.first_of self.now name.now }
     {
-        self.before(self.len())
+        self.numbers.number_of(name)
     }
 
-    /// The types before a number, or all where there are no more.
-    pub fn before<'a>(&'a self, number: usize) -> EarlierTypes<'a>
-        ensures types { result ≡ take number self.now }
+    /// Whether a type has a name.
+    pub fn declares(&self, name: &[u8]) -> bool
+        ensures declared { result ≡ is_some (resolving.declared_as self.now name.now) }
     {
-        EarlierTypes {
+        self.number_of(name).is_some()
+    }
+
+    /// Whether one of the types before a number has a name.
+    pub fn declares_before(&self, number: usize, name: &[u8]) -> bool
+        ensures declared { result ≡ is_some (resolving.declared_as (take number self.now) name.now) }
+    {
+        match self.number_of(name) {
+            Some(first) => first < number,
+            None => false,
+        }
+    }
+
+    /// The types as the declaration of a number sees them.
+    pub fn seen_from<'a>(&'a self, number: usize) -> Sight<'a>
+        ensures types { result ≡ resolving.seen_from self.now number }
+    {
+        Sight {
             table: self,
-            count: number,
+            number,
         }
     }
 }
 
-/// The first types of a table. Contracts see them as their list.
+/// Declared types as the declaration of a number sees them: it names those before it, and of itself and the later ones
+/// those that are marked `Precursive`. Contracts see it as the types and the number.
 #[derive(Drop)]
-pub struct EarlierTypes<'a> {
+pub struct Sight<'a> {
     table: &'a TypeTable,
-    count: usize,
+    number: usize,
 }
 
-impl<'a> Model for EarlierTypes<'a> {
-    ghost use Rattle.std.specs.Prelude.{List, take};
-    ghost use Rattle.pads_rules.specs.declared.declared.Declared.{Declared};
+impl<'a> Model for Sight<'a> {
+    ghost use Rattle.pads_rules.specs.Resolving as resolving;
 
-    ghost Value = { List Declared };
+    ghost Value = { resolving.Sight };
 
-    ghost view = { λ earlier. take earlier.count earlier.table.now };
+    ghost view = { λ sight. resolving.seen_from sight.table.now sight.number };
 }
 
-impl<'a> EarlierTypes<'a> {
-    pub fn len(&self) -> usize
-        ensures length { result ≡ length self.now }
+impl<'a> Sight<'a> {
+    /// The number of the declaration that sees the types.
+    pub fn number(&self) -> usize
+        ensures number { result ≡ self.now.number }
     {
-        let table = self.table;
-        self.count.min(table.len())
+        self.number
     }
 
-    /// The number of the first type of a name; `None` exactly where none has it.
+    /// The number of the first type of a name, whether or not it may be named; `None` exactly where none has it.
     pub fn number_of(&self, name: &[u8]) -> Option<usize>
-        ensures first { result ≡ position (λ declared. same_text declared.name name.now) self.now }
+        ensures first { result ≡ resolving.first_of self.now.types name.now }
     {
         let table = self.table;
-        let number = table.numbers.number_of(name)?;
-        if number < self.count {
+        table.number_of(name)
+    }
+
+    /// Whether the type of a number may be named.
+    fn may_be_named(&self, number: usize) -> bool
+        ensures may { result ≡ resolving.may_be_named self.now number }
+    {
+        let table = self.table;
+        let recursive = match table.get(number as u64) {
+            Some(declared) => is_precursive(declared.mark),
+            None => false,
+        };
+        number < self.number || recursive
+    }
+
+    /// The number of the type that a name names; `None` exactly where it names none.
+    pub fn named_number(&self, name: &[u8]) -> Option<usize>
+        ensures named { result ≡ resolving.named_number self.now name.now }
+    {
+        let number = self.number_of(name)?;
+        if self.may_be_named(number) {
             Some(number)
         } else {
             None
         }
     }
 
-    /// The first type of a name; `None` exactly where none has it.
-    pub fn declared_as(&self, name: &[u8]) -> Option<&'a Declared>
-        ensures first { option_map (λ found. found.now) result ≡ resolving.declared_as self.now name.now }
+    /// The type that a name names; `None` exactly where it names none.
+    pub fn named_type(&self, name: &[u8]) -> Option<&'a Declared>
+        ensures named { option_map (λ found. found.now) result ≡ resolving.named_type self.now name.now }
     {
-        let number = self.number_of(name)?;
+        let number = self.named_number(name)?;
         let table: &'a TypeTable = self.table;
         table.types.get(number as u64)
     }

@@ -6,7 +6,7 @@ ghost use Rattle.pads_rules.specs.Sorts as sorts;
 ghost use Rattle.pads_rules.specs.Texts as texts;
 ghost use Rattle.pads_declared.specs.Meanings.{meant};
 
-use crate::EarlierTypes;
+use crate::Sight;
 use pads_ast::Type;
 use pads_base_names::{BaseName, base_name};
 use pads_rules::{Declared, ExprSort, Form};
@@ -15,9 +15,9 @@ use pads_rules::{Declared, ExprSort, Form};
 #[derive(Clone, Copy)]
 pub enum Meaning<'a> {
     Base(BaseName),
-    /// The first earlier declaration of that name.
-    Earlier(&'a Declared),
-    /// It is neither a base type's name nor that of an earlier declaration.
+    /// A declared type that may be named there.
+    Known(&'a Declared),
+    /// It is neither a base type's name nor that of a declaration that may be named there.
     Undeclared,
 }
 
@@ -29,16 +29,16 @@ pub fn same_text(first: &[u8], second: &[u8]) -> bool
     first == second
 }
 
-/// What a name means behind some earlier types.
+/// What a name means.
 #[tactic(auto, unfolding(pads_rules::specs::Resolving::meaning))]
-pub fn meaning_of<'a>(earlier: &EarlierTypes<'a>, name: &[u8]) -> Meaning<'a>
-    ensures meaning { meant result ≡ resolving.meaning earlier.now name.now }
+pub fn meaning_of<'a>(sight: &Sight<'a>, name: &[u8]) -> Meaning<'a>
+    ensures meaning { meant result ≡ resolving.meaning sight.now name.now }
 {
     if let Some(base) = base_name(name) {
         return Meaning::Base(base);
     }
-    match earlier.declared_as(name) {
-        Some(declared) => Meaning::Earlier(declared),
+    match sight.named_type(name) {
+        Some(declared) => Meaning::Known(declared),
         None => Meaning::Undeclared,
     }
 }
@@ -67,16 +67,16 @@ pub fn meaning_sort(meaning: Meaning<'_>) -> ExprSort
 {
     match meaning {
         Meaning::Base(base) => base_sort(base),
-        Meaning::Earlier(declared) => declared.sort,
+        Meaning::Known(declared) => declared.sort,
         Meaning::Undeclared => ExprSort::Unknown,
     }
 }
 
 /// The sort of a type.
-pub fn type_sort(earlier: &EarlierTypes<'_>, of: &Type) -> ExprSort
-    ensures sort { result ≡ resolving.type_sort earlier.now of.now }
+pub fn type_sort(sight: &Sight<'_>, of: &Type) -> ExprSort
+    ensures sort { result ≡ resolving.type_sort sight.now of.now }
 {
-    let sort = meaning_sort(meaning_of(earlier, of.name.text.as_slice()));
+    let sort = meaning_sort(meaning_of(sight, of.name.text.as_slice()));
     match of.optional {
         Some(_) => sort.optional(),
         None => sort,
@@ -84,11 +84,11 @@ pub fn type_sort(earlier: &EarlierTypes<'_>, of: &Type) -> ExprSort
 }
 
 /// The meaning of a type's name where the type isn't behind `Popt`.
-pub fn plain_meaning<'a>(earlier: &EarlierTypes<'a>, of: &Type) -> Meaning<'a>
-    ensures meaning { meant result ≡ resolving.plain_meaning earlier.now of.now }
+pub fn plain_meaning<'a>(sight: &Sight<'a>, of: &Type) -> Meaning<'a>
+    ensures meaning { meant result ≡ resolving.plain_meaning sight.now of.now }
 {
     match of.optional {
         Some(_) => Meaning::Undeclared,
-        None => meaning_of(earlier, of.name.text.as_slice()),
+        None => meaning_of(sight, of.name.text.as_slice()),
     }
 }

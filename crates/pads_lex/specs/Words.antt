@@ -10,7 +10,8 @@ use Rattle.pads_lex.specs.declared.token.Mark.TheVariants as mark
 abbrev pub declaration_words : List (List ℕ × Keyword)
 declaration_words =
     (codes "Pstruct", keyword.Pstruct) ∷ (codes "Punion", keyword.Punion) ∷ (codes "Parray", keyword.Parray) ∷ (codes "Penum", keyword.Penum)
-    ∷ (codes "Popt", keyword.Popt) ∷ (codes "Ptypedef", keyword.Ptypedef) ∷ (codes "Precord", keyword.Precord) ∷ (codes "Psource", keyword.Psource) ∷ []
+    ∷ (codes "Popt", keyword.Popt) ∷ (codes "Ptypedef", keyword.Ptypedef) ∷ (codes "Precord", keyword.Precord) ∷ (codes "Psource", keyword.Psource)
+    ∷ (codes "Precursive", keyword.Precursive) ∷ []
 
 abbrev pub part_words : List (List ℕ × Keyword)
 part_words =

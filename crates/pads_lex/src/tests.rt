@@ -53,8 +53,8 @@ fn shown(alloc: Global, text: &[u8]) -> Result<String, AllocError> {
 fn texts_lex_by_the_rules(rt: HostRuntime) -> Result<(), Fail> {
     let cases: [(&[u8], &str); 37] = [
         (
-            b"Pstruct Punion Parray Penum Popt Ptypedef Pswitch Pcase Pdefault Pwhere Precord Psource Psep Pterm Plast Peor Pforall Pin Pcompute Pfrom Pis Plen true false",
-            "Pstruct 0 7, Punion 8 14, Parray 15 21, Penum 22 27, Popt 28 32, Ptypedef 33 41, Pswitch 42 49, Pcase 50 55, Pdefault 56 64, Pwhere 65 71, Precord 72 79, Psource 80 87, Psep 88 92, Pterm 93 98, Plast 99 104, Peor 105 109, Pforall 110 117, Pin 118 121, Pcompute 122 130, Pfrom 131 136, Pis 137 140, Plen 141 145, True 146 150, False 151 156, End 156 156",
+            b"Pstruct Punion Parray Penum Popt Ptypedef Pswitch Pcase Pdefault Pwhere Precord Psource Psep Pterm Plast Peor Pforall Pin Pcompute Pfrom Pis Plen true false Precursive",
+            "Pstruct 0 7, Punion 8 14, Parray 15 21, Penum 22 27, Popt 28 32, Ptypedef 33 41, Pswitch 42 49, Pcase 50 55, Pdefault 56 64, Pwhere 65 71, Precord 72 79, Psource 80 87, Psep 88 92, Pterm 93 98, Plast 99 104, Peor 105 109, Pforall 110 117, Pin 118 121, Pcompute 122 130, Pfrom 131 136, Pis 137 140, Plen 141 145, True 146 150, False 151 156, Precursive 157 167, End 167 167",
         ),
         (
             b"(: :) { } [ ] ( ) ; , : . .. = == => != ! < <= > >= + - * / % && || $",

@@ -12,6 +12,7 @@ pub enum Keyword {
     Ptypedef,
     Precord,
     Psource,
+    Precursive,
     // Keywords of the parts of a declaration.
     Pswitch,
     Pcase,

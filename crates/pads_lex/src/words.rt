@@ -34,6 +34,9 @@ fn declaration_word(word: &[u8]) -> Option<Keyword>
     if is_word(word, b"Psource") {
         return Some(Keyword::Psource);
     }
+    if is_word(word, b"Precursive") {
+        return Some(Keyword::Precursive);
+    }
     None
 }
 

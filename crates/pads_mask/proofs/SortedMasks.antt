@@ -1,6 +1,7 @@
--- A masked module that is plain stays well-sorted: what is asked of a sort doesn't depend on the constraints
+-- A masked module stays well-sorted: what is asked of a sort doesn't depend on the constraints
 -- in the terms that it tells of.
-use Rattle.std.proofs.Common.{◌≡◌, ◌∙◌, sym, ap, refl, subst, ℕ, zero, suc, Bool, true, false, ◌&&◌, ◌||◌, if◌then◌else◌, List, [], ◌∷◌, ◌++◌, map, Option, None, Some, option_map, slice_get}
+use Rattle.std.proofs.Common.{◌≡◌, ◌∙◌, sym, ap, refl, subst, arith, ℕ, zero, suc, ◌≤◌, length, Bool, true, false, ◌&&◌, ◌||◌, if◌then◌else◌, List, [], ◌∷◌, ◌++◌, map, Option, None, Some, option_map, slice_get}
+use Rattle.std.proofs.lemmas.List.{length-map}
 use Rattle.std.specs.List.{list_all}
 use Rattle.pads_expr.specs.declared.expr.Expr.{Expr}
 use Rattle.pads_dispatch.specs.declared.base.Base.{Base}
@@ -17,21 +18,21 @@ use Rattle.pads_calc.specs.declared.term.Term.{Term, Term-F, out-Term, roll-Term
 use Rattle.pads_calc.specs.declared.term.Term.TheVariants as term
 use Rattle.pads_module.specs.Modules.{Contents}
 use Rattle.law_calculus.specs.Expressions.{SortScope, sort_in}
-use Rattle.law_calculus.specs.Plain.{IsPlain, Plain}
 use Rattle.law_calculus.specs.Sorted.{AreSorted, IsSorted, IsSortedDecl, Sorted, Sorts, Standing, are_arguments, are_parameters, bind_sort, calls, chooses, computes, fits, has, is_argument, is_number_key, is_text_key, last_fits, no_argument, one_number, one_text, params_scope, parts_standing, size_fits, sorted, sorts_in, standing_in, stands, takes}
-use Rattle.law_calculus.specs.Sorts.{Sort, Number, Text, Truth, Nothing, Labels, Struct, Choice, Array, AreSorts, is_number, is_text, is_truth, sort_of}
+use Rattle.law_calculus.specs.Sorts.{Sort, Number, Text, Truth, Nothing, Labels, Struct, Choice, Array, AreSorts, is_number, is_text, is_truth, sort_at, sort_of}
 use Rattle.law_calculus.specs.Terms.{if_there, terms_in}
-use Rattle.law_calculus.proofs.PlainSorts.{plain-sorts, plain-unique}
+use Rattle.law_calculus.proofs.ModuleSorts.{made, made-are, made-like}
+use Rattle.law_calculus.proofs.SortedTerms.{declared-is}
 use Rattle.pads_erase.specs.declared.mask.Mask.{Mask}
 use Rattle.pads_erase.specs.declared.mode.Mode.{Mode}
 use Rattle.pads_erase.specs.Modes.{checks, mode_for}
-use Rattle.pads_mask.specs.Masks.{masked, masked_decl, masked_decls, name_of}
+use Rattle.pads_mask.specs.Masks.{masked, masked_decl, name_of}
 use Rattle.pads_mask.specs.Unguarded.{unguarded}
 use Rattle.pads_mask.proofs.ExpressionNorms.{expression-norm, norm_scope, normed}
 use Rattle.pads_mask.proofs.Layers.{Layer, left-is}
 use Rattle.pads_mask.proofs.Norms.{norm, norms, sort-norm}
 use Rattle.pads_mask.proofs.Once.{once}
-use Rattle.pads_mask.proofs.PlainMasks.{found-changed, stays-plain, term-stays}
+use Rattle.pads_mask.proofs.PlainMasks.{found-changed}
 use Rattle.pads_mask.proofs.Rolls.{unguarded-Guard}
 
 number-norm : (s : Sort) → is_number (norm s) ≡ is_number s
@@ -341,59 +342,51 @@ module _ (one other : List Sort) (same : norms other ≡ norms one) (params : Li
   body-sorted true t scope is = stays-sorted is scope refl
   body-sorted false t scope is = left-sorted is scope refl
 
--- the declarations without any constraint
-abbrev bare_of : Decl → Decl
-bare_of decl = record { name = decl.name; params = decl.params; body = unguarded decl.body; set = true }
-
-abbrev bodies_of : List Sort → List Decl → List Sort
-bodies_of declared decls = map (λ (decl : Decl). sort_of declared decl.body) decls
-
-norm-each : (declared : List Sort) (decls : List Decl) → norms (bodies_of declared decls) ≡ bodies_of (norms declared) (map bare_of decls)
-norm-each declared [] = refl
-norm-each declared (decl ∷ decls) =
-    ap (λ first. first ∷ norms (bodies_of declared decls)) (sym (sort-norm declared decl.body))
-    ∙ ap (λ rest. sort_of (norms declared) (unguarded decl.body) ∷ rest) (norm-each declared decls)
-
-are-normed : (declared : List Sort) (decls : List Decl) → AreSorts declared decls → AreSorts (norms declared) (map bare_of decls)
-are-normed declared decls are = ap norms are ∙ norm-each declared decls
-
-bare-plain : (decls : List Decl) → Plain decls → Plain (map bare_of decls)
-bare-plain decls h number made there =
-    let found = found-changed bare_of decls number made there in
-    subst (λ (decl : Decl). IsPlain number decl.body) found.2 (term-stays number found.0.body (h number found.0 found.1))
+-- lists of sorts that tell the same at each number
+same-norms : (one other : List Sort) → length one ≡ length other → ((k : ℕ) → norm (sort_at one k) ≡ norm (sort_at other k)) → norms one ≡ norms other
+same-norms [] [] size same = refl
+same-norms [] (sort ∷ other) size same = cc
+same-norms (sort ∷ one) [] size same = cc
+same-norms (sort ∷ one) (first ∷ other) size same =
+    ap (λ sort. sort ∷ norms one) (same 0) ∙ ap (λ rest. norm first ∷ rest) (same-norms one other (omega (arith, size)) (λ k. same (suc k)))
 
 bare-body : (check : Bool) (t : Term) → unguarded (if check then t else unguarded t) ≡ unguarded t
 bare-body true t = refl
 bare-body false t = once t
 
-abbrev with_body : Decl → Term → Decl
-with_body decl t = record { name = decl.name; params = decl.params; body = t; set = true }
-
 module _ (m : Contents) (mask : Mask) where
   abbrev mode_of : Decl → Mode
   mode_of decl = mode_for mask (name_of m decl)
 
-  bare-same : (decls : List Decl) → map bare_of (masked_decls m.names mask decls) ≡ map bare_of decls
-  bare-same [] = refl
-  bare-same (decl ∷ decls) =
-      ap (λ t. with_body decl t ∷ map bare_of (masked_decls m.names mask decls)) (bare-body (checks (mode_of decl)) decl.body)
-      ∙ ap (λ rest. bare_of decl ∷ rest) (bare-same decls)
+  -- what a masked body makes of the module's sorts tells what the declaration's sort tells
+  masked-like : (sorts : Sorts) → AreSorts sorts.declared m.decls → (number : ℕ) (made : Decl) → slice_get (masked m mask).decls number ≡ Some made
+      → norm (sort_of sorts.declared made.body) ≡ norm (sort_at sorts.declared number)
+  masked-like sorts are number made there =
+      let declared = sorts.declared in
+      let from = found-changed (λ decl. masked_decl (mode_of decl) decl) m.decls number made there in
+      let decl = from.0 in
+      let body : norm (sort_of declared (masked_decl (mode_of decl) decl).body) ≡ norm (sort_of declared decl.body) =
+      sym (sort-norm declared (masked_decl (mode_of decl) decl).body) ∙ ap (sort_of (norms declared)) (bare-body (checks (mode_of decl)) decl.body) ∙ sort-norm declared decl.body in
+      subst (λ (made : Decl). norm (sort_of declared made.body) ≡ norm (sort_at declared number)) from.2
+      (body ∙ ap norm (sym (declared-is declared m.decls are number decl from.1)))
 
-  pub stays-sorted-module : Plain m.decls → Sorted m.decls → Sorted (masked m mask).decls
-  stays-sorted-module h (sorts, are) =
-      let made = (masked m mask).decls in
-      let found = plain-sorts made (stays-plain m mask h) in
-      let too : AreSorts (norms found.0) (map bare_of m.decls) = subst (AreSorts (norms found.0)) (bare-same m.decls) (are-normed found.0 made found.1) in
-      let same : norms found.0 ≡ norms sorts.declared =
-      plain-unique (map bare_of m.decls) (bare-plain m.decls h) (norms found.0) (norms sorts.declared) too (are-normed sorts.declared m.decls are.declared) in (
-        record { declared = found.0; params = sorts.params },
+  pub stays-sorted-module : Sorted m.decls → Sorted (masked m mask).decls
+  stays-sorted-module (sorts, are) =
+      let decls = (masked m mask).decls in
+      let many : length sorts.declared ≡ length decls = ap length are.declared ∙ length-map m.decls (λ (decl : Decl). sort_of sorts.declared decl.body) ∙ sym (length-map m.decls (λ (decl : Decl). masked_decl (mode_of decl) decl)) in
+      let within : length sorts.declared ≤ length decls = omega (arith, many) in
+      let declared = made decls sorts.declared within in
+      let found : AreSorts declared decls = made-are decls sorts.declared within in
+      let size : length declared ≡ length sorts.declared = ap length found ∙ length-map decls (λ (decl : Decl). sort_of declared decl.body) ∙ sym many in
+      let same : norms declared ≡ norms sorts.declared = same-norms declared sorts.declared size (made-like decls sorts.declared within norm (masked-like sorts are.declared)) in (
+        record { declared = declared; params = sorts.params },
         record {
-          declared = found.1;
+          declared = found;
           bodies = λ number decl there.
               let from = found-changed (λ decl. masked_decl (mode_of decl) decl) m.decls number decl there in
               let body = are.bodies number from.0 from.1 in
               subst (λ (decl : Decl). (params : List Sort) × (slice_get sorts.params number ≡ Some params) × (are_parameters decl.params params ≡ true)
-              × IsSortedDecl (record { declared = found.0; params = sorts.params }) decl params) from.2
-              (body.0, body.1, body.2, body-sorted sorts.declared found.0 same sorts.params (checks (mode_of from.0)) from.0.body (params_scope from.0.params body.0 []) body.3);
+              × IsSortedDecl (record { declared = declared; params = sorts.params }) decl params) from.2
+              (body.0, body.1, body.2, body-sorted sorts.declared declared same sorts.params (checks (mode_of from.0)) from.0.body (params_scope from.0.params body.0 []) body.3);
         },
       )

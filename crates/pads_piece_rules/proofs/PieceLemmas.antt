@@ -14,7 +14,7 @@ use Rattle.pads_rules.specs.declared.rule.Rule.TheVariants as rule
 use Rattle.pads_rules.specs.Faults.{breaks, when, each, lesser, least}
 use Rattle.pads_rules.specs.Judging.{Scope, judged}
 use Rattle.pads_rules.specs.PieceRules.{meaning_at, argument_sort, argument_faults, is_num_or_text, is_bare, is_computable_base, is_param_base}
-use Rattle.pads_rules.specs.Pieces.{Site, earlier, Used, OfParam, Computed, Condition, Size, Choice, Spelled}
+use Rattle.pads_rules.specs.Pieces.{Site, sight, Used, OfParam, Computed, Condition, Size, Choice, Spelled}
 use Rattle.pads_rules.specs.Resolving.{Meaning, type_sort}
 use Rattle.pads_ast.specs.declared.types.Arg.TheVariants as arg
 use Rattle.pads_rules.specs.Sorts.{accepts, agree, is_num_form, is_truth_form}
@@ -55,7 +55,7 @@ told-OfParam site t = simp (least-append, lesser-none, none-lesser) refl
 pub told-Computed : (site : Site) (scope : Scope) (t : «Type») (value : Expr) →
     piece_told site (Computed scope t value)
     ≡ lesser (lesser (lesser (name_told site t) (least (judged site.env value scope).faults))
-    (least (when (not (is_bare is_computable_base site t) || not (agree (type_sort (earlier site) t) (judged site.env value scope).sort)) (breaks rule.ComputedType t.name.at)))) (record_told site t)
+    (least (when (not (is_bare is_computable_base site t) || not (agree (type_sort (sight site) t) (judged site.env value scope).sort)) (breaks rule.ComputedType t.name.at)))) (record_told site t)
 unfolding piece_told name_told record_told
 told-Computed site scope t value = simp (least-append, lesser-none, none-lesser) refl
 

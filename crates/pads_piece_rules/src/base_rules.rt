@@ -7,7 +7,7 @@ ghost use Rattle.pads_declared.specs.Meanings.{meant};
 ghost use Rattle.pads_piece_rules.specs.Told.{stands};
 
 use crate::Site;
-use crate::site::earlier;
+use crate::site::sight;
 use pads_ast::{Arg, Type};
 use pads_base_names::{BaseName, NamedCoding, Takes};
 use pads_declared::{Meaning, plain_meaning};
@@ -28,7 +28,7 @@ pub(crate) fn is_undeclared(meaning: Meaning<'_>) -> bool
 {
     match meaning {
         Meaning::Undeclared => true,
-        Meaning::Base(_) | Meaning::Earlier(_) => false,
+        Meaning::Base(_) | Meaning::Known(_) => false,
     }
 }
 
@@ -49,7 +49,7 @@ pub(crate) fn is_count_of(meaning: Meaning<'_>, count: usize) -> bool
 {
     match meaning {
         Meaning::Base(base) => takes_so_many(base.takes(), count),
-        Meaning::Earlier(declared) => count as u64 == declared.params.len(),
+        Meaning::Known(declared) => count as u64 == declared.params.len(),
         Meaning::Undeclared => true,
     }
 }
@@ -74,7 +74,7 @@ pub(crate) fn param_sort(meaning: Meaning<'_>, number: usize) -> Option<ExprSort
 {
     match meaning {
         Meaning::Base(base) => base_param(base.takes(), number),
-        Meaning::Earlier(declared) => declared.params.get(number as u64).copied(),
+        Meaning::Known(declared) => declared.params.get(number as u64).copied(),
         Meaning::Undeclared => None,
     }
 }
@@ -85,7 +85,7 @@ pub(crate) fn takes_end(meaning: Meaning<'_>) -> bool
 {
     match meaning {
         Meaning::Base(base) => matches!(base.takes(), Takes::TextOrEnd),
-        Meaning::Earlier(_) | Meaning::Undeclared => false,
+        Meaning::Known(_) | Meaning::Undeclared => false,
     }
 }
 
@@ -122,9 +122,9 @@ fn is_param_base(base: BaseName) -> bool
 pub(crate) fn is_computable(site: &Site<'_>, of: &Type) -> bool
     ensures computable { result ≡ rules.is_bare rules.is_computable_base (stands site.now) of.now }
 {
-    match plain_meaning(&earlier(site), of) {
+    match plain_meaning(&sight(site), of) {
         Meaning::Base(base) => is_computable_base(base) && args_of(of).is_empty(),
-        Meaning::Earlier(_) | Meaning::Undeclared => false,
+        Meaning::Known(_) | Meaning::Undeclared => false,
     }
 }
 
@@ -132,8 +132,8 @@ pub(crate) fn is_computable(site: &Site<'_>, of: &Type) -> bool
 pub(crate) fn is_param(site: &Site<'_>, of: &Type) -> bool
     ensures param { result ≡ rules.is_bare rules.is_param_base (stands site.now) of.now }
 {
-    match plain_meaning(&earlier(site), of) {
+    match plain_meaning(&sight(site), of) {
         Meaning::Base(base) => is_param_base(base) && args_of(of).is_empty(),
-        Meaning::Earlier(_) | Meaning::Undeclared => false,
+        Meaning::Known(_) | Meaning::Undeclared => false,
     }
 }

@@ -14,4 +14,4 @@ mod typed;
 
 pub use piece::{choice, computed, condition, of_param, size, spelled, used};
 pub use shapes::is_source_shape;
-pub use site::{Site, earlier};
+pub use site::{Site, sight};

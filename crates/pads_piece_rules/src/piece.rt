@@ -12,7 +12,7 @@ use crate::Site;
 use crate::arguments::arguments;
 use crate::base_rules::{is_computable, is_param};
 use crate::constants::{keys, keys_again, place_of};
-use crate::site::earlier;
+use crate::site::sight;
 use crate::typed::{argument_count, record_name, type_name};
 use pads_ast::{Case, Expr, Type, Word};
 use pads_declared::type_sort;
@@ -55,7 +55,7 @@ pub fn computed(
 {
     let judgement = judge(site.env, value, scope);
     let computable = is_computable(site, of);
-    let agrees = type_sort(&earlier(site), of).agrees(judgement.sort);
+    let agrees = type_sort(&sight(site), of).agrees(judgement.sort);
     let wrong = fault_if(!computable || !agrees, Rule::ComputedType, of.name.at);
     let named = lesser(type_name(site, of), judgement.fault);
     lesser(lesser(named, wrong), record_name(site, of))

@@ -6,15 +6,15 @@ ghost use Rattle.pads_rules.specs.Resolving as resolving;
 ghost use Rattle.pads_piece_rules.specs.Told.{stands};
 
 use crate::Site;
-use crate::site::earlier;
+use crate::site::sight;
 use pads_ast::{DeclBody, Part};
 use pads_declared::{
-    EarlierTypes, is_precord_type, is_psource, is_record_list, is_record_list_type, params_of,
+    Sight, is_precord_type, is_psource, is_record_list, is_record_list_type, params_of,
     plain_meaning,
 };
 
 /// Whether a part is a field of a `Precord` type without a constraint.
-fn is_header(types: &EarlierTypes<'_>, part: &Part) -> bool
+fn is_header(types: &Sight<'_>, part: &Part) -> bool
     ensures header { result ≡ rules.is_plain_field types.now resolving.is_precord_type part.now }
 {
     match part {
@@ -26,7 +26,7 @@ fn is_header(types: &EarlierTypes<'_>, part: &Part) -> bool
 }
 
 /// Whether a part is a field of a record list without a constraint.
-fn is_list(types: &EarlierTypes<'_>, part: &Part) -> bool
+fn is_list(types: &Sight<'_>, part: &Part) -> bool
     ensures list { result ≡ rules.is_plain_field types.now resolving.is_record_list_type part.now }
 {
     match part {
@@ -37,7 +37,7 @@ fn is_list(types: &EarlierTypes<'_>, part: &Part) -> bool
     }
 }
 
-fn are_header_and_list(types: &EarlierTypes<'_>, parts: &[Part]) -> bool
+fn are_header_and_list(types: &Sight<'_>, parts: &[Part]) -> bool
     ensures both { result ≡ rules.are_header_and_list types.now parts.now }
 {
     if parts.len() != 2 {
@@ -47,7 +47,7 @@ fn are_header_and_list(types: &EarlierTypes<'_>, parts: &[Part]) -> bool
 }
 
 /// Whether a declaration is a struct of a header and a record list, and nothing else.
-fn is_header_shape(types: &EarlierTypes<'_>, body: &DeclBody) -> bool
+fn is_header_shape(types: &Sight<'_>, body: &DeclBody) -> bool
     ensures shape { result ≡ rules.is_header_shape types.now body.now }
 {
     let bare = params_of(body).is_empty();
@@ -63,7 +63,7 @@ fn is_header_shape(types: &EarlierTypes<'_>, body: &DeclBody) -> bool
 pub fn is_source_shape(site: &Site<'_>) -> bool
     ensures shape { result ≡ rules.is_source_shape (stands site.now) }
 {
-    let types = earlier(site);
+    let types = sight(site);
     let list = is_record_list(&types, site.decl);
     let header = is_header_shape(&types, &site.decl.body);
     list || is_psource(site.decl.mark) && header

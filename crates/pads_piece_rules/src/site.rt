@@ -6,7 +6,7 @@ ghost use Rattle.pads_declared.specs.Meanings.{meant};
 ghost use Rattle.pads_piece_rules.specs.Told.{stands};
 
 use pads_ast::{Decl, Type};
-use pads_declared::{EarlierTypes, Meaning, TypeTable, meaning_of};
+use pads_declared::{Meaning, Sight, TypeTable, meaning_of};
 
 /// A declaration where it stands.
 #[derive(Clone, Copy)]
@@ -20,26 +20,23 @@ pub struct Site<'a> {
     pub decl: &'a Decl,
 }
 
-/// The types that are declared before.
-pub fn earlier<'a>(site: &Site<'a>) -> EarlierTypes<'a>
-    ensures types { result ≡ pieces.earlier (stands site.now) }
+/// The declared types, as the declaration sees them.
+pub fn sight<'a>(site: &Site<'a>) -> Sight<'a>
+    ensures types { result ≡ pieces.sight (stands site.now) }
 {
-    site.env.before(site.number)
+    site.env.seen_from(site.number)
 }
 
 /// What a type's name means where it stands.
 pub(crate) fn meaning_at<'a>(site: &Site<'a>, of: &Type) -> Meaning<'a>
     ensures meaning { meant result ≡ rules.meaning_at (stands site.now) of.now }
 {
-    meaning_of(&earlier(site), of.name.text.as_slice())
+    meaning_of(&sight(site), of.name.text.as_slice())
 }
 
 /// Whether a type's name is that of a declaration, wherever it stands.
 pub(crate) fn is_declared(site: &Site<'_>, of: &Type) -> bool
     ensures declared { result ≡ is_some (declared_as site.now.env.now of.now.name.text) }
 {
-    site.env
-        .all()
-        .declared_as(of.name.text.as_slice())
-        .is_some()
+    site.env.declares(of.name.text.as_slice())
 }

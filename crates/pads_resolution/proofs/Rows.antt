@@ -37,7 +37,7 @@ use Rattle.pads_resolution.specs.declared.types.TypeName.TheVariants as type_nam
 use Rattle.pads_rules.specs.declared.declared.Content.TheVariants as content
 use Rattle.pads_rules.specs.declared.expr_sort.ExprSort.TheVariants as expr_sort
 use Rattle.pads_rules.specs.Pieces.{sites}
-use Rattle.pads_rules.specs.Resolving.{meaning as name_meaning, declared}
+use Rattle.pads_rules.specs.Resolving.{meaning as name_meaning, declared, outlines}
 use Rattle.pads_rules.specs.Sorts.{num, truth, plain}
 use Rattle.pads_rules.specs.Texts.{same_text}
 use Rattle.pads_resolution.specs.declared.visible.Stands.TheVariants as stands
@@ -92,12 +92,12 @@ fields : resolved (record { decls = two_fields; end = 0; spelled = two_spelled }
       } ∷ [];
       source = record { header = None; «record» = 0 };
     }
-unfolding resolved decl_at role_of params_scope body_at struct_at part_at branch_at type_at named_type args source_of source_after declared name_meaning same_text base_name kind_of field_of is_word behind
+unfolding resolved decl_at role_of params_scope body_at struct_at part_at branch_at type_at named_type args source_of source_after declared outlines name_meaning same_text base_name kind_of field_of is_word behind
 fields = refl
 
 -- Pstruct r { '|'; Puint8 a; } Pwhere { (a) < 3 }: the field is part number 1
 condition : expression [] [] (expr.Chain (expr.Paren 0 (expr.Name (name (codes "a")))) (record { operator = operator.Lt; operand = expr.Number 3 0 } ∷ []))
-    (fields_after [] [] 0 (part.Literal (literal.Word (word.Char 124 0)) ∷ field (bare (codes "Puint8")) (codes "a") ∷ []))
+    (fields_after (record { types = []; number = 0 }) [] 0 (part.Literal (literal.Word (word.Char 124 0)) ∷ field (bare (codes "Puint8")) (codes "a") ∷ []))
     ≡ as_sort (resolved_expr.Binary operator.Lt (resolved_expr.Name (meaning.Field 1) plain_sort) (resolved_expr.Number (pos 3))) truth
 unfolding linked binary name_in same_text name_meaning base_name kind_of field_of is_word behind
 condition = simp forms refl
@@ -107,20 +107,20 @@ with_header : source_of (sites (
     struct (Some mark.Precord) (codes "h") [] None ∷ struct (Some mark.Precord) (codes "r") [] None ∷ array None (codes "l") (bare (codes "r"))
     ∷ struct (Some mark.Psource) (codes "s") (field (bare (codes "h")) (codes "h") ∷ field (bare (codes "l")) (codes "l") ∷ []) None ∷ []))
     ≡ record { header = Some 0; «record» = 1 }
-unfolding source_of source_after named_number list_record declared name_meaning same_text base_name kind_of field_of is_word behind
+unfolding source_of source_after named_number list_record declared outlines name_meaning same_text base_name kind_of field_of is_word behind
 with_header = refl
 
 -- Precord Pstruct h { }; Precord Pstruct r { }; Psource Parray s { h[]; };
 listed : source_of (sites (
     struct (Some mark.Precord) (codes "h") [] None ∷ struct (Some mark.Precord) (codes "r") [] None ∷ array (Some mark.Psource) (codes "s") (bare (codes "h")) ∷ []))
     ≡ record { header = None; «record» = 0 }
-unfolding source_of source_after named_number declared name_meaning same_text base_name kind_of field_of is_word behind
+unfolding source_of source_after named_number declared outlines name_meaning same_text base_name kind_of field_of is_word behind
 listed = refl
 
 -- the last `Precord` declaration
 last : source_of (sites (struct (Some mark.Precord) (codes "h") [] None ∷ struct (Some mark.Precord) (codes "r") [] None ∷ struct None (codes "s") [] None ∷ []))
     ≡ record { header = None; «record» = 1 }
-unfolding source_of source_after declared
+unfolding source_of source_after declared outlines name_meaning same_text base_name kind_of field_of is_word behind
 last = refl
 
 -- `o.none` of an optional number, and `s.b` of a struct `'|'; Puint8 b;`
@@ -141,3 +141,21 @@ element : expression []
     num
 unfolding stepped linked binary indexed name_in same_text
 element = simp forms refl
+
+-- Pstruct a { b x; }; Precursive Pstruct b { a y; };
+abbrev to_each_other : List Decl
+to_each_other = struct None (codes "a") (field (bare (codes "b")) (codes "x") ∷ []) None ∷ struct (Some mark.Precursive) (codes "b") (field (bare (codes "a")) (codes "y") ∷ []) None ∷ []
+
+-- a name that no earlier type has is that of a later one
+forward : named_type (record { types = declared to_each_other; number = 0 }) (bare (codes "b")) ≡ type_name.Declared 1
+unfolding named_type declared outlines name_meaning same_text base_name kind_of field_of is_word behind
+forward = refl
+
+-- Pstruct b { }; Pstruct a { b x; }; Precursive Pstruct b { };
+abbrev named_twice : List Decl
+named_twice = struct None (codes "b") [] None ∷ struct None (codes "a") (field (bare (codes "b")) (codes "x") ∷ []) None ∷ struct (Some mark.Precursive) (codes "b") [] None ∷ []
+
+-- an earlier type goes before a later one of that name
+backward : named_type (record { types = declared named_twice; number = 1 }) (bare (codes "b")) ≡ type_name.Declared 0
+unfolding named_type declared outlines name_meaning same_text base_name kind_of field_of is_word behind
+backward = refl

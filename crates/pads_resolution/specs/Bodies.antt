@@ -34,7 +34,7 @@ use Rattle.pads_resolution.specs.declared.decl.Union.{Union}
 use Rattle.pads_resolution.specs.declared.decl.Union.TheVariants as union
 use Rattle.pads_resolution.specs.declared.expr.Expr.{Expr}
 use Rattle.pads_resolution.specs.declared.types.Branch.{Branch}
-use Rattle.pads_rules.specs.Pieces.{Site, earlier}
+use Rattle.pads_rules.specs.Pieces.{Site, sight}
 use Rattle.pads_rules.specs.Resolving.{branch_named, type_sort}
 use Rattle.pads_ast.specs.Trees.{points_of}
 use Rattle.pads_resolution.specs.declared.visible.Stands.TheVariants as stands
@@ -59,7 +59,7 @@ module _ (site : Site) where
   branch_at names f = record {
     of = type_at site names f.of;
     name = f.name.text;
-    constraint = option_at (names ++ variable (branch_named (earlier site) f) ∷ []) f.constraint;
+    constraint = option_at (names ++ variable (branch_named (sight site) f) ∷ []) f.constraint;
   }
 
   -- A part of a struct behind the names of its parameters and earlier parts.
@@ -70,13 +70,13 @@ module _ (site : Site) where
 
   abbrev pub parts_at : NameScope → List WrittenPart → List Part
   parts_at names [] = []
-  parts_at names (p ∷ parts) = part_at names p ∷ parts_at (names_after (earlier site) names p) parts
+  parts_at names (p ∷ parts) = part_at names p ∷ parts_at (names_after (sight site) names p) parts
 
   -- In the `Pwhere` of a struct its fields are fields by number.
   unfoldable pub struct_at : NameScope → WrittenStruct → Struct
   struct_at params d = record {
     parts = parts_at params d.parts;
-    condition = option_at (fields_after (earlier site) params 0 d.parts) d.condition;
+    condition = option_at (fields_after (sight site) params 0 d.parts) d.condition;
   }
 
   unfoldable pub case_at : NameScope → WrittenCase → Case
@@ -111,7 +111,7 @@ module _ (site : Site) where
   unfoldable pub constraint_at : NameScope → WrittenTypedef → WrittenConstraint → Constraint
   constraint_at params d c = record {
     variable = c.variable.text;
-    condition = expr_at (hiding c.variable.text stands.Variable (type_sort (earlier site) d.of) params) c.condition;
+    condition = expr_at (hiding c.variable.text stands.Variable (type_sort (sight site) d.of) params) c.condition;
   }
 
   unfoldable pub typedef_at : NameScope → WrittenTypedef → Typedef

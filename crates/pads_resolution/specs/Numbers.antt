@@ -25,7 +25,8 @@ abbrev pub number_of : Option ℕ → ℕ
 number_of None = 0
 number_of (Some n) = short n
 
--- The number of a declared type by its name: the first of that name has it.
+-- The number of the type that a name names: the first earlier one of that name, and where there is none the first one
+-- from there on. So it is the first of that name among all types, earlier and later ones.
 abbrev pub declared_number : List Declared → List ℕ → Option ℕ
 declared_number types name = position (λ declared. same_text declared.name name) types
 

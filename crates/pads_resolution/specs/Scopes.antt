@@ -4,10 +4,9 @@ use Rattle.pads_ast.specs.declared.decl.Part.{Part}
 use Rattle.pads_ast.specs.declared.name.Name.{Name}
 use Rattle.pads_ast.specs.declared.types.Type.{«Type»}
 use Rattle.pads_rules.specs.declared.sort.Form.TheVariants as form
-use Rattle.pads_rules.specs.declared.declared.Declared.{Declared}
 use Rattle.pads_rules.specs.declared.declared.Named.{Named}
 use Rattle.pads_rules.specs.declared.expr_sort.ExprSort.{ExprSort}
-use Rattle.pads_rules.specs.Resolving.{named}
+use Rattle.pads_rules.specs.Resolving.{Sight, named}
 use Rattle.pads_rules.specs.Sorts.{num, plain}
 use Rattle.pads_rules.specs.Texts.{same_text}
 use Rattle.pads_ast.specs.Trees.{named_part}
@@ -37,16 +36,16 @@ abbrev pub variable : Named → Visible
 variable named = name_as named.text stands.Variable named.sort
 
 -- The names in scope behind a part of a struct.
-abbrev pub names_after : List Declared → NameScope → Part → NameScope
+abbrev pub names_after : Sight → NameScope → Part → NameScope
 names_after types names p = names ++ map (λ both. variable (named types both)) (named_part p)
 
 -- A name as a field of a number.
-abbrev pub field : List Declared → ℕ → Name × «Type» → Visible
+abbrev pub field : Sight → ℕ → Name × «Type» → Visible
 field types number both = name_as both.0.text (stands.Field (short number)) (named types both).sort
 
 -- The names in the `Pwhere` of a struct behind some others: its fields, by their numbers among all parts from a
 -- number on.
-abbrev pub fields_after : List Declared → NameScope → ℕ → List Part → NameScope
+abbrev pub fields_after : Sight → NameScope → ℕ → List Part → NameScope
 fields_after types names number [] = names
 fields_after types names number (p ∷ parts) = fields_after types (names ++ map (field types number) (named_part p)) (suc number) parts
 

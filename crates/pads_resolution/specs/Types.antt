@@ -26,8 +26,8 @@ use Rattle.pads_resolution.specs.declared.types.TypeName.{TypeName}
 use Rattle.pads_resolution.specs.declared.types.TypeName.TheVariants as type_name
 use Rattle.pads_rules.specs.declared.declared.Declared.{Declared}
 use Rattle.pads_rules.specs.PieceRules.{signed}
-use Rattle.pads_rules.specs.Pieces.{Site, earlier}
-use Rattle.pads_rules.specs.Resolving.{type_sort}
+use Rattle.pads_rules.specs.Pieces.{Site, sight}
+use Rattle.pads_rules.specs.Resolving.{Sight, type_sort}
 use Rattle.pads_ast.specs.Trees.{args_of, points_of}
 use Rattle.pads_resolution.specs.Expressions.{expr_of, sort_known}
 use Rattle.pads_resolution.specs.Numbers.{short, declared_number}
@@ -43,9 +43,9 @@ abbrev pub type_name_of : Option BaseName → Option ℕ → TypeName
 type_name_of (Some name) number = type_name.Base name
 type_name_of None number = declared_type number
 
--- A type's name among the types that are declared before.
-unfoldable pub named_type : List Declared → «Type» → TypeName
-named_type types t = type_name_of (base_name t.name.text) (declared_number types t.name.text)
+-- What a type's name names, by the types that it sees.
+unfoldable pub named_type : Sight → «Type» → TypeName
+named_type types t = type_name_of (base_name t.name.text) (declared_number types.types t.name.text)
 
 -- The expressions among some arguments.
 abbrev pub arg_exprs : List Decl → List Declared → NameScope → Arg → List Expr
@@ -59,7 +59,7 @@ args decls env scope written = flat_map (arg_exprs decls env scope) written
 unfoldable pub type_at : Site → NameScope → «Type» → ResolvedType
 type_at site scope t = record {
   optional = is_some t.optional;
-  name = named_type (earlier site) t;
+  name = named_type (sight site) t;
   args = args site.decls site.env scope (args_of t);
 }
 
@@ -81,5 +81,5 @@ unfoldable pub computed_of : «Type» → Computed
 computed_of t = computed_as (base_name t.name.text)
 
 -- A parameter: its name, and the sort of its type.
-unfoldable pub param_of : List Declared → WrittenParam → Param
+unfoldable pub param_of : Sight → WrittenParam → Param
 param_of types param = record { name = param.name.text; sort = sort_known (type_sort types param.of) }

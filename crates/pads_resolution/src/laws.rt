@@ -9,8 +9,8 @@ ghost use Rattle.pads_ast.specs.declared.expr.Expr.{Expr};
 ghost use Rattle.pads_rules.specs.declared.declared.Declared.{Declared};
 ghost use Rattle.pads_rules.specs.Judging.{judged};
 ghost use Rattle.pads_rules.specs.Pieces as pieces;
-ghost use Rattle.pads_rules.specs.Pieces.{Site, earlier};
-ghost use Rattle.pads_rules.specs.Resolving.{param_named};
+ghost use Rattle.pads_rules.specs.Pieces.{Site, sight};
+ghost use Rattle.pads_rules.specs.Resolving.{Sight, param_named};
 ghost use Rattle.pads_ast.specs.Trees.{params_of};
 ghost use Rattle.pads_resolution.specs.Expressions.{expression};
 ghost use Rattle.pads_resolution.specs.Resolution.{params_scope};
@@ -30,8 +30,8 @@ pub fn resolved_sorts_are_judged()
 /// of an array.
 #[tactic(auto, using(crate::proofs::ScopeLaws::scope_laws))]
 pub fn scopes_are_judged()
-    ensures params { (site : Site) → map as_named (params_scope site) ≡ map (param_named (earlier site)) (params_of site.decl.body) }
-    ensures part { (types : List Declared) (names : NameScope) (part : Part) → map as_named (scopes.names_after types names part) ≡ pieces.names_after types (map as_named names) part }
-    ensures condition { (types : List Declared) (names : NameScope) (parts : List Part) → map as_named (scopes.fields_after types names 0 parts) ≡ pieces.names_after_all types (map as_named names) parts }
+    ensures params { (site : Site) → map as_named (params_scope site) ≡ map (param_named (sight site)) (params_of site.decl.body) }
+    ensures part { (types : Sight) (names : NameScope) (part : Part) → map as_named (scopes.names_after types names part) ≡ pieces.names_after types (map as_named names) part }
+    ensures condition { (types : Sight) (names : NameScope) (parts : List Part) → map as_named (scopes.fields_after types names 0 parts) ≡ pieces.names_after_all types (map as_named names) parts }
     ensures array { (number : ℕ) (names : NameScope) → judging_scope (scopes.array_scope number names) [] ≡ pieces.array_scope (map as_named names) number }
 {}

@@ -7,7 +7,7 @@ ghost use Rattle.pads_resolution.specs.Scopes.{variable};
 ghost use Rattle.pads_rules.specs.Pieces as pieces;
 ghost use Rattle.pads_rules.specs.Resolving.{branch_named};
 
-use crate::{ResolvingSite, add_variable, earlier, option_at, type_at};
+use crate::{ResolvingSite, add_variable, option_at, seen_types, type_at};
 use pads_ast::Branch as WrittenBranch;
 use pads_resolution::{Branch, Visible};
 use pads_resolve_expr::{NameScope, text};
@@ -23,10 +23,10 @@ pub(crate) fn branch_in(
     f: &WrittenBranch,
 ) -> Result<Branch, Memory>
     ensures made { IfOk result (λ made. made ≡ bodies.branch_at (stands site.now) names.old f.now) }
-    ensures names { OnOk result (names.new ≡ names.old ++ variable (branch_named (pieces.earlier (stands site.now)) f.now) ∷ []) }
+    ensures names { OnOk result (names.new ≡ names.old ++ variable (branch_named (pieces.sight (stands site.now)) f.now) ∷ []) }
 {
     let of = type_at(alloc, site, &NameScope::Names(names.as_slice()), &f.of)?;
-    add_variable(alloc, &earlier(site), names, &f.name, &f.of)?;
+    add_variable(alloc, &seen_types(site), names, &f.name, &f.of)?;
     let scope = NameScope::Names(names.as_slice());
     let constraint = option_at(alloc, site, &scope, &f.constraint)?;
     let name = text(alloc, f.name.text.as_slice())?;

@@ -7,7 +7,7 @@ ghost use Rattle.pads_resolve.specs.Places.{sites_among};
 
 use crate::bodies::body_at;
 use crate::sources::role_of;
-use crate::{ResolvingSite, earlier, params_of, variables};
+use crate::{ResolvingSite, params_of, seen_types, variables};
 use pads_declared::{TypeTable, name_of, params_of as params_in};
 use pads_resolution::{Decl, Visible};
 use pads_resolve_expr::{PartTable, text};
@@ -19,7 +19,7 @@ use std::alloc::Global;
 fn params_scope(alloc: Global, site: &ResolvingSite<'_>) -> Result<Items<Visible>, Memory>
     ensures made { IfOk result (λ made. made ≡ resolution.params_scope (stands site.now)) }
 {
-    variables(alloc, &earlier(site), params_in(&site.decl.body))
+    variables(alloc, &seen_types(site), params_in(&site.decl.body))
 }
 
 /// A declaration.
@@ -28,7 +28,7 @@ fn decl_at(alloc: Global, site: &ResolvingSite<'_>) -> Result<Decl, Memory>
     ensures made { IfOk result (λ made. made ≡ resolution.decl_at (stands site.now)) }
 {
     let name = text(alloc, name_of(&site.decl.body).text.as_slice())?;
-    let params = params_of(alloc, &earlier(site), params_in(&site.decl.body))?;
+    let params = params_of(alloc, &seen_types(site), params_in(&site.decl.body))?;
     let scope = params_scope(alloc, site)?;
     let body = body_at(alloc, site, scope, &site.decl.body)?;
     Ok(Decl {

@@ -30,5 +30,5 @@ pub use labels::labels_of;
 pub use literals::{const_of, literal_of};
 pub use resolving::resolve;
 pub use scopes::{add_variable, variables, with_fields};
-pub use site::{ResolvingSite, earlier};
+pub use site::{ResolvingSite, seen_types};
 pub use types::{computed_of, params_of, type_at};

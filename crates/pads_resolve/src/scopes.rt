@@ -6,7 +6,7 @@ ghost use Rattle.pads_rules.specs.Resolving.{named, param_named};
 ghost use Rattle.pads_ast.specs.Trees.{named_part};
 
 use pads_ast::{Name, Param, Part, Type};
-use pads_declared::{EarlierTypes, type_sort};
+use pads_declared::{Sight, type_sort};
 use pads_resolution::{Known, Stands, Visible};
 use pads_resolve_expr::{short, text};
 use pads_rules::ExprSort;
@@ -39,28 +39,28 @@ fn add(
 /// Puts the name of something of a type behind some others, as a variable.
 pub fn add_variable(
     alloc: Global,
-    earlier: &EarlierTypes<'_>,
+    sight: &Sight<'_>,
     names: &mut Items<Visible>,
     name: &Name,
     of: &Type,
 ) -> Result<(), Memory>
-    ensures added { OnOk result (names.new ≡ names.old ++ scopes.variable (named earlier.now (name.now, of.now)) ∷ []) }
+    ensures added { OnOk result (names.new ≡ names.old ++ scopes.variable (named sight.now (name.now, of.now)) ∷ []) }
 {
-    let sort = type_sort(earlier, of);
+    let sort = type_sort(sight, of);
     add(alloc, names, name.text.as_slice(), Stands::Variable, sort)
 }
 
 /// The parameters of a declaration as variables.
 pub fn variables(
     alloc: Global,
-    earlier: &EarlierTypes<'_>,
+    sight: &Sight<'_>,
     params: &[Param],
 ) -> Result<Items<Visible>, Memory>
-    ensures made { IfOk result (λ made. made ≡ map (λ param. scopes.variable (param_named earlier.now param)) params.now) }
+    ensures made { IfOk result (λ made. made ≡ map (λ param. scopes.variable (param_named sight.now param)) params.now) }
 {
     let mut names = Items::new(alloc);
     for param in params {
-        add_variable(alloc, earlier, &mut names, &param.name, &param.of)?;
+        add_variable(alloc, sight, &mut names, &param.name, &param.of)?;
     }
     Ok(names)
 }
@@ -86,13 +86,13 @@ fn copied(alloc: Global, names: &[Visible]) -> Result<Items<Visible>, Memory>
 /// Puts the name of something of a type behind some others, as a field by number.
 fn add_numbered(
     alloc: Global,
-    earlier: &EarlierTypes<'_>,
+    sight: &Sight<'_>,
     names: &mut Items<Visible>,
     number: usize,
     name: &Name,
     of: &Type,
 ) -> Result<(), Memory>
-    ensures added { OnOk result (names.new ≡ names.old ++ scopes.field earlier.now number (name.now, of.now) ∷ []) }
+    ensures added { OnOk result (names.new ≡ names.old ++ scopes.field sight.now number (name.now, of.now) ∷ []) }
 {
     let what = Stands::Field(short(number));
     add(
@@ -100,7 +100,7 @@ fn add_numbered(
         names,
         name.text.as_slice(),
         what,
-        type_sort(earlier, of),
+        type_sort(sight, of),
     )
 }
 
@@ -108,32 +108,32 @@ fn add_numbered(
 #[tactic(auto, using(crate::proofs::Steps::nothing_more))]
 fn add_field(
     alloc: Global,
-    earlier: &EarlierTypes<'_>,
+    sight: &Sight<'_>,
     names: &mut Items<Visible>,
     number: usize,
     part: &Part,
 ) -> Result<(), Memory>
-    ensures added { OnOk result (names.new ≡ names.old ++ map (scopes.field earlier.now number) (named_part part.now)) }
+    ensures added { OnOk result (names.new ≡ names.old ++ map (scopes.field sight.now number) (named_part part.now)) }
 {
     match part {
         Part::Literal(_) => Ok(()),
-        Part::Pcompute { of, name, .. } => add_numbered(alloc, earlier, names, number, name, of),
-        Part::Field(f) => add_numbered(alloc, earlier, names, number, &f.name, &f.of),
+        Part::Pcompute { of, name, .. } => add_numbered(alloc, sight, names, number, name, of),
+        Part::Field(f) => add_numbered(alloc, sight, names, number, &f.name, &f.of),
     }
 }
 
 /// The names in the `Pwhere` of a struct behind those of its parameters: its fields, by their numbers among all parts.
 pub fn with_fields(
     alloc: Global,
-    earlier: &EarlierTypes<'_>,
+    sight: &Sight<'_>,
     params: &[Visible],
     parts: &[Part],
 ) -> Result<Items<Visible>, Memory>
-    ensures made { IfOk result (λ made. made ≡ scopes.fields_after earlier.now params.now 0 parts.now) }
+    ensures made { IfOk result (λ made. made ≡ scopes.fields_after sight.now params.now 0 parts.now) }
 {
     let mut names = copied(alloc, params)?;
     for number in 0..parts.len() {
-        add_field(alloc, earlier, &mut names, number, &parts[number])?;
+        add_field(alloc, sight, &mut names, number, &parts[number])?;
     }
     Ok(names)
 }

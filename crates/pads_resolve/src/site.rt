@@ -5,7 +5,7 @@ ghost use Rattle.pads_resolve.specs.Borrowed.{stands};
 ghost use Rattle.pads_rules.specs.Pieces as pieces;
 
 use pads_ast::Decl;
-use pads_declared::{EarlierTypes, TypeTable};
+use pads_declared::{Sight, TypeTable};
 use pads_resolve_expr::PartTable;
 
 /// A declaration where it stands.
@@ -20,9 +20,9 @@ pub struct ResolvingSite<'a> {
     pub decl: &'a Decl,
 }
 
-/// The types that are declared before.
-pub fn earlier<'a>(site: &ResolvingSite<'a>) -> EarlierTypes<'a>
-    ensures types { result ≡ pieces.earlier (stands site.now) }
+/// What the type names of a declaration see.
+pub fn seen_types<'a>(site: &ResolvingSite<'a>) -> Sight<'a>
+    ensures types { result ≡ pieces.sight (stands site.now) }
 {
-    site.env.before(site.number)
+    site.env.seen_from(site.number)
 }

@@ -6,9 +6,9 @@ ghost use Rattle.pads_resolve.specs.Borrowed.{stands};
 ghost use Rattle.pads_resolution.specs.Resolution as resolution;
 ghost use Rattle.pads_resolve.specs.Places.{sites_among};
 
-use crate::{ResolvingSite, earlier};
+use crate::{ResolvingSite, seen_types};
 use pads_ast::{Decl as WrittenDecl, DeclBody, DeclMark, Part, Type};
-use pads_declared::{EarlierTypes, TypeTable, is_precord, is_psource, is_record_list};
+use pads_declared::{Sight, TypeTable, is_precord, is_psource, is_record_list};
 use pads_resolution::{Role, Source};
 use pads_resolve_expr::{PartTable, number_of, short};
 
@@ -20,22 +20,22 @@ pub(crate) fn role_of(site: &ResolvingSite<'_>) -> Role
     if is_precord(site.decl.mark) {
         return Role::Precord;
     }
-    if is_psource(site.decl.mark) || is_record_list(&earlier(site), site.decl) {
+    if is_psource(site.decl.mark) || is_record_list(&seen_types(site), site.decl) {
         return Role::Source;
     }
     Role::Part
 }
 
-/// The number of the declaration that a type names, among the types that are declared before.
+/// The number of the declaration that a type names.
 #[tactic(auto, unfolding(pads_resolution::specs::Resolution::named_number))]
-fn named_number(types: &EarlierTypes<'_>, of: &Type) -> u16
+fn named_number(types: &Sight<'_>, of: &Type) -> u16
     ensures number { result ≡ resolution.named_number types.now of.now }
 {
     number_of(types.number_of(of.name.text.as_slice()))
 }
 
 /// The record type of a record list.
-fn listed_record(types: &EarlierTypes<'_>, body: &DeclBody) -> u16
+fn listed_record(types: &Sight<'_>, body: &DeclBody) -> u16
     ensures number { result ≡ resolution.listed_record types.now body.now }
 {
     match body {
@@ -57,7 +57,7 @@ fn list_record(site: &ResolvingSite<'_>, list: u16) -> u16
     ensures number { result ≡ resolution.list_record (stands site.now) list }
 {
     match decl(site.decls.as_slice(), list) {
-        Some(d) => listed_record(&site.env.before(list as usize), &d.body),
+        Some(d) => listed_record(&site.env.seen_from(list as usize), &d.body),
         None => 0,
     }
 }
@@ -76,7 +76,7 @@ fn plain_source(record_type: u16) -> Source
 fn headed_source(site: &ResolvingSite<'_>, header: &Type, list: &Type) -> Source
     ensures source { result ≡ resolution.headed_source (stands site.now) header.now list.now }
 {
-    let types = earlier(site);
+    let types = seen_types(site);
     Source {
         header: Some(named_number(&types, header)),
         record: list_record(site, named_number(&types, list)),
@@ -98,7 +98,7 @@ fn shaped_source(site: &ResolvingSite<'_>, body: &DeclBody) -> Source
 {
     match body {
         DeclBody::Struct(d) => parts_source(site, d.parts.as_slice()),
-        DeclBody::Array(d) => plain_source(named_number(&earlier(site), &d.of)),
+        DeclBody::Array(d) => plain_source(named_number(&seen_types(site), &d.of)),
         _ => plain_source(0),
     }
 }
@@ -112,6 +112,7 @@ fn source_after(source: Source, site: &ResolvingSite<'_>) -> Source
         None => source,
         Some(DeclMark::Precord) => plain_source(short(site.number)),
         Some(DeclMark::Psource) => shaped_source(site, &site.decl.body),
+        Some(DeclMark::Precursive) => source,
     }
 }
 

@@ -9,7 +9,9 @@ ghost use Rattle.pads_resolution.specs.Types as types;
 ghost use Rattle.pads_rules.specs.Pieces as pieces;
 
 use crate::branches::branch_in;
-use crate::{ResolvingSite, add_variable, computed_of, earlier, expr_at, literal_of, with_fields};
+use crate::{
+    ResolvingSite, add_variable, computed_of, expr_at, literal_of, seen_types, with_fields,
+};
 use pads_ast::{
     Expr as Tree, Name, Part as WrittenPart, Struct as WrittenStruct, Type as WrittenType,
 };
@@ -47,13 +49,13 @@ fn part_in(
     part: &WrittenPart,
 ) -> Result<Part, Memory>
     ensures made { IfOk result (λ made. made ≡ bodies.part_at (stands site.now) names.old part.now) }
-    ensures names { OnOk result (names.new ≡ scopes.names_after (pieces.earlier (stands site.now)) names.old part.now) }
+    ensures names { OnOk result (names.new ≡ scopes.names_after (pieces.sight (stands site.now)) names.old part.now) }
 {
     match part {
         WrittenPart::Literal(literal) => Ok(Part::Literal(literal_of(alloc, literal)?)),
         WrittenPart::Pcompute { of, name, value } => {
             let made = computed_at(alloc, site, names.as_slice(), of, name, value)?;
-            add_variable(alloc, &earlier(site), names, name, of)?;
+            add_variable(alloc, &seen_types(site), names, name, of)?;
             Ok(made)
         }
         WrittenPart::Field(f) => Ok(Part::Field(branch_in(alloc, site, names, f)?)),
@@ -85,12 +87,12 @@ fn condition_at(
     params: &[Visible],
     d: &WrittenStruct,
 ) -> Result<Option<Expr>, Memory>
-    ensures made { IfOk result (λ made. made ≡ bodies.option_at (stands site.now) (scopes.fields_after (pieces.earlier (stands site.now)) params.now 0 d.now.parts) d.now.condition) }
+    ensures made { IfOk result (λ made. made ≡ bodies.option_at (stands site.now) (scopes.fields_after (pieces.sight (stands site.now)) params.now 0 d.now.parts) d.now.condition) }
 {
     let Some(condition) = &d.condition else {
         return Ok(None);
     };
-    let names = with_fields(alloc, &earlier(site), params, d.parts.as_slice())?;
+    let names = with_fields(alloc, &seen_types(site), params, d.parts.as_slice())?;
     let scope = NameScope::Names(names.as_slice());
     Ok(Some(expr_at(alloc, site, &scope, condition)?))
 }

@@ -4,7 +4,7 @@ ghost use Rattle.std.specs.Prelude.{◌≡◌, option_map, IfOk};
 ghost use Rattle.pads_resolve.specs.Borrowed.{stands};
 ghost use Rattle.pads_resolution.specs.Bodies as bodies;
 
-use crate::{ResolvingSite, earlier, expr_at, type_at};
+use crate::{ResolvingSite, expr_at, seen_types, type_at};
 use pads_ast::{Constraint as WrittenConstraint, Typedef as WrittenTypedef};
 use pads_declared::type_sort;
 use pads_resolution::{Constraint, Stands, Typedef, Visible};
@@ -24,7 +24,7 @@ fn constraint_at(
     ensures made { IfOk result (λ made. made ≡ bodies.constraint_at (stands site.now) params.now d.now c.now) }
 {
     let name = c.variable.text.as_slice();
-    let sort = type_sort(&earlier(site), &d.of);
+    let sort = type_sort(&seen_types(site), &d.of);
     let outside = NameScope::Names(params);
     let scope = NameScope::Hiding(name, Stands::Variable, sort, &outside);
     let condition = expr_at(alloc, site, &scope, &c.condition)?;

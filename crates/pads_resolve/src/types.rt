@@ -7,10 +7,10 @@ ghost use Rattle.pads_resolve_expr.specs.Scopes.{names_in_scope};
 ghost use Rattle.pads_ast.specs.Trees as trees;
 
 use crate::expressions::expr_at;
-use crate::site::{ResolvingSite, earlier};
+use crate::site::{ResolvingSite, seen_types};
 use pads_ast::{Arg, Param as WrittenParam, Type as WrittenType};
 use pads_base_names::{BaseName, NamedCoding, base_name};
-use pads_declared::{EarlierTypes, type_sort};
+use pads_declared::{Sight, type_sort};
 use pads_resolution::{Computed, Expr, Param, Params, Type, TypeName};
 use pads_resolve_expr::{NameScope, short, sort_known, text};
 use pads_value::{Items, Memory};
@@ -36,15 +36,15 @@ fn args_of(of: &WrittenType) -> &[Arg]
     }
 }
 
-/// A type's name among the types that are declared before.
+/// What a type's name names.
 #[tactic(auto, unfolding(pads_resolution::specs::Types::named_type))]
-fn named_type(earlier: &EarlierTypes<'_>, of: &WrittenType) -> TypeName
-    ensures named { result ≡ types.named_type earlier.now of.now }
+fn named_type(sight: &Sight<'_>, of: &WrittenType) -> TypeName
+    ensures named { result ≡ types.named_type sight.now of.now }
 {
     let name = of.name.text.as_slice();
     match base_name(name) {
         Some(base) => TypeName::Base(base),
-        None => declared_type(earlier.number_of(name)),
+        None => declared_type(sight.number_of(name)),
     }
 }
 
@@ -95,7 +95,7 @@ pub fn type_at(
     let args = args(alloc, site, scope, args_of(of))?;
     Ok(Type {
         optional: of.optional.is_some(),
-        name: named_type(&earlier(site), of),
+        name: named_type(&seen_types(site), of),
         args,
     })
 }
@@ -113,29 +113,25 @@ pub fn computed_of(of: &WrittenType) -> Computed
 
 /// A parameter: its name, and the sort of its type.
 #[tactic(auto, unfolding(pads_resolution::specs::Types::param_of))]
-fn param_of(
-    alloc: Global,
-    earlier: &EarlierTypes<'_>,
-    param: &WrittenParam,
-) -> Result<Param, Memory>
-    ensures made { IfOk result (λ made. made ≡ types.param_of earlier.now param.now) }
+fn param_of(alloc: Global, sight: &Sight<'_>, param: &WrittenParam) -> Result<Param, Memory>
+    ensures made { IfOk result (λ made. made ≡ types.param_of sight.now param.now) }
 {
     let name = text(alloc, param.name.text.as_slice())?;
-    let sort = sort_known(type_sort(earlier, &param.of));
+    let sort = sort_known(type_sort(sight, &param.of));
     Ok(Param { name, sort })
 }
 
 /// The parameters of a declaration.
 pub fn params_of(
     alloc: Global,
-    earlier: &EarlierTypes<'_>,
+    sight: &Sight<'_>,
     written: &[WrittenParam],
 ) -> Result<Params, Memory>
-    ensures made { IfOk result (λ made. made ≡ map (types.param_of earlier.now) written.now) }
+    ensures made { IfOk result (λ made. made ≡ map (types.param_of sight.now) written.now) }
 {
     let mut made = Items::new(alloc);
     for param in written {
-        made.push(param_of(alloc, earlier, param)?)?;
+        made.push(param_of(alloc, sight, param)?)?;
     }
     Ok(made)
 }

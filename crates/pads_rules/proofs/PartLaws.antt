@@ -2,7 +2,7 @@
 use Rattle.std.proofs.Common.{◌≡◌, ◌∙◌, sym, ap, refl, List, [], ◌∷◌, ◌++◌, Option}
 use Rattle.pads_ast.specs.declared.decl.Ast.{Ast}
 use Rattle.pads_rules.specs.declared.fault.CheckFault.{CheckFault}
-use Rattle.pads_rules.specs.DeclRules.{name_taken, name_again, other_name, spelling_again, marked_with_params, misplaced_source, too_much}
+use Rattle.pads_rules.specs.DeclRules.{name_taken, name_again, other_name, spelling_again, marked_with_params, misplaced_source, misplaced_precursive, too_much}
 use Rattle.pads_rules.specs.Faults.{lesser, least, each}
 use Rattle.pads_rules.specs.PieceRules.{unknown_type, later_type, argument_count, argument_sorts, size_sort, condition_sort, case_sorts, case_again, empty_literal, computed_type, param_type, record_type_named, in_expressions}
 use Rattle.pads_rules.specs.Pieces.{Site, Piece, sites, pieces}
@@ -39,8 +39,8 @@ module _ (tree : Ast) where
   abbrev at_pieces : (Site → Piece → List CheckFault) → Option CheckFault
   at_pieces rule = at_sites (in_pieces rule)
 
-  decl_part : lesser (lesser (lesser (lesser (lesser (lesser (at_sites name_taken) (at_sites name_again)) (at_sites other_name)) (at_sites spelling_again))
-      (at_sites marked_with_params)) (at_sites misplaced_source)) (at_sites too_much)
+  decl_part : lesser (lesser (lesser (lesser (lesser (lesser (lesser (at_sites name_taken) (at_sites name_again)) (at_sites other_name)) (at_sites spelling_again))
+      (at_sites marked_with_params)) (at_sites misplaced_source)) (at_sites too_much)) (at_sites misplaced_precursive)
       ≡ at_sites decl_faults
   decl_part = simp together refl
 
@@ -55,17 +55,21 @@ module _ (tree : Ast) where
   in_two =
       into-first _ _ _ (at_sites misplaced_source) (into-first _ _ _ (at_sites marked_with_params) (into-second _ _ _ (at_pieces record_type_named) (into-second _ _ _ (at_pieces param_type) (into-second _ _ _ (at_pieces computed_type) (into-first _ _ _ (at_sites spelling_again) (into-second _ _ _ (at_pieces empty_literal) (into-second _ _ _ (at_pieces case_again) (into-second _ _ _ (at_pieces case_sorts) (into-first _ _ _ (at_sites other_name) (into-second _ _ _ (at_pieces condition_sort) (into-second _ _ _ (at_pieces size_sort) (into-second _ _ _ (at_pieces argument_sorts) (into-second _ _ _ (at_pieces argument_count) (into-second _ _ _ (at_pieces in_expressions) (into-first _ _ _ (at_sites name_again) (into-second (lesser (at_sites name_taken) (at_pieces unknown_type)) (at_sites name_taken) (at_pieces unknown_type) (at_pieces later_type) refl))))))))))))))))
 
-  -- the rule about the whole tree, and the last rule about declarations
-  in_order : least (violations tree) ≡ lesser (lesser (lesser (lesser (lesser (lesser (lesser (lesser (lesser (lesser (lesser (lesser (lesser (lesser (lesser (lesser (lesser (lesser (lesser (lesser (at_sites name_taken) (at_pieces unknown_type)) (at_pieces later_type)) (at_sites name_again)) (at_pieces in_expressions)) (at_pieces argument_count)) (at_pieces argument_sorts)) (at_pieces size_sort)) (at_pieces condition_sort)) (at_sites other_name)) (at_pieces case_sorts)) (at_pieces case_again)) (at_pieces empty_literal)) (at_sites spelling_again)) (at_pieces computed_type)) (at_pieces param_type)) (at_pieces record_type_named)) (at_sites marked_with_params)) (at_sites misplaced_source)) (at_sites too_much)) (least (no_record_type tree))
+  -- the rule about the whole tree, and the last rules about declarations
+  in_order : least (violations tree) ≡ lesser (lesser (lesser (lesser (lesser (lesser (lesser (lesser (lesser (lesser (lesser (lesser (lesser (lesser (lesser (lesser (lesser (lesser (lesser (lesser (lesser (at_sites name_taken) (at_pieces unknown_type)) (at_pieces later_type)) (at_sites name_again)) (at_pieces in_expressions)) (at_pieces argument_count)) (at_pieces argument_sorts)) (at_pieces size_sort)) (at_pieces condition_sort)) (at_sites other_name)) (at_pieces case_sorts)) (at_pieces case_again)) (at_pieces empty_literal)) (at_sites spelling_again)) (at_pieces computed_type)) (at_pieces param_type)) (at_pieces record_type_named)) (at_sites marked_with_params)) (at_sites misplaced_source)) (at_sites too_much)) (at_sites misplaced_precursive)) (least (no_record_type tree))
   unfolding violations
-  in_order = simp least-append (into-first (lesser (lesser (lesser (lesser (lesser (lesser (lesser (lesser (lesser (lesser (lesser (lesser (lesser (lesser (lesser (lesser (lesser (lesser (lesser (at_sites name_taken) (at_pieces unknown_type)) (at_pieces later_type)) (at_sites name_again)) (at_pieces in_expressions)) (at_pieces argument_count)) (at_pieces argument_sorts)) (at_pieces size_sort)) (at_pieces condition_sort)) (at_sites other_name)) (at_pieces case_sorts)) (at_pieces case_again)) (at_pieces empty_literal)) (at_sites spelling_again)) (at_pieces computed_type)) (at_pieces param_type)) (at_pieces record_type_named)) (at_sites marked_with_params)) (at_sites misplaced_source)) (least (no_record_type tree))) (lesser (lesser (lesser (lesser (lesser (lesser (lesser (lesser (lesser (lesser (lesser (lesser (lesser (lesser (lesser (lesser (lesser (lesser (at_sites name_taken) (at_pieces unknown_type)) (at_pieces later_type)) (at_sites name_again)) (at_pieces in_expressions)) (at_pieces argument_count)) (at_pieces argument_sorts)) (at_pieces size_sort)) (at_pieces condition_sort)) (at_sites other_name)) (at_pieces case_sorts)) (at_pieces case_again)) (at_pieces empty_literal)) (at_sites spelling_again)) (at_pieces computed_type)) (at_pieces param_type)) (at_pieces record_type_named)) (at_sites marked_with_params)) (at_sites misplaced_source)) (least (no_record_type tree)) (at_sites too_much) refl)
+  in_order =
+      let all : Option CheckFault = (lesser (lesser (lesser (lesser (lesser (lesser (lesser (lesser (lesser (lesser (lesser (lesser (lesser (lesser (lesser (lesser (lesser (lesser (at_sites name_taken) (at_pieces unknown_type)) (at_pieces later_type)) (at_sites name_again)) (at_pieces in_expressions)) (at_pieces argument_count)) (at_pieces argument_sorts)) (at_pieces size_sort)) (at_pieces condition_sort)) (at_sites other_name)) (at_pieces case_sorts)) (at_pieces case_again)) (at_pieces empty_literal)) (at_sites spelling_again)) (at_pieces computed_type)) (at_pieces param_type)) (at_pieces record_type_named)) (at_sites marked_with_params)) (at_sites misplaced_source)) in
+      simp least-append
+      (into-first (lesser (lesser all (least (no_record_type tree))) (at_sites too_much)) (lesser all (at_sites too_much)) (least (no_record_type tree)) (at_sites misplaced_precursive)
+      (into-first (lesser all (least (no_record_type tree))) all (least (no_record_type tree)) (at_sites too_much) refl))
 
   -- The violation that is told first is the first of those of the declarations, each with its pieces, and of that of the whole tree.
   pub least-violations : least (violations tree) ≡ lesser (least (all_faults tree)) (least (no_record_type tree))
   least-violations =
       in_order
       ∙ ap (λ q. lesser q (least (no_record_type tree)))
-      (into-first _ _ _ (at_sites too_much) in_two
+      (into-first _ _ _ (at_sites misplaced_precursive) (into-first _ _ _ (at_sites too_much) in_two)
       ∙ ap (λ d. lesser d (lesser (lesser (lesser (lesser (lesser (lesser (lesser (lesser (lesser (lesser (lesser (lesser (at_pieces unknown_type) (at_pieces later_type)) (at_pieces in_expressions)) (at_pieces argument_count)) (at_pieces argument_sorts)) (at_pieces size_sort)) (at_pieces condition_sort)) (at_pieces case_sorts)) (at_pieces case_again)) (at_pieces empty_literal)) (at_pieces computed_type)) (at_pieces param_type)) (at_pieces record_type_named))) decl_part
       ∙ ap (lesser (at_sites decl_faults)) piece_part
       ∙ together decl_faults (λ site. each (piece_faults site) (pieces site)) (sites tree.decls))

@@ -25,7 +25,8 @@ use Rattle.pads_rules.specs.declared.fault.CheckFault.{CheckFault}
 use Rattle.pads_rules.specs.declared.rule.Rule.TheVariants as rule
 use Rattle.pads_rules.specs.Faults.{breaks, lesser, least}
 use Rattle.pads_rules.specs.Rules.{number}
-use Rattle.pads_rules.specs.Resolving.{meaning, declared}
+use Rattle.pads_rules.specs.Resolving.{meaning, unsorted, leads, outlines, declared}
+use Rattle.pads_rules.specs.Sorts.{optional_by}
 use Rattle.pads_rules.specs.Texts.{same_text}
 use Rattle.pads_rules.specs.Violations.{violations}
 use Rattle.pads_rules.proofs.Judgements.{on_names}
@@ -54,62 +55,62 @@ Told decls first = (spelled : list_all is_name (names_in decls) ≡ true) → le
 
 -- the empty description has no record type
 empty : least (violations (record { decls = []; end = 0; spelled = refl })) ≡ Some (breaks rule.NoRecordType 0)
-unfolding violations lesser declared
+unfolding violations lesser declared outlines leads unsorted
 empty = refl
 
 -- Precord Pstruct r { };
 accepted : Told (record_type [] ∷ []) None
-unfolding violations lesser declared meaning same_text base_name kind_of field_of is_word behind
+unfolding violations lesser declared outlines leads unsorted optional_by meaning same_text base_name kind_of field_of is_word behind
 accepted = λ spelled. refl
 
 -- Precord Pstruct r { Puint8 a; Pstring(:Peor:) b; };
 accepted_fields : Told (record_type (field (bare (codes "Puint8") 20) (name (codes "a") 27) None ∷ field (of_one (codes "Pstring") 30 (arg.Peor 39)) (name (codes "b") 46) None ∷ []) ∷ []) None
-unfolding violations lesser declared meaning same_text base_name kind_of field_of is_word behind
+unfolding violations lesser declared outlines leads unsorted optional_by meaning same_text base_name kind_of field_of is_word behind
 accepted_fields = λ spelled. refl
 
 -- Precord Pstruct Puint8 { };
 rule_1 : Told (record { mark = Some mark.Precord; body = decl.Struct (record { name = name (codes "Puint8") 16; params = None; parts = []; condition = None }) } ∷ []) (Some (breaks rule.NameTaken 16))
-unfolding violations lesser declared meaning same_text base_name kind_of field_of is_word behind
+unfolding violations lesser declared outlines leads unsorted optional_by meaning same_text base_name kind_of field_of is_word behind
 rule_1 = λ spelled. refl
 
 -- Precord Pstruct r { Pfoo a; Puint8 a; };
 rule_2_before_4 : Told (record_type (field (bare (codes "Pfoo") 20) (name (codes "a") 25) None ∷ field (bare (codes "Puint8") 28) (name (codes "a") 35) None ∷ []) ∷ []) (Some (breaks rule.UnknownType 20))
-unfolding violations lesser declared meaning same_text base_name kind_of field_of is_word behind
+unfolding violations lesser declared outlines leads unsorted optional_by meaning same_text base_name kind_of field_of is_word behind
 rule_2_before_4 = λ spelled. refl
 
 -- Precord Pstruct r { r a; };
 rule_3 : Told (record_type (field (bare (codes "r") 20) (name (codes "a") 22) None ∷ []) ∷ []) (Some (breaks rule.LaterType 20))
-unfolding violations lesser declared meaning same_text base_name kind_of field_of is_word behind
+unfolding violations lesser declared outlines leads unsorted optional_by meaning same_text base_name kind_of field_of is_word behind
 rule_3 = λ spelled. refl
 
 -- Precord Pstruct r { Puint8 a; Puint8 a; };
 rule_4 : Told (record_type (field (bare (codes "Puint8") 20) (name (codes "a") 27) None ∷ field (bare (codes "Puint8") 30) (name (codes "a") 37) None ∷ []) ∷ []) (Some (breaks rule.NameAgain 37))
-unfolding violations lesser declared meaning same_text base_name kind_of field_of is_word behind
+unfolding violations lesser declared outlines leads unsorted optional_by meaning same_text base_name kind_of field_of is_word behind
 rule_4 = λ spelled. refl
 
 -- Precord Pstruct r { Pstring_FW(:n:) s; Puint8 n; };
 rule_6 : Told (record_type (field (of_one (codes "Pstring_FW") 20 (arg.Expr (expr.Name (name (codes "n") 32)))) (name (codes "s") 36) None ∷ field (bare (codes "Puint8") 39) (name (codes "n") 46) None ∷ []) ∷ []) (Some (breaks rule.LaterField 32))
-unfolding violations lesser declared meaning same_text base_name kind_of field_of is_word behind
+unfolding violations lesser declared outlines leads unsorted optional_by meaning same_text base_name kind_of field_of is_word behind
 rule_6 = λ spelled. simp on_names refl
 
 -- Precord Pstruct r { Pstring a; };
 rule_7 : Told (record_type (field (bare (codes "Pstring") 20) (name (codes "a") 28) None ∷ []) ∷ []) (Some (breaks rule.ArgumentCount 20))
-unfolding violations lesser declared meaning same_text base_name kind_of field_of is_word behind
+unfolding violations lesser declared outlines leads unsorted optional_by meaning same_text base_name kind_of field_of is_word behind
 rule_7 = λ spelled. refl
 
 -- Precord Pstruct r { Puint8_FW(:Peor:) a; };
 rule_8 : Told (record_type (field (of_one (codes "Puint8_FW") 20 (arg.Peor 31)) (name (codes "a") 38) None ∷ []) ∷ []) (Some (breaks rule.ArgumentSort 31))
-unfolding violations lesser declared meaning same_text base_name kind_of field_of is_word behind
+unfolding violations lesser declared outlines leads unsorted optional_by meaning same_text base_name kind_of field_of is_word behind
 rule_8 = λ spelled. refl
 
 -- Precord Pstruct r { Puint8 a : a; };
 rule_10 : Told (record_type (field (bare (codes "Puint8") 20) (name (codes "a") 27) (Some (expr.Name (name (codes "a") 31))) ∷ []) ∷ []) (Some (breaks rule.ConditionSort 31))
-unfolding violations lesser declared meaning same_text base_name kind_of field_of is_word behind
+unfolding violations lesser declared outlines leads unsorted optional_by meaning same_text base_name kind_of field_of is_word behind
 rule_10 = λ spelled. simp on_names refl
 
 -- Precord Pstruct r { ""; };
 rule_14 : Told (record_type (part.Literal (literal.Word (word.Text [] 20)) ∷ []) ∷ []) (Some (breaks rule.EmptyLiteral 20))
-unfolding violations lesser declared meaning same_text base_name kind_of field_of is_word behind
+unfolding violations lesser declared outlines leads unsorted optional_by meaning same_text base_name kind_of field_of is_word behind
 rule_14 = λ spelled. refl
 
 -- Penum e { A Pfrom("x"), B Pfrom("x") }; Precord Pstruct r { e v; };
@@ -120,7 +121,7 @@ rule_15 : Told
     (record { mark = None; body = decl.Enum (record { name = name (codes "e") 6; labels = label (codes "A") 10 18 ∷ label (codes "B") 24 32 ∷ [] }) }
     ∷ record { mark = Some mark.Precord; body = decl.Struct (record { name = name (codes "r") 56; params = None; parts = field (bare (codes "e") 60) (name (codes "v") 62) None ∷ []; condition = None }) } ∷ [])
     (Some (breaks rule.SpellingAgain 32))
-unfolding violations lesser declared meaning same_text base_name kind_of field_of is_word behind
+unfolding violations lesser declared outlines leads unsorted optional_by meaning same_text base_name kind_of field_of is_word behind
 rule_15 = λ spelled. refl
 
 -- Popt Puint8 o (: Pip p :); and then a record type
@@ -128,20 +129,20 @@ rule_19 : Told
     (record { mark = None; body = decl.Opt (record { of = bare (codes "Puint8") 5; name = name (codes "o") 12; params = Some (record { of = bare (codes "Pip") 17; name = name (codes "p") 21 } ∷ []) }) }
     ∷ record_type [] ∷ [])
     (Some (breaks rule.ParameterType 17))
-unfolding violations lesser declared meaning same_text base_name kind_of field_of is_word behind
+unfolding violations lesser declared outlines leads unsorted optional_by meaning same_text base_name kind_of field_of is_word behind
 rule_19 = λ spelled. refl
 
 -- Precord Pstruct r { }; Popt r o;
 rule_20 : Told (record_type [] ∷ record { mark = None; body = decl.Opt (record { of = bare (codes "r") 28; name = name (codes "o") 30; params = None }) } ∷ [])
     (Some (breaks rule.RecordTypeNamed 28))
-unfolding violations lesser declared meaning same_text base_name kind_of field_of is_word behind
+unfolding violations lesser declared outlines leads unsorted optional_by meaning same_text base_name kind_of field_of is_word behind
 rule_20 = λ spelled. refl
 
 -- Precord Pstruct r (: Pchar c :) { };
 rule_21 : Told
     (record { mark = Some mark.Precord; body = decl.Struct (record { name = name (codes "r") 16; params = Some (record { of = bare (codes "Pchar") 21; name = name (codes "c") 27 } ∷ []); parts = []; condition = None }) } ∷ [])
     (Some (breaks rule.MarkedWithParameters 16))
-unfolding violations lesser declared meaning same_text base_name kind_of field_of is_word behind
+unfolding violations lesser declared outlines leads unsorted optional_by meaning same_text base_name kind_of field_of is_word behind
 rule_21 = λ spelled. refl
 
 -- Psource Pstruct s { }; and then a record type: it isn't the last
@@ -149,14 +150,14 @@ rule_22 : Told
     (record { mark = Some mark.Psource; body = decl.Struct (record { name = name (codes "s") 16; params = None; parts = []; condition = None }) }
     ∷ record { mark = Some mark.Precord; body = decl.Struct (record { name = name (codes "r") 39; params = None; parts = []; condition = None }) } ∷ [])
     (Some (breaks rule.MisplacedSource 16))
-unfolding violations lesser declared meaning same_text base_name kind_of field_of is_word behind
+unfolding violations lesser declared outlines leads unsorted optional_by meaning same_text base_name kind_of field_of is_word behind
 rule_22 = λ spelled. refl
 
 -- Precord Pstruct r { }; Psource Parray s { r[]; };
 accepted_source : Told
     (record_type [] ∷ record { mark = Some mark.Psource; body = decl.Array (record { name = name (codes "s") 38; params = None; of = bare (codes "r") 42; size = None; options = []; condition = None }) } ∷ [])
     None
-unfolding violations lesser declared meaning same_text base_name kind_of field_of is_word behind
+unfolding violations lesser declared outlines leads unsorted optional_by meaning same_text base_name kind_of field_of is_word behind
 accepted_source = λ spelled. refl
 
 -- Precord Pstruct r { }; Parray a { Puint8[] : Psep(',') && Psep(';'); };
@@ -173,5 +174,29 @@ rule_4_options : Told
       });
     } ∷ [])
     (Some (breaks rule.NameAgain 58))
-unfolding violations lesser declared meaning same_text base_name kind_of field_of is_word behind
+unfolding violations lesser declared outlines leads unsorted optional_by meaning same_text base_name kind_of field_of is_word behind
 rule_4_options = λ spelled. refl
+
+-- Precord Pstruct r { a v; }; Precursive Pstruct a { a x; };
+forward_and_itself : Told
+    (record_type (field (bare (codes "a") 20) (name (codes "v") 22) None ∷ [])
+    ∷ record { mark = Some mark.Precursive; body = decl.Struct (record { name = name (codes "a") 46; params = None; parts = field (bare (codes "a") 50) (name (codes "x") 52) None ∷ []; condition = None }) } ∷ [])
+    None
+unfolding violations lesser declared outlines leads unsorted optional_by meaning same_text base_name kind_of field_of is_word behind
+forward_and_itself = λ spelled. refl
+
+-- Precursive Ptypedef Puint8 t; Precord Pstruct r { t v; };
+abbrev recursive_typedef : «Type» → Decl
+recursive_typedef of = record { mark = Some mark.Precursive; body = decl.Typedef (record { of = of; name = name (codes "t") 27; params = None; constraint = None }) }
+
+abbrev after_typedef : List Decl
+after_typedef = record { mark = Some mark.Precord; body = decl.Struct (record { name = name (codes "r") 46; params = None; parts = field (bare (codes "t") 50) (name (codes "v") 52) None ∷ []; condition = None }) } ∷ []
+
+rule_25 : Told (recursive_typedef (bare (codes "Puint8") 20) ∷ after_typedef) (Some (breaks rule.MisplacedPrecursive 27))
+unfolding violations lesser declared outlines leads unsorted optional_by meaning same_text base_name kind_of field_of is_word behind
+rule_25 = λ spelled. refl
+
+-- Precursive Ptypedef t t; Precord Pstruct r { t v; };
+to_itself : Told (recursive_typedef (bare (codes "t") 20) ∷ after_typedef) (Some (breaks rule.MisplacedPrecursive 27))
+unfolding violations lesser declared outlines leads unsorted optional_by meaning same_text base_name kind_of field_of is_word behind
+to_itself = λ spelled. refl

@@ -6,7 +6,7 @@ use Rattle.pads_rules.specs.Rules.{number}
 
 -- the rules in the order of their numbers, behind one that stands for number 0
 abbrev numbered : List Rule
-numbered = rule.NameTaken ∷ rule.NameTaken ∷ rule.UnknownType ∷ rule.LaterType ∷ rule.NameAgain ∷ rule.UnknownName ∷ rule.LaterField ∷ rule.ArgumentCount ∷ rule.ArgumentSort ∷ rule.OperandSort ∷ rule.ConditionSort ∷ rule.OtherName ∷ rule.CaseSort ∷ rule.CaseAgain ∷ rule.EmptyLiteral ∷ rule.SpellingAgain ∷ rule.UnknownMember ∷ rule.UnknownChoice ∷ rule.ComputedType ∷ rule.ParameterType ∷ rule.RecordTypeNamed ∷ rule.MarkedWithParameters ∷ rule.MisplacedSource ∷ rule.NoRecordType ∷ rule.Limit ∷ []
+numbered = rule.NameTaken ∷ rule.NameTaken ∷ rule.UnknownType ∷ rule.LaterType ∷ rule.NameAgain ∷ rule.UnknownName ∷ rule.LaterField ∷ rule.ArgumentCount ∷ rule.ArgumentSort ∷ rule.OperandSort ∷ rule.ConditionSort ∷ rule.OtherName ∷ rule.CaseSort ∷ rule.CaseAgain ∷ rule.EmptyLiteral ∷ rule.SpellingAgain ∷ rule.UnknownMember ∷ rule.UnknownChoice ∷ rule.ComputedType ∷ rule.ParameterType ∷ rule.RecordTypeNamed ∷ rule.MarkedWithParameters ∷ rule.MisplacedSource ∷ rule.NoRecordType ∷ rule.Limit ∷ rule.MisplacedPrecursive ∷ []
 
 at-number : (r : Rule) → slice_get numbered (number r) ≡ Some r
 unfolding number
@@ -34,6 +34,7 @@ at-number rule.MarkedWithParameters = refl
 at-number rule.MisplacedSource = refl
 at-number rule.NoRecordType = refl
 at-number rule.Limit = refl
+at-number rule.MisplacedPrecursive = refl
 
 pub one-rule : (a b : Rule) → number a ≡ number b → a ≡ b
 one-rule a b e = let same : Some a ≡ Some b = sym (at-number a) ∙ ap (slice_get numbered) e ∙ at-number b in cc

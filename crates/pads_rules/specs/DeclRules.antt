@@ -19,7 +19,7 @@ use Rattle.pads_rules.specs.PieceRules.{is_source_shape}
 use Rattle.pads_rules.specs.Pieces.{Site, earlier}
 use Rattle.pads_rules.specs.Resolving.{declared_as}
 use Rattle.pads_rules.specs.Texts.{same_text}
-use Rattle.pads_ast.specs.Trees.{is_empty, name_of, params_of, param_names, inner_names, points_of, branches_of, is_psource}
+use Rattle.pads_ast.specs.Trees.{is_empty, name_of, params_of, param_names, inner_names, points_of, branches_of, is_precord, is_psource, is_precursive}
 
 abbrev pub decl_name : Site → Name
 decl_name site = name_of site.decl.body
@@ -98,12 +98,25 @@ spelling_again site = again same_spelling (λ label. breaks rule.SpellingAgain (
 
 -- Rule 21: a `Precord` or `Psource` declaration has parameters.
 abbrev pub marked_with_params : Site → List CheckFault
-marked_with_params site = when (is_some site.decl.mark && not (is_empty (params_of site.decl.body))) (breaks rule.MarkedWithParameters (decl_name site).at)
+marked_with_params site = when ((is_precord site.decl.mark || is_psource site.decl.mark) && not (is_empty (params_of site.decl.body))) (breaks rule.MarkedWithParameters (decl_name site).at)
 
 -- Rule 22: a `Psource` declaration isn't the last, or isn't a source shape.
 abbrev pub misplaced_source : Site → List CheckFault
 misplaced_source site =
     when (is_psource site.decl.mark && not ((suc site.number == length site.decls) && is_source_shape site)) (breaks rule.MisplacedSource (decl_name site).at)
+
+-- The forms of declarations that may be marked `Precursive`.
+abbrev pub may_recur : DeclBody → Bool
+may_recur (decl.Struct d) = true
+may_recur (decl.Union d) = true
+may_recur (decl.Array d) = true
+may_recur (decl.Enum d) = false
+may_recur (decl.Typedef d) = false
+may_recur (decl.Opt d) = false
+
+-- Rule 25: `Precursive` stands before another form than `Pstruct`, `Punion` or `Parray`.
+abbrev pub misplaced_precursive : Site → List CheckFault
+misplaced_precursive site = when (is_precursive site.decl.mark && not (may_recur site.decl.body)) (breaks rule.MisplacedPrecursive (decl_name site).at)
 
 -- How many parts, branches or labels a declaration has.
 abbrev pub part_count : DeclBody → ℕ

@@ -1,5 +1,5 @@
 -- The rules on the pieces of a declaration: each is about every piece of its kind.
-use Rattle.std.specs.Prelude.{ℕ, ℤ, pos, ◌-ℤ◌, ◌==◌, Bool, true, false, not, ◌&&◌, ◌||◌, List, [], ◌∷◌, ◌++◌, length, drop, Option, Some, None, is_some, is_none, slice_get}
+use Rattle.std.specs.Prelude.{ℕ, ℤ, pos, ◌-ℤ◌, ◌==◌, Bool, true, false, not, ◌&&◌, ◌||◌, List, [], ◌∷◌, ◌++◌, length, Option, Some, None, is_some, is_none, slice_get}
 use Rattle.std.specs.List.{enumerate_from}
 use Rattle.std.specs.Ordering.{int_eq}
 use Rattle.pads_ast.specs.declared.decl.DeclBody.{DeclBody}
@@ -26,8 +26,8 @@ use Rattle.pads_rules.specs.declared.rule.Rule.{Rule}
 use Rattle.pads_rules.specs.declared.rule.Rule.TheVariants as rule
 use Rattle.pads_rules.specs.Faults.{breaks, when, each, again}
 use Rattle.pads_rules.specs.Judging.{Scope, Judged, judged, wrong_sort, no_truth, place_of}
-use Rattle.pads_rules.specs.Pieces.{Site, earlier, Piece, Used, OfParam, Computed, Condition, Size, Choice, Spelled}
-use Rattle.pads_rules.specs.Resolving.{Meaning, Base, Earlier, Undeclared, meaning, plain_meaning, type_sort, declared_as, is_precord_type, is_record_list_type, is_record_list}
+use Rattle.pads_rules.specs.Pieces.{Site, sight, Piece, Used, OfParam, Computed, Condition, Size, Choice, Spelled}
+use Rattle.pads_rules.specs.Resolving.{Sight, Meaning, Base, Known, Undeclared, meaning, plain_meaning, type_sort, declared_as, is_precord_type, is_record_list_type, is_record_list}
 use Rattle.pads_rules.specs.Sorts.{num, text, accepts, agree, is_num_form, is_text_form}
 use Rattle.pads_rules.specs.Texts.{same_text}
 use Rattle.pads_ast.specs.Trees.{is_empty, args_of, points_of, is_psource, written}
@@ -44,7 +44,7 @@ type_in (Spelled word) = None
 
 -- The meaning of a type's name where it stands.
 abbrev pub meaning_at : Site → «Type» → Meaning
-meaning_at site t = meaning (earlier site) t.name.text
+meaning_at site t = meaning (sight site) t.name.text
 
 -- A rule about every type name.
 abbrev pub at_type_name : (Site → «Type» → Bool) → Rule → Site → Piece → List CheckFault
@@ -56,20 +56,21 @@ at_type_name breaks_it broken site piece = found (type_in piece)
 
 abbrev pub is_undeclared : Meaning → Bool
 is_undeclared (Base base) = false
-is_undeclared (Earlier declared) = false
+is_undeclared (Known declared) = false
 is_undeclared Undeclared = true
 
--- A type name is that of this or a later declaration.
-abbrev pub comes_later : Site → «Type» → Bool
-comes_later site t = is_some (declared_as (drop site.number site.env) t.name.text)
+-- A type name is that of a declaration, wherever that stands.
+abbrev pub is_declared : Site → «Type» → Bool
+is_declared site t = is_some (declared_as site.env t.name.text)
 
 -- Rule 2: a type name is neither a base type nor a declaration.
 abbrev pub unknown_type : Site → Piece → List CheckFault
-unknown_type = at_type_name (λ site t. is_undeclared (meaning_at site t) && not (comes_later site t)) rule.UnknownType
+unknown_type = at_type_name (λ site t. is_undeclared (meaning_at site t) && not (is_declared site t)) rule.UnknownType
 
--- Rule 3: a type name is that of this or a later declaration.
+-- Rule 3: a type name is that of this or a later declaration that isn't marked `Precursive`: a declaration has it, and
+-- yet it names none here.
 abbrev pub later_type : Site → Piece → List CheckFault
-later_type = at_type_name (λ site t. is_undeclared (meaning_at site t) && comes_later site t) rule.LaterType
+later_type = at_type_name (λ site t. is_undeclared (meaning_at site t) && is_declared site t) rule.LaterType
 
 -- The number of arguments that a base type takes.
 abbrev pub takes_so_many : Takes → ℕ → Bool
@@ -79,10 +80,10 @@ takes_so_many takes_form.NumberOrNothing n = (n == 0) || (n == 1)
 takes_so_many takes_form.Text n = n == 1
 takes_so_many takes_form.TextOrEnd n = n == 1
 
--- The number of arguments is the type's. Of a type that isn't declared before any number is.
+-- The number of arguments is the type's. Of a type that may not be named any number is.
 abbrev pub is_count_of : Meaning → ℕ → Bool
 is_count_of (Base base) n = takes_so_many (takes base) n
-is_count_of (Earlier declared) n = n == length declared.params
+is_count_of (Known declared) n = n == length declared.params
 is_count_of Undeclared n = true
 
 -- Rule 7: the number of arguments isn't the type's.
@@ -105,7 +106,7 @@ base_params takes_form.TextOrEnd = text ∷ []
 -- The sorts of a type's parameters.
 abbrev pub params_in : Meaning → List ExprSort
 params_in (Base base) = base_params (takes base)
-params_in (Earlier declared) = declared.params
+params_in (Known declared) = declared.params
 params_in Undeclared = []
 
 abbrev pub takes_end : Meaning → Bool
@@ -117,7 +118,7 @@ takes_end (Base base) = is_until (takes base)
     is_until takes_form.Number = false
     is_until takes_form.NumberOrNothing = false
     is_until takes_form.Text = false
-takes_end (Earlier declared) = false
+takes_end (Known declared) = false
 takes_end Undeclared = false
 
 abbrev pub agrees_with : Option ExprSort → ExprSort → Bool
@@ -238,17 +239,17 @@ is_param_base name = is_computable_base name
 
 abbrev pub is_base : (BaseName → Bool) → Meaning → Bool
 is_base test (Base name) = test name
-is_base test (Earlier declared) = false
+is_base test (Known declared) = false
 is_base test Undeclared = false
 
 -- A type is one of some base types, not behind `Popt` and without arguments.
 abbrev pub is_bare : (BaseName → Bool) → Site → «Type» → Bool
-is_bare test site t = is_base test (plain_meaning (earlier site) t) && is_empty (args_of t)
+is_bare test site t = is_base test (plain_meaning (sight site) t) && is_empty (args_of t)
 
 -- Rule 18: the type of a computed field isn't one that may be computed, or its value has another sort.
 abbrev pub computed_type : Site → Piece → List CheckFault
 computed_type site (Computed scope t value) =
-    when (not (is_bare is_computable_base site t) || not (agree (type_sort (earlier site) t) (judged site.env value scope).sort))
+    when (not (is_bare is_computable_base site t) || not (agree (type_sort (sight site) t) (judged site.env value scope).sort))
     (breaks rule.ComputedType t.name.at)
 computed_type site (Used scope t) = []
 computed_type site (OfParam t) = []
@@ -268,17 +269,17 @@ param_type site (Choice scope e constants) = []
 param_type site (Spelled word) = []
 
 -- A part is a field without a constraint whose type is of a kind.
-abbrev pub is_plain_field : List Declared → (Meaning → Bool) → Part → Bool
+abbrev pub is_plain_field : Sight → (Meaning → Bool) → Part → Bool
 is_plain_field types test (part.Field branch) = is_none branch.constraint && test (plain_meaning types branch.of)
 is_plain_field types test (part.Literal literal) = false
 is_plain_field types test (part.Pcompute of name value) = false
 
-abbrev pub are_header_and_list : List Declared → List Part → Bool
+abbrev pub are_header_and_list : Sight → List Part → Bool
 are_header_and_list types (header ∷ list ∷ []) = is_plain_field types is_precord_type header && is_plain_field types is_record_list_type list
 are_header_and_list types _ = false
 
 -- A struct of a header and a record list, and nothing else.
-abbrev pub is_header_shape : List Declared → DeclBody → Bool
+abbrev pub is_header_shape : Sight → DeclBody → Bool
 is_header_shape types (decl.Struct d) = is_empty (written d.params) && is_none d.condition && are_header_and_list types d.parts
 is_header_shape types (decl.Union d) = false
 is_header_shape types (decl.Array d) = false
@@ -289,7 +290,7 @@ is_header_shape types (decl.Opt d) = false
 -- A source shape: a record list, marked or not, or a marked struct of a header and a record list.
 abbrev pub is_source_shape : Site → Bool
 is_source_shape site =
-    is_record_list (earlier site) site.decl || (is_psource site.decl.mark && is_header_shape (earlier site) site.decl.body)
+    is_record_list (sight site) site.decl || (is_psource site.decl.mark && is_header_shape (sight site) site.decl.body)
 
 -- Rule 20: a `Precord` type or a record list is named outside a source shape.
 abbrev pub record_type_named : Site → Piece → List CheckFault

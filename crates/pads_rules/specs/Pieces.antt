@@ -26,7 +26,7 @@ use Rattle.pads_rules.specs.declared.sort.Form.TheVariants as form
 use Rattle.pads_rules.specs.declared.declared.Declared.{Declared}
 use Rattle.pads_rules.specs.declared.declared.Named.{Named}
 use Rattle.pads_rules.specs.Judging.{Scope, hiding}
-use Rattle.pads_rules.specs.Resolving.{declared, type_sort, named, branch_named, param_named}
+use Rattle.pads_rules.specs.Resolving.{Sight, seen_from, declared, type_sort, named, branch_named, param_named}
 use Rattle.pads_rules.specs.Sorts.{num, plain}
 use Rattle.pads_ast.specs.Trees.{params_of, named_part, part_names, branches_of}
 
@@ -44,6 +44,10 @@ sites decls = map (λ numbered. record { decls = decls; env = declared decls; nu
 -- The types that are declared before.
 abbrev pub earlier : Site → List Declared
 earlier site = take site.number site.env
+
+-- What its type names see.
+abbrev pub sight : Site → Sight
+sight site = seen_from site.env site.number
 
 pub data Piece : Type 0 where
   -- the type of a field, a branch, an element, a typedef or an optional
@@ -75,7 +79,7 @@ literal_pieces (literal.Peor at) = []
 
 -- A part of a struct, where `names` are in scope before it, and `later` are the names of this and the later
 -- parts. A field's own constraint sees the field.
-abbrev pub part_pieces : List Declared → List Named → List (List ℕ) → Part → List Piece
+abbrev pub part_pieces : Sight → List Named → List (List ℕ) → Part → List Piece
 part_pieces types names later (part.Literal l) = literal_pieces l
 part_pieces types names later (part.Pcompute of name value) = Computed (record { visible = names; later = later }) of value ∷ []
 part_pieces types names later (part.Field branch) =
@@ -86,28 +90,28 @@ abbrev pub texts_of_parts : List Part → List (List ℕ)
 texts_of_parts parts = map (λ name. name.text) (flat_map part_names parts)
 
 -- The names in scope behind a part.
-abbrev pub names_after : List Declared → List Named → Part → List Named
+abbrev pub names_after : Sight → List Named → Part → List Named
 names_after types names p = names ++ map (named types) (named_part p)
 
-abbrev pub parts_pieces : List Declared → List Named → List Part → List Piece
+abbrev pub parts_pieces : Sight → List Named → List Part → List Piece
 parts_pieces types names [] = []
 parts_pieces types names (p ∷ parts) =
     part_pieces types names (texts_of_parts (p ∷ parts)) p ++ parts_pieces types (names_after types names p) parts
 
 -- The names in scope behind all parts.
-abbrev pub names_after_all : List Declared → List Named → List Part → List Named
+abbrev pub names_after_all : Sight → List Named → List Part → List Named
 names_after_all types names parts = names ++ map (named types) (flat_map named_part parts)
 
-abbrev pub struct_pieces : List Declared → List Named → Struct → List Piece
+abbrev pub struct_pieces : Sight → List Named → Struct → List Piece
 struct_pieces types params d =
     parts_pieces types params d.parts ++ conditions (scope_of (names_after_all types params d.parts)) d.condition
 
 -- A branch: its type sees the parameters, its constraint that branch too.
-abbrev pub branch_pieces : List Declared → List Named → Branch → List Piece
+abbrev pub branch_pieces : Sight → List Named → Branch → List Piece
 branch_pieces types params branch =
     Used (scope_of params) branch.of ∷ conditions (scope_of (params ++ branch_named types branch ∷ [])) branch.constraint
 
-abbrev pub union_body_pieces : List Declared → List Named → UnionBody → List Piece
+abbrev pub union_body_pieces : Sight → List Named → UnionBody → List Piece
 union_body_pieces types params (union.Branches branches) = flat_map (branch_pieces types params) branches
 union_body_pieces types params (union.Switch switch) =
     Choice (scope_of params) switch.value (map (λ case. case.key) switch.cases)
@@ -141,12 +145,12 @@ label_pieces label = spelled label.spelling
     spelled (Some word) = Spelled word ∷ []
 
 -- In a typedef's constraint its variable hides other names; it has the type's sort.
-abbrev pub constraint_pieces : List Declared → List Named → «Type» → Option Constraint → List Piece
+abbrev pub constraint_pieces : Sight → List Named → «Type» → Option Constraint → List Piece
 constraint_pieces types params of None = []
 constraint_pieces types params of (Some constraint) =
     Condition (hiding constraint.variable.text (type_sort types of) (scope_of params)) constraint.condition ∷ []
 
-abbrev pub body_pieces : List Declared → ℕ → List Named → DeclBody → List Piece
+abbrev pub body_pieces : Sight → ℕ → List Named → DeclBody → List Piece
 body_pieces types number params (decl.Struct d) = struct_pieces types params d
 body_pieces types number params (decl.Union d) = union_body_pieces types params d.body
 body_pieces types number params (decl.Array d) = array_pieces number params d
@@ -157,4 +161,4 @@ body_pieces types number params (decl.Opt d) = Used (scope_of params) d.of ∷ [
 abbrev pub pieces : Site → List Piece
 pieces site =
     map (λ param. OfParam param.of) (params_of site.decl.body)
-    ++ body_pieces (earlier site) site.number (map (param_named (earlier site)) (params_of site.decl.body)) site.decl.body
+    ++ body_pieces (sight site) site.number (map (param_named (sight site)) (params_of site.decl.body)) site.decl.body

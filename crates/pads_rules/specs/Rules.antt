@@ -28,3 +28,4 @@ number rule.MarkedWithParameters = 21
 number rule.MisplacedSource = 22
 number rule.NoRecordType = 23
 number rule.Limit = 24
+number rule.MisplacedPrecursive = 25

@@ -2,7 +2,7 @@
 use Rattle.std.specs.Prelude.{List, ◌++◌}
 use Rattle.pads_ast.specs.declared.decl.Ast.{Ast}
 use Rattle.pads_rules.specs.declared.fault.CheckFault.{CheckFault}
-use Rattle.pads_rules.specs.DeclRules.{name_taken, name_again, other_name, spelling_again, marked_with_params, misplaced_source, too_much}
+use Rattle.pads_rules.specs.DeclRules.{name_taken, name_again, other_name, spelling_again, marked_with_params, misplaced_source, misplaced_precursive, too_much}
 use Rattle.pads_rules.specs.Faults.{each}
 use Rattle.pads_rules.specs.PieceRules.{unknown_type, later_type, argument_count, argument_sorts, size_sort, condition_sort, case_sorts, case_again, empty_literal, computed_type, param_type, record_type_named, in_expressions}
 use Rattle.pads_rules.specs.Pieces.{Site, Piece, sites, pieces}
@@ -11,6 +11,7 @@ use Rattle.pads_rules.specs.Pieces.{Site, Piece, sites, pieces}
 abbrev pub decl_faults : Site → List CheckFault
 decl_faults site =
     name_taken site ++ name_again site ++ other_name site ++ spelling_again site ++ marked_with_params site ++ misplaced_source site ++ too_much site
+    ++ misplaced_precursive site
 
 -- the violations at one of its pieces
 abbrev pub piece_faults : Site → Piece → List CheckFault

@@ -1,5 +1,5 @@
 -- What is known of sorts.
-use Rattle.std.specs.Prelude.{◌+◌, ◌-◌, ◌^◌, ◌==◌, min, Bool, true, false, ◌&&◌, List, [], ◌∷◌}
+use Rattle.std.specs.Prelude.{ℕ, zero, suc, ◌+◌, ◌-◌, ◌^◌, ◌==◌, min, Bool, true, false, ◌&&◌, List, [], ◌∷◌}
 use Rattle.pads_rules.specs.declared.sort.Form.{Form}
 use Rattle.pads_rules.specs.declared.sort.Form.TheVariants as form
 use Rattle.pads_base_names.specs.declared.meaning.BaseName.{BaseName}
@@ -26,6 +26,11 @@ abbrev pub optional : ExprSort → ExprSort
 optional expr_sort.Unknown = expr_sort.Unknown
 optional expr_sort.Nothing = expr_sort.Nothing
 optional (expr_sort.Known sort) = expr_sort.Known (record { optional = min (sort.optional + 1) (2 ^ 64 - 1); form = sort.form })
+
+-- So many more `Popt` around a sort.
+unfoldable pub optional_by : ℕ → ExprSort → ExprSort
+optional_by zero sort = sort
+optional_by (suc count) sort = optional (optional_by count sort)
 
 abbrev pub is_num_form : Form → Bool
 is_num_form form.Num = true

@@ -4,7 +4,7 @@ use Rattle.std.specs.List.{list_any}
 use Rattle.pads_ast.specs.declared.decl.Ast.{Ast}
 use Rattle.pads_rules.specs.declared.fault.CheckFault.{CheckFault}
 use Rattle.pads_rules.specs.declared.rule.Rule.TheVariants as rule
-use Rattle.pads_rules.specs.DeclRules.{name_taken, name_again, other_name, spelling_again, marked_with_params, misplaced_source, too_much}
+use Rattle.pads_rules.specs.DeclRules.{name_taken, name_again, other_name, spelling_again, marked_with_params, misplaced_source, misplaced_precursive, too_much}
 use Rattle.pads_rules.specs.Faults.{breaks, when, each}
 use Rattle.pads_rules.specs.PieceRules.{unknown_type, later_type, argument_count, argument_sorts, size_sort, condition_sort, case_sorts, case_again, empty_literal, computed_type, param_type, record_type_named, in_expressions}
 use Rattle.pads_rules.specs.Pieces.{Site, Piece, sites, pieces}
@@ -41,3 +41,4 @@ violations tree =
     ++ each misplaced_source (sites tree.decls)  -- 22
     ++ no_record_type tree  -- 23
     ++ each too_much (sites tree.decls)  -- 24
+    ++ each misplaced_precursive (sites tree.decls)  -- 25

@@ -8,7 +8,7 @@ pub enum Rule {
     NameTaken = 1,
     /// A type's name is neither a base type's nor a declaration's.
     UnknownType,
-    /// A type's name is that of this or a later declaration.
+    /// A type's name is that of this or a later declaration that isn't marked `Precursive`.
     LaterType,
     /// A parameter, field, branch or label has the name of an earlier one in the same declaration, or an array has an
     /// option twice.
@@ -53,10 +53,12 @@ pub enum Rule {
     NoRecordType,
     /// A declaration, the description up to its end, or an expression is too large.
     Limit,
+    /// `Precursive` stands before another form than `Pstruct`, `Punion` or `Parray`.
+    MisplacedPrecursive,
 }
 
 impl Rule {
-    /// The number by which the rule is told, from 1 to 24.
+    /// The number by which the rule is told, from 1 to 25.
     #[tactic(auto, unfolding(crate::specs::Rules::number))]
     pub fn number(self) -> u8
         ensures number { result ≡ rules.number self }

@@ -80,7 +80,7 @@ unfolding opt_decl signature
 opt_decl_ok F f = ((refl, type_use_ok _ (apart_by (is (kind.Mark OpenParams)) _ refl)), signature_ok F f)
 
 decl_mark_ok : (F : Kind → Bool) → Decides decl_mark F
-decl_mark_ok F = (refl, refl, refl, apart_by _ _ refl)
+decl_mark_ok F = (refl, (refl, refl, refl, apart_by _ _ refl), refl, apart_by _ _ refl)
 
 other_body_ok : (F : Kind → Bool) → Decides other_body (ahead (mark Semicolon) F)
 unfolding other_body enum_decl typedef_decl opt_decl

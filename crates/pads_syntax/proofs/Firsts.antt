@@ -1,7 +1,7 @@
 -- What begins each form of declaration, a switch and a declaration.
 use Rattle.std.proofs.Common.{◌≡◌, Bool, ◌||◌, refl}
 use Rattle.pads_grammar.specs.declared.kind.Kind.{Kind}
-use Rattle.pads_lex.specs.declared.token.Keyword.TheVariants.{Parray, Penum, Popt, Precord, Psource, Pstruct, Pswitch, Ptypedef, Punion}
+use Rattle.pads_lex.specs.declared.token.Keyword.TheVariants.{Parray, Penum, Popt, Precord, Precursive, Psource, Pstruct, Pswitch, Ptypedef, Punion}
 use Rattle.pads_grammar.specs.declared.kind.Kind.TheVariants as kind
 use Rattle.pads_grammar.specs.Kinds.{is}
 use Rattle.pads_grammar.specs.Grammar.{begins}
@@ -35,9 +35,9 @@ unfolding switch
 begins-switch j = agree (begins switch j) (is (kind.Keyword Pswitch) j) (every_kind (λ i. alike (begins switch i) (is (kind.Keyword Pswitch) i)) refl j)
 
 abbrev first-decl : Kind → Bool
-first-decl j = is (kind.Keyword Precord) j || (is (kind.Keyword Psource) j || (is (kind.Keyword Pstruct) j || (is (kind.Keyword Punion) j || (is (kind.Keyword Parray) j || (is (kind.Keyword Penum) j || (is (kind.Keyword Ptypedef) j || is (kind.Keyword Popt) j))))))
+first-decl j = is (kind.Keyword Precord) j || (is (kind.Keyword Psource) j || (is (kind.Keyword Precursive) j || (is (kind.Keyword Pstruct) j || (is (kind.Keyword Punion) j || (is (kind.Keyword Parray) j || (is (kind.Keyword Penum) j || (is (kind.Keyword Ptypedef) j || is (kind.Keyword Popt) j)))))))
 
-pub begins_decl : (j : Kind) → begins decl j ≡ (is (kind.Keyword Precord) j || (is (kind.Keyword Psource) j || (is (kind.Keyword Pstruct) j || (is (kind.Keyword Punion) j || (is (kind.Keyword Parray) j || (is (kind.Keyword Penum) j || (is (kind.Keyword Ptypedef) j || is (kind.Keyword Popt) j)))))))
+pub begins_decl : (j : Kind) → begins decl j ≡ (is (kind.Keyword Precord) j || (is (kind.Keyword Psource) j || (is (kind.Keyword Precursive) j || (is (kind.Keyword Pstruct) j || (is (kind.Keyword Punion) j || (is (kind.Keyword Parray) j || (is (kind.Keyword Penum) j || (is (kind.Keyword Ptypedef) j || is (kind.Keyword Popt) j))))))))
 unfolding decl marked decl_body other_body struct_decl union_decl array_decl enum_decl typedef_decl opt_decl
 begins_decl j = agree (begins decl j) (first-decl j) (every_kind (λ i. alike (begins decl i) (first-decl i)) refl j)
 

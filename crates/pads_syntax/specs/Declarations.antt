@@ -1,7 +1,7 @@
 -- The grammar of declarations.
 --
 --   desc    = { decl } End
---   decl    = [ "Precord" | "Psource" ] ( struct | union | array | enum | typedef | opt ) ";"
+--   decl    = [ "Precord" | "Psource" | "Precursive" ] ( struct | union | array | enum | typedef | opt ) ";"
 --   struct  = "Pstruct" Name [ params ] "{" { part } "}" [ where ]
 --   union   = "Punion" Name [ params ] "{" ( switch | { branch } ) "}"
 --   array   = "Parray" Name [ params ] "{" type "[" [ expr ] "]" [ ":" option { "&&" option } ] ";" "}" [ where ]
@@ -10,7 +10,7 @@
 --   opt     = "Popt" type Name [ params ]
 use Rattle.std.specs.Prelude.{Option, List}
 use Rattle.pads_lex.specs.declared.token.Keyword.{Keyword}
-use Rattle.pads_lex.specs.declared.token.Keyword.TheVariants.{Parray, Penum, Popt, Precord, Psource, Pstruct, Ptypedef, Punion}
+use Rattle.pads_lex.specs.declared.token.Keyword.TheVariants.{Parray, Penum, Popt, Precord, Precursive, Psource, Pstruct, Ptypedef, Punion}
 use Rattle.pads_lex.specs.declared.token.Mark.TheVariants.{CloseBrace, CloseBracket, OpenBrace, OpenBracket, Semicolon}
 use Rattle.pads_grammar.specs.declared.kind.Kind.TheVariants as kind
 use Rattle.pads_grammar.specs.Grammar.{Grammar, token, apply, optional, many, ◌&◌, ◌<*◌, ◌*>◌, ◌or◌, mark, keyword}
@@ -83,7 +83,9 @@ opt_decl = apply (λ both. record { of = both.0; name = both.1.0; params = both.
     ((keyword Popt *> type_use) & signature)
 
 abbrev pub decl_mark : Grammar DeclMark
-decl_mark = token (kind.Keyword Precord) (λ _. mark_form.Precord) or token (kind.Keyword Psource) (λ _. mark_form.Psource)
+decl_mark =
+    token (kind.Keyword Precord) (λ _. mark_form.Precord) or token (kind.Keyword Psource) (λ _. mark_form.Psource)
+    or token (kind.Keyword Precursive) (λ _. mark_form.Precursive)
 
 -- What a declaration is marked as, where it is marked.
 unfoldable pub marked : Grammar (Option DeclMark)

@@ -28,6 +28,9 @@ fn marked(cursor: &mut Cursor<'_>) -> Reading<Option<DeclMark>>
     } else if next.is_keyword(Keyword::Psource) {
         let _mark = cursor.keyword(Keyword::Psource)?;
         Ok(Some(DeclMark::Psource))
+    } else if next.is_keyword(Keyword::Precursive) {
+        let _mark = cursor.keyword(Keyword::Precursive)?;
+        Ok(Some(DeclMark::Precursive))
     } else {
         Ok(None)
     }
@@ -98,6 +101,7 @@ fn begins_decl(kind: Kind) -> bool
 {
     kind.is_keyword(Keyword::Precord)
         || kind.is_keyword(Keyword::Psource)
+        || kind.is_keyword(Keyword::Precursive)
         || kind.is_keyword(Keyword::Pstruct)
         || kind.is_keyword(Keyword::Punion)
         || kind.is_keyword(Keyword::Parray)

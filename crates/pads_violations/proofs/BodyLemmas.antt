@@ -9,9 +9,8 @@ use Rattle.pads_ast.specs.declared.decl.Array.{Array}
 use Rattle.pads_ast.specs.declared.decl.Constraint.{Constraint}
 use Rattle.pads_ast.specs.declared.types.Branch.{Branch}
 use Rattle.pads_ast.specs.declared.types.Type.{«Type»}
-use Rattle.pads_rules.specs.declared.declared.Declared.{Declared}
 use Rattle.pads_rules.specs.Judging.{hiding}
-use Rattle.pads_rules.specs.Resolving.{type_sort}
+use Rattle.pads_rules.specs.Resolving.{Sight, type_sort}
 use Rattle.pads_rules.specs.declared.declared.Named.{Named}
 use Rattle.pads_rules.specs.Pieces.{Site, Piece, Used, Condition, constraint_pieces, scope_of, sizes, conditions, option_pieces, array_scope, array_pieces}
 use Rattle.pads_piece_rules.specs.Told.{piece_told}
@@ -46,7 +45,7 @@ told-array site number params d =
     ∙ ap (lesser (piece_told site (Used (scope_of params) d.of))) (ap (pieces_told site) (append_assoc size options condition) ∙ told-both site size (options ++ condition))
     ∙ sym (lesser_assoc (piece_told site (Used (scope_of params) d.of)) (pieces_told site size) (pieces_told site (options ++ condition)))
 
-pub told-typedef : (site : Site) (types : List Declared) (params : List Named) (t : «Type») (own : Option Constraint) →
+pub told-typedef : (site : Site) (types : Sight) (params : List Named) (t : «Type») (own : Option Constraint) →
     pieces_told site (Used (scope_of params) t ∷ constraint_pieces types params t own) ≡ lesser (piece_told site (Used (scope_of params) t)) (constraint_told site params (type_sort types t) own)
 told-typedef site types params t None = told-one site (Used (scope_of params) t) ∙ sym (lesser-none (piece_told site (Used (scope_of params) t)))
 told-typedef site types params t (Some own) =

@@ -11,13 +11,12 @@ use Rattle.pads_ast.specs.declared.types.Literal.TheVariants as literal
 use Rattle.pads_judge.specs.declared.scope.Scope.{Scope-F, fold-roll-Scope}
 use Rattle.pads_judge.specs.declared.scope.Scope.TheVariants as scope
 use Rattle.pads_judge.specs.Scopes.{names_in_scope, scope_step}
-use Rattle.pads_rules.specs.declared.declared.Declared.{Declared}
 use Rattle.pads_rules.specs.declared.declared.Named.{Named}
 use Rattle.pads_rules.specs.declared.fault.CheckFault.{CheckFault}
 use Rattle.pads_rules.specs.Faults.{each, lesser, least}
 use Rattle.pads_rules.specs.Judging as judging
 use Rattle.pads_rules.specs.Pieces.{Site, Piece, Spelled, literal_pieces, label_pieces, part_pieces, parts_pieces, texts_of_parts, names_after, names_after_all}
-use Rattle.pads_rules.specs.Resolving.{named}
+use Rattle.pads_rules.specs.Resolving.{Sight, named}
 use Rattle.pads_ast.specs.Trees.{named_part}
 use Rattle.pads_rules.proofs.Least.{least-append, each-append, lesser-none, lesser_assoc}
 use Rattle.pads_judge.proofs.ScopeLemmas.{in_hiding}
@@ -77,7 +76,7 @@ labels-end labels i best whole over e = sym (lesser-none best) ∙ sym (ap (λ l
 pub ruleset walk_rules = (in-names, in_hiding, told-none, told-one, told-more, told-both, told-word, told-literal, told-labels, none-lesser)
 
 -- A part's pieces are those that don't see its name and those that do.
-pub told-part : (site : Site) (types : List Declared) (names : List Named) (later : List (List ℕ)) (p : Part) →
+pub told-part : (site : Site) (types : Sight) (names : List Named) (later : List (List ℕ)) (p : Part) →
     pieces_told site (part_pieces types names later p) ≡ lesser (pieces_told site (first_pieces names later p)) (pieces_told site (last_pieces (names_after types names p) later p))
 told-part site types names later (part.Literal l) = sym (ap (lesser (pieces_told site (first_pieces names later (part.Literal l)))) (told-none site) ∙ lesser-none _)
 told-part site types names later (part.Pcompute of name value) = sym (ap (lesser (pieces_told site (first_pieces names later (part.Pcompute of name value)))) (told-none site) ∙ lesser-none _)
@@ -85,24 +84,24 @@ told-part site types names later (part.Field branch) = told-both site (first_pie
 
 pub ruleset part_rules = (told-part)
 
-pub parts-step : (site : Site) (types : List Declared) (names : List Named) (parts : List Part) (i : ℕ) (p : Part) (best : Option CheckFault) → i < length parts → p ≡ get_or parts i p →
+pub parts-step : (site : Site) (types : Sight) (names : List Named) (parts : List Part) (i : ℕ) (p : Part) (best : Option CheckFault) → i < length parts → p ≡ get_or parts i p →
     lesser (lesser best (pieces_told site (part_pieces types names (texts_of_parts (drop i parts)) p))) (pieces_told site (parts_pieces types (names_after types names p) (drop (i + 1) parts)))
     ≡ lesser best (pieces_told site (parts_pieces types names (drop i parts)))
 parts-step site types names parts i p best there is =
     rw (left parts i p there is, told-both site (part_pieces types names (texts_of_parts (p ∷ drop (i + 1) parts)) p) (parts_pieces types (names_after types names p) (drop (i + 1) parts)))
     (lesser_assoc best (pieces_told site (part_pieces types names (texts_of_parts (p ∷ drop (i + 1) parts)) p)) (pieces_told site (parts_pieces types (names_after types names p) (drop (i + 1) parts))))
 
-pub parts-end : (site : Site) (types : List Declared) (names : List Named) (parts : List Part) (i : ℕ) (best whole : Option CheckFault) → length parts ≤ i →
+pub parts-end : (site : Site) (types : Sight) (names : List Named) (parts : List Part) (i : ℕ) (best whole : Option CheckFault) → length parts ≤ i →
     lesser best (pieces_told site (parts_pieces types names (drop i parts))) ≡ whole → best ≡ whole
 parts-end site types names parts i best whole over e =
     sym (lesser-none best) ∙ sym (ap (λ ps. lesser best (pieces_told site (parts_pieces types names ps))) (drop_all i parts over) ∙ ap (lesser best) (told-none site)) ∙ e
 
-pub names-step : (types : List Declared) (names : List Named) (parts : List Part) (i : ℕ) (p : Part) → i < length parts → p ≡ get_or parts i p →
+pub names-step : (types : Sight) (names : List Named) (parts : List Part) (i : ℕ) (p : Part) → i < length parts → p ≡ get_or parts i p →
     names_after_all types (names_after types names p) (drop (i + 1) parts) ≡ names_after_all types names (drop i parts)
 names-step types names parts i p there is =
     rw (left parts i p there is, map-append (named types) (named_part p) (flat_map named_part (drop (i + 1) parts)))
     (append_assoc names (map (named types) (named_part p)) (map (named types) (flat_map named_part (drop (i + 1) parts))))
 
-pub names-end : (types : List Declared) (names : List Named) (parts : List Part) (i : ℕ) (whole : List Named) → length parts ≤ i → names_after_all types names (drop i parts) ≡ whole → names ≡ whole
+pub names-end : (types : Sight) (names : List Named) (parts : List Part) (i : ℕ) (whole : List Named) → length parts ≤ i → names_after_all types names (drop i parts) ≡ whole → names ≡ whole
 names-end types names parts i whole over e =
     sym (append-nil names) ∙ sym (ap (λ ps. names_after_all types names ps) (drop_all i parts over)) ∙ e

@@ -1,7 +1,7 @@
 -- What is told at a declaration: the least violation of the rules that speak of it and of its pieces.
 use Rattle.std.specs.Prelude.{List, ◌++◌, Option}
 use Rattle.pads_rules.specs.declared.fault.CheckFault.{CheckFault}
-use Rattle.pads_rules.specs.DeclRules.{name_taken, name_again, other_name, spelling_again, marked_with_params, misplaced_source}
+use Rattle.pads_rules.specs.DeclRules.{name_taken, name_again, other_name, spelling_again, marked_with_params, misplaced_source, misplaced_precursive}
 use Rattle.pads_rules.specs.Faults.{least, each}
 use Rattle.pads_rules.specs.Pieces.{Site, pieces}
 use Rattle.pads_rules.specs.SiteFaults.{piece_faults}
@@ -10,6 +10,7 @@ use Rattle.pads_rules.specs.SiteFaults.{piece_faults}
 abbrev pub decl_faults_but_counts : Site → List CheckFault
 decl_faults_but_counts site =
     name_taken site ++ name_again site ++ other_name site ++ spelling_again site ++ marked_with_params site ++ misplaced_source site
+    ++ misplaced_precursive site
 
 -- The violations at a declaration, its pieces included, but for the rule that counts.
 abbrev pub site_faults_but_counts : Site → List CheckFault

@@ -19,7 +19,7 @@ use pads_ast::{
 };
 use pads_declared::{add_branch, branches_of, param_names, params_of, type_sort};
 use pads_judge::Scope;
-use pads_piece_rules::{Site, choice, condition, earlier, of_param, used};
+use pads_piece_rules::{Site, choice, condition, of_param, sight, used};
 use pads_rules::{CheckFault, ExprSort, Form, Named, lesser};
 use pads_value::{Items, Memory};
 use std::alloc::Global;
@@ -32,10 +32,10 @@ fn constraint(
     names: &mut Items<Named>,
     branch: &Branch,
 ) -> Result<Option<CheckFault>, Memory>
-    ensures told { IfOk result (λ fault. fault ≡ pieces_told (stands site.now) (pieces.conditions (pieces.scope_of (names.old ++ branch_named (pieces.earlier (stands site.now)) branch.now ∷ [])) branch.now.constraint)) }
+    ensures told { IfOk result (λ fault. fault ≡ pieces_told (stands site.now) (pieces.conditions (pieces.scope_of (names.old ++ branch_named (pieces.sight (stands site.now)) branch.now ∷ [])) branch.now.constraint)) }
     ensures restored { OnOk result (names.new ≡ names.old) }
 {
-    add_branch(alloc, &earlier(site), names, branch)?;
+    add_branch(alloc, &sight(site), names, branch)?;
     let fault = conditions(
         site,
         &Scope::Names(names.as_slice(), &[]),
@@ -53,7 +53,7 @@ fn branch(
     names: &mut Items<Named>,
     branch: &Branch,
 ) -> Result<Option<CheckFault>, Memory>
-    ensures told { IfOk result (λ fault. fault ≡ pieces_told (stands site.now) (pieces.branch_pieces (pieces.earlier (stands site.now)) names.old branch.now)) }
+    ensures told { IfOk result (λ fault. fault ≡ pieces_told (stands site.now) (pieces.branch_pieces (pieces.sight (stands site.now)) names.old branch.now)) }
     ensures restored { OnOk result (names.new ≡ names.old) }
 {
     let fault = used(site, &Scope::Names(names.as_slice(), &[]), &branch.of);
@@ -67,7 +67,7 @@ fn branches(
     names: &mut Items<Named>,
     branches: &[&Branch],
 ) -> Result<Option<CheckFault>, Memory>
-    ensures told { IfOk result (λ fault. fault ≡ pieces_told (stands site.now) (flat_map (pieces.branch_pieces (pieces.earlier (stands site.now)) names.old) (map (λ branch. branch.now) branches.now))) }
+    ensures told { IfOk result (λ fault. fault ≡ pieces_told (stands site.now) (flat_map (pieces.branch_pieces (pieces.sight (stands site.now)) names.old) (map (λ branch. branch.now) branches.now))) }
 {
     let mut best = None;
     for one in branches {
@@ -99,7 +99,7 @@ fn union(
     params: Items<Named>,
     d: &Union,
 ) -> Result<Option<CheckFault>, Memory>
-    ensures told { IfOk result (λ fault. fault ≡ pieces_told (stands site.now) (pieces.union_body_pieces (pieces.earlier (stands site.now)) params d.now.body)) }
+    ensures told { IfOk result (λ fault. fault ≡ pieces_told (stands site.now) (pieces.union_body_pieces (pieces.sight (stands site.now)) params d.now.body)) }
 {
     let mut names = params;
     let key = match &d.body {
@@ -210,17 +210,17 @@ fn typedef_constraint(
 /// A typedef behind its parameters.
 #[tactic(auto, using(crate::proofs::WalkLemmas::walk_rules, crate::proofs::BodyLemmas::body_rules))]
 fn typedef(site: &Site<'_>, params: &[Named], d: &Typedef) -> Option<CheckFault>
-    ensures told { result ≡ pieces_told (stands site.now) (pieces.Used (pieces.scope_of params.now) d.now.of ∷ pieces.constraint_pieces (pieces.earlier (stands site.now)) params.now d.now.of d.now.constraint) }
+    ensures told { result ≡ pieces_told (stands site.now) (pieces.Used (pieces.scope_of params.now) d.now.of ∷ pieces.constraint_pieces (pieces.sight (stands site.now)) params.now d.now.of d.now.constraint) }
 {
     let fault = used(site, &Scope::Names(params, &[]), &d.of);
-    let sort = type_sort(&earlier(site), &d.of);
+    let sort = type_sort(&sight(site), &d.of);
     lesser(fault, typedef_constraint(site, params, sort, &d.constraint))
 }
 
 /// A declaration's body behind its parameters.
 #[tactic(auto, using(crate::proofs::WalkLemmas::walk_rules))]
 fn body(alloc: Global, site: &Site<'_>, params: Items<Named>) -> Result<Option<CheckFault>, Memory>
-    ensures told { IfOk result (λ fault. fault ≡ pieces_told (stands site.now) (pieces.body_pieces (pieces.earlier (stands site.now)) site.now.number params site.now.decl.now.body)) }
+    ensures told { IfOk result (λ fault. fault ≡ pieces_told (stands site.now) (pieces.body_pieces (pieces.sight (stands site.now)) site.now.number params site.now.decl.now.body)) }
 {
     match &site.decl.body {
         DeclBody::Struct(d) => structure(alloc, site, params, d),
@@ -248,6 +248,6 @@ pub(crate) fn all_pieces(alloc: Global, site: &Site<'_>) -> Result<Option<CheckF
     ensures told { IfOk result (λ fault. fault ≡ pieces_told (stands site.now) (pieces.pieces (stands site.now))) }
 {
     let written = params_of(&site.decl.body);
-    let names = param_names(alloc, &earlier(site), written)?;
+    let names = param_names(alloc, &sight(site), written)?;
     Ok(lesser(params(site, written), body(alloc, site, names)?))
 }

@@ -6,7 +6,9 @@ ghost use Rattle.pads_piece_rules.specs.Told.{stands};
 ghost use Rattle.pads_violations.specs.AtDeclaration as joined;
 
 use crate::bodies::all_pieces;
-use crate::declaration_rules::{marked_with_params, misplaced_source, name_taken, other_name};
+use crate::declaration_rules::{
+    marked_with_params, misplaced_precursive, misplaced_source, name_taken, other_name,
+};
 use crate::given_names::all_names;
 use crate::repeats::{names_again, options_again, spellings_again};
 use pads_ast::{ArrayOption, DeclBody, Label};
@@ -67,7 +69,8 @@ fn decl_rules(alloc: Global, site: &Site<'_>) -> Result<Option<CheckFault>, Memo
 {
     let names = named(alloc, site)?;
     let marks = lesser(names, marked_with_params(site));
-    Ok(lesser(marks, misplaced_source(site)))
+    let sources = lesser(marks, misplaced_source(site));
+    Ok(lesser(sources, misplaced_precursive(site)))
 }
 
 /// The least violation at a declaration of all rules but that on counts.

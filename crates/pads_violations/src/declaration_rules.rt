@@ -7,8 +7,8 @@ ghost use Rattle.pads_piece_rules.specs.Told.{stands};
 
 use pads_ast::DeclBody;
 use pads_base_names::base_name;
-use pads_declared::{is_psource, name_of, params_of, same_text};
-use pads_piece_rules::{Site, earlier, is_source_shape};
+use pads_declared::{is_precord, is_precursive, is_psource, name_of, params_of, same_text};
+use pads_piece_rules::{Site, is_source_shape};
 use pads_rules::{CheckFault, Rule, fault_if};
 
 /// The name is an earlier declaration's or a base type's.
@@ -16,7 +16,7 @@ pub(crate) fn name_taken(site: &Site<'_>) -> Option<CheckFault>
     ensures told { result ≡ least (rules.name_taken (stands site.now)) }
 {
     let name = name_of(&site.decl.body);
-    let declared = earlier(site).declared_as(name.text.as_slice()).is_some();
+    let declared = site.env.declares_before(site.number, name.text.as_slice());
     let base = base_name(name.text.as_slice()).is_some();
     fault_if(declared || base, Rule::NameTaken, name.at)
 }
@@ -37,12 +37,12 @@ pub(crate) fn other_name(site: &Site<'_>) -> Option<CheckFault>
     }
 }
 
-/// A marked declaration has parameters.
+/// A `Precord` or `Psource` declaration has parameters.
 pub(crate) fn marked_with_params(site: &Site<'_>) -> Option<CheckFault>
     ensures told { result ≡ least (rules.marked_with_params (stands site.now)) }
 {
     let bare = params_of(&site.decl.body).is_empty();
-    let marked = site.decl.mark.is_some();
+    let marked = is_precord(site.decl.mark) || is_psource(site.decl.mark);
     fault_if(
         marked && !bare,
         Rule::MarkedWithParameters,
@@ -61,6 +61,29 @@ pub(crate) fn misplaced_source(site: &Site<'_>) -> Option<CheckFault>
     fault_if(
         source && !(last && shape),
         Rule::MisplacedSource,
+        name_of(&site.decl.body).at,
+    )
+}
+
+/// Whether a declaration is of a form that may be marked `Precursive`.
+fn may_recur(body: &DeclBody) -> bool
+    ensures may { result ≡ rules.may_recur body.now }
+{
+    match body {
+        DeclBody::Struct(_) | DeclBody::Union(_) | DeclBody::Array(_) => true,
+        DeclBody::Enum(_) | DeclBody::Typedef(_) | DeclBody::Opt(_) => false,
+    }
+}
+
+/// `Precursive` stands before another form than a struct, a union or an array.
+pub(crate) fn misplaced_precursive(site: &Site<'_>) -> Option<CheckFault>
+    ensures told { result ≡ least (rules.misplaced_precursive (stands site.now)) }
+{
+    let marked = is_precursive(site.decl.mark);
+    let fits = may_recur(&site.decl.body);
+    fault_if(
+        marked && !fits,
+        Rule::MisplacedPrecursive,
         name_of(&site.decl.body).at,
     )
 }

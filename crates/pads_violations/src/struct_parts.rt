@@ -9,7 +9,7 @@ use crate::single_pieces::{conditions, literal};
 use pads_ast::{Part, Struct};
 use pads_declared::add_part;
 use pads_judge::Scope;
-use pads_piece_rules::{Site, computed, earlier, used};
+use pads_piece_rules::{Site, computed, sight, used};
 use pads_rules::{CheckFault, Named, lesser};
 use pads_value::{Items, Memory};
 use std::alloc::Global;
@@ -56,11 +56,11 @@ fn part(
     from: &[Part],
     part: &Part,
 ) -> Result<Option<CheckFault>, Memory>
-    ensures told { IfOk result (λ fault. fault ≡ pieces_told (stands site.now) (pieces.part_pieces (pieces.earlier (stands site.now)) names.old (pieces.texts_of_parts from.now) part.now)) }
-    ensures names { OnOk result (names.new ≡ pieces.names_after (pieces.earlier (stands site.now)) names.old part.now) }
+    ensures told { IfOk result (λ fault. fault ≡ pieces_told (stands site.now) (pieces.part_pieces (pieces.sight (stands site.now)) names.old (pieces.texts_of_parts from.now) part.now)) }
+    ensures names { OnOk result (names.new ≡ pieces.names_after (pieces.sight (stands site.now)) names.old part.now) }
 {
     let before = first(site, names.as_slice(), from, part);
-    add_part(alloc, &earlier(site), names, part)?;
+    add_part(alloc, &sight(site), names, part)?;
     Ok(lesser(before, last(site, names.as_slice(), from, part)))
 }
 
@@ -71,8 +71,8 @@ fn parts(
     names: &mut Items<Named>,
     parts: &[Part],
 ) -> Result<Option<CheckFault>, Memory>
-    ensures told { IfOk result (λ fault. fault ≡ pieces_told (stands site.now) (pieces.parts_pieces (pieces.earlier (stands site.now)) names.old parts.now)) }
-    ensures names { OnOk result (names.new ≡ pieces.names_after_all (pieces.earlier (stands site.now)) names.old parts.now) }
+    ensures told { IfOk result (λ fault. fault ≡ pieces_told (stands site.now) (pieces.parts_pieces (pieces.sight (stands site.now)) names.old parts.now)) }
+    ensures names { OnOk result (names.new ≡ pieces.names_after_all (pieces.sight (stands site.now)) names.old parts.now) }
 {
     let mut best = None;
     for number in 0..parts.len() {
@@ -90,7 +90,7 @@ pub(crate) fn structure(
     params: Items<Named>,
     d: &Struct,
 ) -> Result<Option<CheckFault>, Memory>
-    ensures told { IfOk result (λ fault. fault ≡ pieces_told (stands site.now) (pieces.struct_pieces (pieces.earlier (stands site.now)) params d.now)) }
+    ensures told { IfOk result (λ fault. fault ≡ pieces_told (stands site.now) (pieces.struct_pieces (pieces.sight (stands site.now)) params d.now)) }
 {
     let mut names = params;
     let fault = parts(alloc, site, &mut names, d.parts.as_slice())?;

@@ -33,7 +33,7 @@ fn names_mean_what_is_declared(rt: HostRuntime) {
     let Some(types) = types(rt.alloc(), TWO) else {
         panic!(rt; "no types");
     };
-    let all = types.all();
+    let all = types.seen_from(types.len());
     let second = meaning_of(&all, b"b");
     assert_eq!(rt; meaning_sort(second), ExprSort::plain(Form::Struct(1)));
     assert!(rt; is_precord_type(second));
@@ -46,10 +46,26 @@ fn later_types_mean_nothing(rt: HostRuntime) {
     let Some(types) = types(rt.alloc(), TWO) else {
         panic!(rt; "no types");
     };
-    let earlier = types.before(1);
-    assert!(rt; matches!(meaning_of(&earlier, b"a"), Meaning::Earlier(_)));
-    assert!(rt; matches!(meaning_of(&earlier, b"b"), Meaning::Undeclared));
-    assert_eq!(rt; types.all().number_of(b"b"), Some(1));
+    let sight = types.seen_from(1);
+    assert!(rt; matches!(meaning_of(&sight, b"a"), Meaning::Known(_)));
+    assert!(rt; matches!(meaning_of(&sight, b"b"), Meaning::Undeclared));
+    assert_eq!(rt; sight.number_of(b"b"), Some(1));
+    assert!(rt; types.declares(b"b"));
+    assert!(rt; !types.declares_before(1, b"b"));
+}
+
+#[test]
+fn later_types_that_are_marked_mean_something(rt: HostRuntime) {
+    let text =
+        b"Precord Pstruct a { }; Precursive Ptypedef Popt c b; Precursive Ptypedef Puint8 c;";
+    let Some(types) = types(rt.alloc(), text) else {
+        panic!(rt; "no types");
+    };
+    let sight = types.seen_from(0);
+    let num = ExprSort::plain(Form::Num);
+    assert!(rt; matches!(meaning_of(&sight, b"a"), Meaning::Undeclared));
+    assert_eq!(rt; meaning_sort(meaning_of(&sight, b"b")), num.optional());
+    assert_eq!(rt; meaning_sort(meaning_of(&sight, b"c")), num);
 }
 
 #[test]

@@ -173,6 +173,7 @@ impl TreeText {
         match decl.mark {
             Some(DeclMark::Precord) => self.put("Precord ")?,
             Some(DeclMark::Psource) => self.put("Psource ")?,
+            Some(DeclMark::Precursive) => self.put("Precursive ")?,
             None => {}
         }
         match &decl.body {

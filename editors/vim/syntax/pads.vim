@@ -4,7 +4,7 @@ if exists('b:current_syntax')
 endif
 
 syntax keyword padsDeclaration Pstruct Punion Parray Penum Popt Ptypedef
-syntax keyword padsMark Precord Psource
+syntax keyword padsMark Precord Psource Precursive
 syntax keyword padsPart Pswitch Pcase Pdefault Pwhere Psep Pterm Plast Peor Pfrom Pcompute
 syntax keyword padsForm Pforall Pin Pis Plen
 syntax keyword padsBoolean true false

@@ -7,5 +7,5 @@ pub returns : goal.returns
 unfolding constraint_at
 returns c = record {
   made =
-      rw (c.in_ok-condition.ensures.made, in-hiding, in-names, c.type_sort-sort.ensures.sort, c.earlier.ensures.types, c.in_ok-text.ensures.same, c.as_slice-name.ensures.items) refl;
+      rw (c.in_ok-condition.ensures.made, in-hiding, in-names, c.type_sort-sort.ensures.sort, c.seen_types.ensures.types, c.in_ok-text.ensures.same, c.as_slice-name.ensures.items) refl;
 }

@@ -6,6 +6,6 @@ use Rattle.pads_violations.proofs.declaration.decl_rules.Goals as goal
 pub returns : goal.returns
 returns c = record {
   told =
-      rw (c.lesser.ensures.least, c.lesser-marks.ensures.least, c.in_ok-names.ensures.told, c.marked_with_params.ensures.told, c.misplaced_source.ensures.told)
+      rw (c.lesser.ensures.least, c.lesser-sources.ensures.least, c.lesser-marks.ensures.least, c.in_ok-names.ensures.told, c.marked_with_params.ensures.told, c.misplaced_source.ensures.told, c.misplaced_precursive.ensures.told)
       (sym (told-decl (stands c.args.site.now)));
 }
