@@ -1,3 +1,7 @@
 -- The lemmas of this crate.
+mod Counted
+mod Merging
 mod Rows
+mod Sums
+mod There
 mod Wholes

@@ -64,13 +64,13 @@ module _ (IsRow : ℕ → Cut → Row → Type 0) where
     if-rows jobs frames parts (Err e) given gives is_whole = tt
 
 module _ (image : Image) where
-  rows-answer : (number : ℕ) (cuts : List Cut) (rows : List Row) → AreRows (IsRead image) number cuts rows → AreRows (IsAnswer image) number cuts rows
+  pub rows-answer : (number : ℕ) (cuts : List Cut) (rows : List Row) → AreRows (IsRead image) number cuts rows → AreRows (IsAnswer image) number cuts rows
   rows-answer number [] [] are = tt
   rows-answer number [] (row ∷ rows) are = absurd are
   rows-answer number (cut ∷ cuts) [] are = absurd are
   rows-answer number (cut ∷ cuts) (row ∷ rows) are = (are.0.answer, rows-answer (number + 1) cuts rows are.1)
 
-  rows-calculus : (number : ℕ) (cuts : List Cut) (rows : List Row) → AreRows (IsRead image) number cuts rows → (decls : List Decl) → StandsForThem image decls
+  pub rows-calculus : (number : ℕ) (cuts : List Cut) (rows : List Row) → AreRows (IsRead image) number cuts rows → (decls : List Decl) → StandsForThem image decls
       → rows ≡ rows_of decls image.shape image.scan number cuts
   rows-calculus number [] [] are decls stands = refl
   rows-calculus number [] (row ∷ rows) are decls stands = absurd are

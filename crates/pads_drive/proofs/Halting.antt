@@ -41,7 +41,7 @@ light : (frames : List Cut) (size : ℕ) → min (weight frames) (2 ^ 64 - 1) �
 light [] size counted h = omega arith
 light (x ∷ frames) size counted h = let few : size < 4194304 = h (omega arith) in omega arith
 
-pub sized-more : (frames : List Kept) (kept : Kept) (size : ℕ) → IsSized (map cut_of_kept frames) size → length frames < 256 → (0 < length frames → size < 4194304)
+pub sized-more : (frames : List Kept) (kept : Kept) (size : ℕ) → IsSized (map cut_of_kept frames) size → length frames < 8192 → (0 < length frames → size < 4194304)
     → IsSized (map cut_of_kept (frames ++ kept ∷ [])) (min (size + length kept.bytes) (2 ^ 64 - 1))
 sized-more frames kept size s few room =
     let cuts : map cut_of_kept (frames ++ kept ∷ []) ≡ map cut_of_kept frames ++ cut_of_kept kept ∷ [] = rw map-append refl in
@@ -59,7 +59,7 @@ sized-more frames kept size s few room =
     }
 
 pub sized-push : (old new : List Kept) (kept : Kept) (size now len : ℕ) → new ≡ old ++ kept ∷ [] → len ≡ length kept.bytes → now ≡ min (size + len) (2 ^ 64 - 1)
-    → IsSized (map cut_of_kept old) size → length old < 256 → (0 < length old → size < 4194304) → IsSized (map cut_of_kept new) now
+    → IsSized (map cut_of_kept old) size → length old < 8192 → (0 < length old → size < 4194304) → IsSized (map cut_of_kept new) now
 sized-push old new kept size now len is long grown s few room = rw (is, grown, long) (sized-more old kept size s few room)
 
 -- A new framer owes no frame yet.

@@ -64,7 +64,7 @@ weight-last (x ∷ front) last = let i = weight-last front last in omega (arith,
 
 -- A batch of frames of an input takes up little more than a batch may have.
 pub batch_small : (d : Discipline) (max : ℕ) (input : List ℕ) (done hand others : List Cut) → FitsLimit d max → records d max input ≡ done ++ hand ++ others → IsBatch hand
-    → spread hand ≤ max + 4195328
+    → spread hand ≤ max + 4227072
 batch_small d max input done hand others fits e (inl none) = rw none (omega arith)
 batch_small d max input done hand others fits e (inr full) =
     let apart : done ++ hand ++ others ≡ (done ++ full.front) ++ full.last ∷ others =

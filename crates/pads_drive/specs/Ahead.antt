@@ -28,12 +28,12 @@ weight (frame ∷ frames) = length frame.bytes + weight frames
 abbrev pub spread : List Cut → ℕ
 spread frames = weight frames + 4 * length frames
 
--- A batch has at most 256 frames, and all but its last carry less than 4,194,304 bytes.
+-- A batch has at most 8,192 frames, and all but its last carry less than 4,194,304 bytes.
 pub record IsFull (frames : List Cut) : Type 0 where
   pub front : List Cut
   pub last : Cut
   pub whole : frames ≡ front ++ last ∷ []
-  pub few : length front < 256
+  pub few : length front < 8192
   pub light : weight front < 4194304
 
 abbrev pub IsBatch : List Cut → Type 0

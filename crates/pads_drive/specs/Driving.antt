@@ -1,5 +1,5 @@
 -- Reading an input to its end, frame by frame: what a step does to the framer and to the frames that wait.
-use Rattle.std.specs.Prelude.{◌≡◌, ℕ, ◌+◌, ◌^◌, ◌<◌, ◌≤◌, nat_lt, nat_le, Bool, true, ◌&&◌, ◌||◌, Option, None, Some, List, [], ◌++◌, length}
+use Rattle.std.specs.Prelude.{◌≡◌, ℕ, ◌+◌, ◌^◌, ◌<◌, ◌≤◌, nat_lt, nat_le, Bool, true, ◌&&◌, ◌||◌, if◌then◌else◌, Option, None, Some, List, [], ◌++◌, length}
 use Rattle.std.specs.Io.KnownBytes.{Consumes, IsAtEnd, Keeps}
 use Rattle.pads_io.specs.Faults.{Rose}
 use Rattle.pads_value.specs.Cuts.{Cut, cut_of_kept}
@@ -15,9 +15,13 @@ abbrev pub KeepsNext : State → State → Option Kept → Type 0
 KeepsNext old new None = Waits old new
 KeepsNext old new (Some kept) = HandsOut old (cut_of_kept kept) new
 
--- A batch takes no more frames: it has 256, or some whose bytes are 4,194,304 or more.
-abbrev pub is_full : Batch → Bool
-is_full b = nat_le 256 (length b.frames) || (nat_le 4194304 b.size && nat_lt 0 (length b.frames))
+-- the most frames of a batch that so many workers read: several share a larger one
+abbrev pub most_frames : ℕ → ℕ
+most_frames jobs = if nat_le jobs 1 then 256 else 8192
+
+-- A batch takes no more frames: it has the most, or some whose bytes are 4,194,304 or more.
+abbrev pub is_full : ℕ → Batch → Bool
+is_full most b = nat_le most (length b.frames) || (nat_le 4194304 b.size && nat_lt 0 (length b.frames))
 
 -- Frames were moved from a framer to those that wait, and none was lost.
 pub record Collects (old new : State) (before after : List Cut) : Type 0 where

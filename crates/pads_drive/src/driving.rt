@@ -3,7 +3,7 @@ ghost use Rattle.pads_io.specs.Faults.{Rose};
 ghost use Rattle.pads_frame.specs.State.{reach, room};
 ghost use Rattle.pads_value.specs.Cuts.{cut_of_kept};
 ghost use Rattle.pads_drive.specs.declared.refill.Refill.TheVariants as refilled;
-ghost use Rattle.pads_drive.specs.Driving.{KeepsNext, Collects, IsWaiting, RefillGives, is_full};
+ghost use Rattle.pads_drive.specs.Driving.{KeepsNext, Collects, IsWaiting, RefillGives, is_full, most_frames};
 ghost use Rattle.pads_drive.specs.Halting.{IsFilled};
 ghost use Rattle.pads_drive.specs.Writing.{Grows, GrowsPrefix};
 ghost use Rattle.pads_drive.specs.Stopping.{AtLimit, HasSinkCause};
@@ -57,11 +57,23 @@ pub(crate) struct Batch {
     pub(crate) size: u64,
 }
 
-/// The most frames of a batch.
+/// The most frames of a batch that one worker reads.
 const MOST_FRAMES: u64 = 256;
+
+/// The most frames of a batch that workers share. To start them takes longer than to read a few records.
+const MOST_SHARED: u64 = 8192;
 
 /// A batch with so many bytes takes no more frames.
 const BATCH_SIZE: u64 = 4_194_304;
+
+/// The most frames of a batch that so many workers read.
+fn most_frames(jobs: u32) -> u64
+    ensures most { result ≡ most_frames jobs }
+    ensures some { 0 < result }
+    ensures bound { result ≤ 8192 }
+{
+    if jobs <= 1 { MOST_FRAMES } else { MOST_SHARED }
+}
 
 impl Batch {
     pub(crate) fn new(alloc: Global) -> Batch
@@ -74,18 +86,19 @@ impl Batch {
         }
     }
 
-    fn is_full(&self) -> bool
-        ensures full { result ≡ is_full self.now }
+    fn is_full(&self, most: u64) -> bool
+        requires some { 0 < most }
+        ensures full { result ≡ is_full most self.now }
         ensures some { result ≡ true → 0 < length self.now.frames }
-        ensures bound { result ≡ false → length self.now.frames < 256 }
+        ensures bound { result ≡ false → length self.now.frames < most }
         ensures light { result ≡ false → 0 < length self.now.frames → self.now.size < 4194304 }
     {
-        self.frames.len() >= MOST_FRAMES || (self.size >= BATCH_SIZE && !self.frames.is_empty())
+        self.frames.len() >= most || (self.size >= BATCH_SIZE && !self.frames.is_empty())
     }
 
     fn push(&mut self, kept: Kept) -> Result<(), Memory>
         requires filled { IsFilled self.old }
-        requires few { length self.old.frames < 256 }
+        requires few { length self.old.frames < 8192 }
         requires light { 0 < length self.old.frames → self.old.size < 4194304 }
         ensures ok { OnOk result (self.new.frames ≡ self.old.frames ++ kept ∷ []) }
         ensures filled { OnOk result (IsFilled self.new) }
@@ -97,17 +110,23 @@ impl Batch {
     }
 }
 
-/// Moves the framer's frames into the batch, until it is full, as `true` says, or the framer wants
-/// more bytes.
-pub(crate) fn collect(alloc: Global, framer: &mut Framer, batch: &mut Batch) -> Result<bool, Memory>
+/// Moves the framer's frames into the batch, until it is full for so many workers, as `true` says, or
+/// the framer wants more bytes.
+pub(crate) fn collect(
+    alloc: Global,
+    jobs: u32,
+    framer: &mut Framer,
+    batch: &mut Batch,
+) -> Result<bool, Memory>
     requires filled { IsFilled batch.old }
     ensures collects { OnOk result (Collects framer.old framer.new (map cut_of_kept batch.old.frames) (map cut_of_kept batch.new.frames)) }
-    ensures full { result ≡ Ok true → is_full batch.new ≡ true }
+    ensures full { result ≡ Ok true → is_full (most_frames jobs) batch.new ≡ true }
     ensures some { result ≡ Ok true → 0 < length batch.new.frames }
     ensures waiting { result ≡ Ok false → IsWaiting framer.new }
     ensures filled { OnOk result (IsFilled batch.new) }
 {
-    'frames: while !batch.is_full() {
+    let most = most_frames(jobs);
+    'frames: while !batch.is_full(most) {
         match next_kept(alloc, framer)? {
             None => return Ok(false),
             Some(kept) => batch.push(kept)?,

@@ -49,7 +49,7 @@ pub(crate) fn pump<R: Threads + Sync, C: Command, G: Gate + Sync, K: Sink, E: Si
         ((row : C.Row) → (C.work command.now).notes row ≡ []) result }
 {
     'batches: loop {
-        match collect(alloc, &mut reading.framer, &mut reading.batch) {
+        match collect(alloc, jobs, &mut reading.framer, &mut reading.batch) {
             Err(_) => return Err(Stop::Memory),
             Ok(false) => return Ok(()),
             Ok(true) => {}

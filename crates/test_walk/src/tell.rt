@@ -5,6 +5,7 @@ use crate::masks::mask_of;
 use crate::order::{Order, Record, order_of};
 use crate::row_text::put_row;
 use crate::term_text::{put_decl, put_names, put_shape};
+use crate::trouble::Trouble;
 use hex::FromHexError;
 use pads_code::Coding;
 use pads_compile::compile;
@@ -13,34 +14,15 @@ use pads_json::record_line;
 use pads_machine::Machine;
 use pads_mask::mask_module;
 use pads_module::Module;
-use pads_value::{Frame, Mark, Memory, Refusal, Row};
+use pads_value::{Frame, Mark, Refusal, Row};
 use pads_walk::walk;
 use std::alloc::{AllocError, Global};
 
 /// The farthest end of a frame in a table.
 const FARTHEST: u64 = 1_000_000;
 
-/// Why a line isn't answered.
-#[derive(Debug, Drop)]
-enum Trouble {
-    /// It isn't what a table may have there, for this reason.
-    Line(&'static str),
-    Memory,
-}
-
-impl From<AllocError> for Trouble {
-    fn from(_error: AllocError) -> Trouble {
-        Trouble::Memory
-    }
-}
-
-impl From<Memory> for Trouble {
-    fn from(_error: Memory) -> Trouble {
-        Trouble::Memory
-    }
-}
-
-fn described(alloc: Global, text: &str, coding: Coding) -> Result<Module, Trouble> {
+/// The module of a description.
+pub(crate) fn described(alloc: Global, text: &str, coding: Coding) -> Result<Module, Trouble> {
     match describe(alloc, text.as_bytes(), coding) {
         Ok(module) => Ok(module),
         Err(Refusal::Fault(_)) => Err(Trouble::Line("the description is refused")),

@@ -14,4 +14,4 @@ abbrev pub invariant-frames : goal.invariant-frames
 invariant-frames l = Collected l.initial.framer l.framer (map cut_of_kept l.initial.batch.frames) (map cut_of_kept l.batch.frames) l.batch.size
 
 abbrev pub decreases-frames : goal.decreases-frames
-decreases-frames l = 256 - length l.batch.frames
+decreases-frames l = 8192 - length l.batch.frames

@@ -1,0 +1,113 @@
+//! A gate at which three workers of a batch meet: what reads the batch on one thread passes it, but nobody
+//! meets there.
+use crate::tell::described;
+use crate::trouble::Trouble;
+use pads_batch::read_batch;
+use pads_code::Coding;
+use pads_compile::compile;
+use pads_drive::Gate;
+use pads_value::{Frame, Frames, Mark, Refusal};
+use std::alloc::Global;
+use std::hint;
+use std::sync::atomic::{AtomicBool, Ordering};
+use std::thread::Threads;
+
+/// How often a worker looks for the others at most.
+const MOST_LOOKS: u64 = 100_000_000;
+
+/// The description of the records.
+const DESCRIPTION: &str = "Precord Pstruct r { Puint8 x; };";
+
+/// One of three workers.
+#[derive(Drop)]
+struct Worker {
+    came: AtomicBool,
+    /// It saw the others come.
+    saw: AtomicBool,
+}
+
+/// Where the workers of the records 0, 1 and 2 wait for each other, for some time.
+#[derive(Drop)]
+struct Meeting {
+    first: Worker,
+    second: Worker,
+    third: Worker,
+}
+
+impl Worker {
+    fn new() -> Worker {
+        Worker {
+            came: AtomicBool::new(false),
+            saw: AtomicBool::new(false),
+        }
+    }
+
+    /// Comes, and looks for the others.
+    fn meet(&self, one: &Worker, other: &Worker) {
+        self.came.store(true, Ordering::SeqCst);
+        for _ in 0..MOST_LOOKS {
+            if one.came.load(Ordering::SeqCst) && other.came.load(Ordering::SeqCst) {
+                self.saw.store(true, Ordering::SeqCst);
+                return;
+            }
+            hint::spin_loop();
+        }
+    }
+}
+
+impl Meeting {
+    fn new() -> Meeting {
+        Meeting {
+            first: Worker::new(),
+            second: Worker::new(),
+            third: Worker::new(),
+        }
+    }
+
+    /// Whether each of the three saw the others.
+    fn is_held(&self) -> bool {
+        self.first.saw.load(Ordering::SeqCst)
+            && self.second.saw.load(Ordering::SeqCst)
+            && self.third.saw.load(Ordering::SeqCst)
+    }
+}
+
+impl Gate for Meeting {
+    fn pass(&self, record_no: u64) {
+        match record_no {
+            0 => self.first.meet(&self.second, &self.third),
+            1 => self.second.meet(&self.first, &self.third),
+            _ => self.third.meet(&self.first, &self.second),
+        }
+    }
+}
+
+/// Three frames, each of the record `7`.
+fn three_frames(alloc: Global) -> Result<Frames, Trouble> {
+    let mut frames = Frames::new(alloc);
+    for place in 0..3_u64 {
+        let first = 2 * place;
+        let frame = Frame {
+            first,
+            end: first + 1,
+            bytes: b"7",
+            mark: Mark::Plain,
+        };
+        frames.push(frame.keep(alloc)?)?;
+    }
+    Ok(frames)
+}
+
+/// Whether three workers that read a batch of three records meet.
+pub(crate) fn workers_meet<R: Threads + Sync>(rt: &R, alloc: Global) -> Result<bool, Trouble> {
+    let module = described(alloc, DESCRIPTION, Coding::Ascii)?;
+    let image = match compile(alloc, &module) {
+        Ok(image) => image,
+        Err(Refusal::Fault(_)) => return Err(Trouble::Line("the image is too large")),
+        Err(Refusal::Memory) => return Err(Trouble::Memory),
+    };
+    let frames = three_frames(alloc)?;
+    let meeting = Meeting::new();
+    let rows = read_batch(rt, alloc, &image, 0, frames.as_slice(), 3, &meeting)?;
+    Ok(rows.len() == 3 && meeting.is_held())
+}
