@@ -14,10 +14,16 @@ fn stands(point: u8) -> bool
     0x1F < point && point < 0x80 && point != b'"' && point != b'\\'
 }
 
+/// Whether each code point stands as itself. It looks at all of them, so that it looks at several at once.
+#[tactic(auto, using(std::proofs::lemmas::List::Folds::list_all_more))]
 fn all_stand(points: &[u8]) -> bool
     ensures all { result ≡ list_all stands_of points.now }
 {
-    points.iter().all(|point| stands(*point))
+    let mut all = true;
+    'points: for point in points {
+        all = all & stands(*point);
+    }
+    all
 }
 
 /// The letter of a byte's short escape; 0 where it has none.
