@@ -1,5 +1,5 @@
 -- A search of a literal where it doesn't stand: the steps that find so at each place lead to a place further on.
-use Rattle.std.proofs.Common.{◌≡◌, ◌∙◌, sym, ap, refl, arith, ℕ, zero, suc, ◌+◌, ◌-◌, ◌<◌, ◌≤◌, Bool, true, false, if◌then◌else◌, not, nat_lt, List, ◌∷◌, length, ⊎_elim, Some, slice_get}
+use Rattle.std.proofs.Common.{◌≡◌, ◌∙◌, sym, ap, refl, arith, ℕ, zero, suc, ◌+◌, ◌-◌, ◌<◌, ◌≤◌, Bool, true, false, if◌then◌else◌, not, nat_lt, List, ◌∷◌, ⊎_elim, Some, slice_get}
 use Rattle.std.proofs.lemmas.Bool.{lt-ltb}
 use Rattle.pads_value.specs.declared.cause.Cause.{Cause}
 use Rattle.pads_value.specs.declared.cause.Cause.TheVariants as cause
@@ -23,7 +23,7 @@ module _ (origin i : ℕ) (c : Cause) where
   fails-bad : is_ok (fails origin c i) ≡ false
   fails-bad = simp out-roll-Pd
 
-  fails-began : began origin (fails origin c i) ≡ i
+  pub fails-began : began origin (fails origin c i) ≡ i
   fails-began = let out : (out-Pd (fails origin c i).pd).span.begin ≡ origin + i = simp out-roll-Pd in omega (arith, out)
 
   fails-absorbed : absorb_of (fails origin c i) ≡ fails origin c i

@@ -6,6 +6,7 @@ pub mod Homes
 pub mod Labels
 pub mod Leaps
 pub mod Nodes
+pub mod Passing
 pub mod Shows
 pub mod Taking
 pub mod Tops

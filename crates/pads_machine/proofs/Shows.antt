@@ -23,7 +23,7 @@ use Rattle.pads_machine.specs.declared.node.Node.{Node}
 use Rattle.pads_machine.specs.declared.state.State.{State}
 use Rattle.pads_machine.specs.Held.{AreSound, Roomy}
 use Rattle.pads_machine.specs.Ran.{GoesWithin, opens}
-use Rattle.pads_machine.specs.Shown.{Homes, above, below, caller_shown, mark_shown, home_of, homeless, put_back, shows, stand_in, nodes_shown}
+use Rattle.pads_machine.specs.Shown.{Homes, above, below, caller_shown, mark_shown, home_of, homeless, put_back, shows, shown, stand_in, nodes_shown}
 use Rattle.pads_machine.proofs.Bound.{bound-count, bound-shown, bound-sound, homeless-count}
 use Rattle.pads_machine.proofs.Homes.{home-length}
 use Rattle.pads_machine.proofs.Nodes.{IsFilled, open-shown, open-sound, part-shown, part-sound, leave-shown, leave-sound}
@@ -61,6 +61,27 @@ base-last callers c some =
     let last : length callers - 1 - 0 ≡ length callers - 1 = omega arith in
     base-first (reverse callers) c (omega (arith, some, length-reverse callers))
     ∙ ap (λ (c : Caller). c.base) (get_or-reverse callers 0 c some ∙ ap (λ k. get_or callers k c) last)
+
+-- what is kept has a struct or an array to go to, and its binding room
+part-opens : (origin room : ℕ) (name : Option ℕ) (s : states.State) (nodes : List states.Node) → GoesWithin room (part_step origin name s nodes) → 0 < length nodes
+part-opens origin room name s [] within = absurd within
+part-opens origin room name s (n ∷ nodes) within = omega arith
+
+part-rooms : (origin room : ℕ) (name : Option ℕ) (s : states.State) (nodes : List states.Node) → GoesWithin room (part_step origin name s nodes) → bindings_of name + length s.bindings ≤ room
+part-rooms origin room name s [] within = absurd within
+part-rooms origin room name s (n ∷ nodes) within = omega (arith, within, bind-count name s.last.value s.bindings)
+
+pub part-open : (origin room : ℕ) (name : Option ℕ) (m : State) → GoesWithin room (part_step origin name (shown m) (shown m).nodes) → 0 < length m.nodes.items
+part-open origin room name m within =
+    omega (
+      arith,
+      part-opens origin room name (shown m) (shown m).nodes within,
+      nodes-count (reverse m.nodes.items) (reverse m.homes.items) (reverse m.bindings.items),
+      length-reverse m.nodes.items,
+    )
+
+pub part-room : (origin room : ℕ) (name : Option ℕ) (m : State) → GoesWithin room (part_step origin name (shown m) (shown m).nodes) → bindings_of name + length m.bindings.items ≤ room
+part-room origin room name m within = omega (arith, part-rooms origin room name (shown m) (shown m).nodes within, length-reverse m.bindings.items)
 
 -- a test that must have held
 pub where-so : (room : ℕ) (b : Bool) (t : states.State) → GoesWithin room (cond b (Goes t) Stuck) → b ≡ true

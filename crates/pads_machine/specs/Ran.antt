@@ -6,13 +6,14 @@ use Rattle.pads_value.specs.declared.descriptor.Pd.{out-Pd}
 use Rattle.pads_calc.specs.Arrays.{is_fail_class}
 use Rattle.pads_dispatch.specs.Labels.{labels_fit}
 use Rattle.pads_calc.specs.declared.reading.Reading.{Reading}
-use Rattle.pads_calc.specs.Readings.{Subject}
+use Rattle.pads_calc.specs.Leaves.{lit_of}
+use Rattle.pads_calc.specs.Readings.{Subject, is_ok}
 use Rattle.pads_image.specs.declared.entry.Entry.{Entry}
 use Rattle.pads_image.specs.declared.op.Op.{Op}
 use Rattle.pads_image.specs.declared.op.Op.TheVariants as op
-use Rattle.pads_image.specs.Answers.{HaltsWith}
+use Rattle.pads_image.specs.Answers.{HaltsWith, Reaches}
 use Rattle.pads_image.specs.States.{State, entries}
-use Rattle.pads_image.specs.Steps.{Step, Goes, Halts, Stuck, began, new_node}
+use Rattle.pads_image.specs.Steps.{Step, Goes, Halts, Stuck, began, new_node, step}
 use Rattle.pads_machine.specs.declared.step.Next.{Next}
 use Rattle.pads_machine.specs.declared.step.Next.TheVariants as next
 use Rattle.pads_machine.specs.declared.state.State.{State as Machine}
@@ -27,9 +28,21 @@ GoesWithin room Stuck = ⊥
 -- what is told of a step from a state, and the state behind it. Where the run halts, what was read last
 -- is as it was
 abbrev pub Tells : Next → Step → State → State → Type 0
-Tells next.Goes step s t = step ≡ Goes t
-Tells next.Searches step s t = step ≡ Goes t
-Tells next.Halts step s t = (step ≡ Halts) × (t.last ≡ s.last)
+Tells next.Goes made s t = made ≡ Goes t
+Tells next.Searches made s t = made ≡ Goes t
+Tells next.Halts made s t = (made ≡ Halts) × (t.last ≡ s.last)
+
+-- a step, and then any number of them
+pub record Leads (code : List Op) (of_entries : List Entry) (subject : Subject) (most : ℕ) (s u : State) : Type 0 where
+  pub next_ : State
+  pub goes : step of_entries subject code s ≡ Goes next_
+  pub more : Reaches code of_entries subject most next_ u
+
+-- what is told of steps from a state, one at least, and the state behind them
+abbrev pub Advances : List Op → List Entry → Subject → ℕ → Next → State → State → Type 0
+Advances code of_entries subject most next.Goes s t = Leads code of_entries subject most s t
+Advances code of_entries subject most next.Searches s t = Leads code of_entries subject most s t
+Advances code of_entries subject most next.Halts s t = (step of_entries subject code s ≡ Halts) × (t.last ≡ s.last)
 
 -- the instructions of terms without a term in them, or around one
 abbrev pub is_leaf : Op → Bool
@@ -77,6 +90,20 @@ undone_by origin r is_first place =
     if is_fail_class (out-Pd r.pd).class && nat_eq r.place (began origin r) then Some cause.ArrayElem
     else if not is_first && nat_eq r.place place then Some cause.ArrayStall
     else None
+
+-- a literal that is a part of a struct from an address on, without a name: where its search begins, it, what
+-- drops its value, where the search ends, and what keeps it
+abbrev pub IsLiteralPart : List Op → ℕ → List ℕ → Type 0
+IsLiteralPart code address literal =
+    (slice_get code address ≡ Some op.ScanFrom)
+    × (slice_get code (address + 1) ≡ Some (op.Lit literal))
+    × (slice_get code (address + 2) ≡ Some op.Absorb)
+    × (slice_get code (address + 3) ≡ Some (op.ScanOn (address + 1)))
+    × (slice_get code (address + 4) ≡ Some (op.Part None))
+
+-- such a literal stands at the place, and reads so
+abbrev pub StandsAsPart : List Op → Subject → State → Reading → Type 0
+StandsAsPart code subject s r = (literal : List ℕ) × IsLiteralPart code s.at_ literal × (r ≡ lit_of subject literal s.last.place) × (is_ok r ≡ true)
 
 -- a search of a literal from an address on, its value kept or not
 abbrev pub IsSearch : List Op → ℕ → List ℕ → Type 0

@@ -3,6 +3,7 @@
 -- struct shows has each value at its home.
 use Rattle.std.specs.Prelude.{◌≡◌, ℕ, ◌-◌, List, [], ◌∷◌, ◌++◌, length, take, drop, map, reverse, Option, Some, None, slice_set}
 use Rattle.pads_value.specs.declared.cause.Cause.{Cause}
+use Rattle.pads_value.specs.declared.descriptor.Pd.{Pd}
 use Rattle.pads_value.specs.declared.value.Val.{Val}
 use Rattle.pads_value.specs.declared.value.Val.TheVariants as val
 use Rattle.pads_dispatch.specs.declared.base.Arg.{Arg}
@@ -109,3 +110,14 @@ pub record TakenOne (bindings : Pairs) (homes : Homes) (values : List Val) (bind
   pub bindings_are : bindings ≡ bindings_left ++ binding ∷ []
   pub homes_are : homes ≡ homes_left ++ home ∷ []
   pub values_are : values_left ≡ put_home home binding.1 values
+
+-- the latest struct or array keeps one more part; structs and arrays as they are stored, the latest last
+pub record KeptLatest (nodes nodes_left : List Node) (value : Val) (pd : Pd) : Type 0 where
+  pub before : List Node
+  pub node : Node
+  pub kept : Node
+  pub nodes_are : nodes ≡ before ++ node ∷ []
+  pub left_are : nodes_left ≡ before ++ kept ∷ []
+  pub filled : kept ≡ record node { values = kept.values; pds = kept.pds }
+  pub values : kept.values.items ≡ node.values.items ++ value ∷ []
+  pub pds : kept.pds.items ≡ node.pds.items ++ pd ∷ []

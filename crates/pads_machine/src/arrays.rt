@@ -18,7 +18,7 @@ use std::mem;
 
 impl State {
     /// The struct or the array that was begun last.
-    fn node(&self) -> &Node
+    pub(crate) fn node(&self) -> &Node
         requires { 0 < length self.now.nodes.items }
         ensures node { slice_get (reverse self.now.nodes.items) 0 ≡ Some result.now }
     {

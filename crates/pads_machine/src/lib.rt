@@ -6,6 +6,7 @@ mod bindings;
 mod choices;
 mod machine;
 mod node;
+mod passes;
 mod scans;
 mod state;
 mod step;

@@ -1,4 +1,5 @@
-ghost use Rattle.std.specs.Prelude.{◌≡◌, ◌∷◌, ◌++◌, [], IfOk};
+ghost use Rattle.std.specs.Prelude.{◌≡◌, ◌<◌, ◌∷◌, ◌++◌, [], OnOk, vec_capacity, vec_len};
+ghost use Rattle.pads_machine.specs.Shown.{KeptLatest};
 
 use pads_value::{Cause, Memory, Pd, Val};
 
@@ -36,29 +37,25 @@ pub(crate) struct Caller {
 }
 
 impl Node {
-    /// With one more part or element.
-    pub(crate) fn with(self, value: Val, pd: Pd) -> Result<Node, Memory>
-        ensures filled { IfOk result (λ node. node ≡ record self { values = node.values; pds = node.pds }) }
-        ensures values { IfOk result (λ node. node.values.items ≡ self.values.items ++ value ∷ []) }
-        ensures pds { IfOk result (λ node. node.pds.items ≡ self.pds.items ++ pd ∷ []) }
+    /// Keeps one more part or element.
+    fn keep(&mut self, value: Val, pd: Pd) -> Result<(), Memory>
+        ensures filled { OnOk result (self.new ≡ record self.old { values = self.new.values; pds = self.new.pds }) }
+        ensures values { OnOk result (self.new.values.items ≡ self.old.values.items ++ value ∷ []) }
+        ensures pds { OnOk result (self.new.pds.items ≡ self.old.pds.items ++ pd ∷ []) }
     {
-        let Node {
-            begin,
-            base,
-            size,
-            mut values,
-            mut pds,
-            own,
-        } = self;
-        values.push(value)?;
-        pds.push(pd)?;
-        Ok(Node {
-            begin,
-            base,
-            size,
-            values,
-            pds,
-            own,
-        })
+        self.values.push(value)?;
+        self.pds.push(pd)?;
+        Ok(())
     }
+}
+
+/// Keeps one more part or element in the latest of several structs and arrays.
+pub(crate) fn keep_latest(nodes: &mut Vec<Node>, value: Val, pd: Pd) -> Result<(), Memory>
+    requires some { 0 < vec_len nodes.old }
+    ensures kept { OnOk result (KeptLatest nodes.old.items nodes.new.items value pd) }
+    ensures capacity { vec_capacity nodes.new ≡ vec_capacity nodes.old }
+{
+    let latest = nodes.len() - 1;
+    nodes[latest].keep(value, pd)?;
+    Ok(())
 }

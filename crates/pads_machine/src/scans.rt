@@ -20,7 +20,7 @@ use pads_value::Cause;
 use std::alloc::Global;
 
 /// Whether a search goes on at an address, told by the instruction at another.
-fn searches(code: &[Op], address: usize, to: usize) -> bool
+pub(crate) fn searches(code: &[Op], address: usize, to: usize) -> bool
     ensures searches { IsTrue result → slice_get code.now address ≡ Some (instruction.ScanOn to) }
 {
     match at(code, address) {
@@ -30,7 +30,7 @@ fn searches(code: &[Op], address: usize, to: usize) -> bool
 }
 
 /// Whether a value is dropped at an address.
-fn absorbs(code: &[Op], address: usize) -> bool
+pub(crate) fn absorbs(code: &[Op], address: usize) -> bool
     ensures absorbs { IsTrue result → slice_get code.now address ≡ Some instruction.Absorb }
 {
     matches!(at(code, address), Some(Op::Absorb))

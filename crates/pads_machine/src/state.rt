@@ -1,6 +1,7 @@
 //! Where the machine stands: an address, what was read last, and its stacks.
 ghost use Rattle.std.specs.Prelude.{◌≡◌, ℕ, ◌+◌, ◌-◌, ◌<◌, ◌≤◌, ◌^◌, [], length, reverse, vec_len, IfOk, OnOk};
 ghost use Rattle.pads_calc.specs.Leaves.{unit_of};
+ghost use Rattle.pads_image.specs.Blocks.{bindings_of};
 ghost use Rattle.pads_image.specs.States.{base_of, entries, floor_of, seen as seen_of};
 ghost use Rattle.pads_image.specs.Steps.{Goes, close_step, entered, part_step, reads, returned};
 ghost use Rattle.pads_machine.specs.Held.{Held, Placed, Roomy};
@@ -8,7 +9,7 @@ ghost use Rattle.pads_machine.specs.Ran.{GoesWithin, opens};
 ghost use Rattle.pads_machine.specs.Shown.{below, caller_shown, shown};
 
 use crate::bindings::{bind, hold, take_back};
-use crate::node::{Caller, Mark, Node};
+use crate::node::{Caller, Mark, Node, keep_latest};
 use pads_calc::Reading;
 use pads_dispatch::Args;
 use pads_expr::Binding;
@@ -168,19 +169,62 @@ impl State {
         ensures held { OnOk result (Held self.new) }
         ensures roomy { Roomy self.old.room self.new }
     {
-        let Some(node) = self.nodes.pop() else {
-            unreachable!()
-        };
+        let reading = self.take_last(alloc, origin);
+        self.keep(name, reading)?;
+        self.address += 1;
+        Ok(())
+    }
+
+    /// Keeps a reading as the next part of the latest struct, and binds a named part's value.
+    fn keep(&mut self, name: Option<u16>, reading: Reading) -> Result<(), Memory>
+        requires some { 0 < length self.old.nodes.items }
+        requires room { bindings_of name + length self.old.bindings.items ≤ self.old.room }
+        requires roomy { Roomy self.old.room self.old }
+        requires held { Held self.old }
+        ensures keep { OnOk result ((origin address : ℕ) → part_step origin name (record (shown self.old) { at_ = address; last = reading }) (shown self.old).nodes ≡ Goes (record (shown self.new) { at_ = address + 1; last = unit_of origin reading.place })) }
+        ensures address { OnOk result (self.new.address ≡ self.old.address) }
+        ensures last { OnOk result (self.new.last ≡ self.old.last) }
+        ensures marks { OnOk result (self.new.marks ≡ self.old.marks) }
+        ensures held { OnOk result (Held self.new) }
+        ensures roomy { Roomy self.old.room self.new }
+    {
+        let part = self.node().values.len();
         let Reading {
             value,
             pd,
             place: _,
-        } = self.take_last(alloc, origin);
-        let part = node.values.len();
+        } = reading;
         let held = hold(&mut self.bindings, &mut self.homes, name, value, part);
-        let node = node.with(held, pd)?;
-        self.nodes.push_reserved(node);
-        self.address += 1;
+        keep_latest(&mut self.nodes, held, pd)?;
+        Ok(())
+    }
+
+    /// Keeps what the instruction at the address reads, and goes on behind the next one, which would keep it
+    /// as a part.
+    pub(crate) fn put(
+        &mut self,
+        alloc: Global,
+        origin: u64,
+        name: Option<u16>,
+        reading: Reading,
+    ) -> Result<(), Memory>
+        requires origin { origin ≤ 2 ^ 62 }
+        requires place { reading.place ≤ 2 ^ 62 }
+        requires address { self.old.address < 2 ^ 32 }
+        requires some { 0 < length self.old.nodes.items }
+        requires room { bindings_of name + length self.old.bindings.items ≤ self.old.room }
+        requires roomy { Roomy self.old.room self.old }
+        requires held { Held self.old }
+        ensures put { OnOk result (part_step origin name (record (shown self.old) { at_ = self.old.address + 1; last = reading }) (shown self.old).nodes ≡ Goes (shown self.new)) }
+        ensures place { OnOk result (self.new.last.place ≡ reading.place) }
+        ensures marks { OnOk result (self.new.marks ≡ self.old.marks) }
+        ensures held { OnOk result (Held self.new) }
+        ensures roomy { Roomy self.old.room self.new }
+    {
+        let place = reading.place;
+        self.keep(name, reading)?;
+        self.last = Reading::leaf(alloc, origin, Val::Unit, place, place);
+        self.address += 2;
         Ok(())
     }
 

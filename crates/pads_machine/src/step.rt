@@ -262,7 +262,7 @@ impl State {
     }
 
     /// One instruction.
-    fn step(&mut self, alloc: Global, program: &Program, op: &Op) -> Result<Next, Memory>
+    pub(crate) fn step(&mut self, alloc: Global, program: &Program, op: &Op) -> Result<Next, Memory>
         requires labels { labels_stand op.now ≡ true }
         requires address { self.old.address < 2 ^ 32 }
         requires placed { Placed (length program.now.record.bytes.now) self.old }
@@ -318,7 +318,7 @@ impl State {
         ensures roomy { Roomy self.old.room self.new }
     {
         'run: while let Some(op) = at(program.code, self.address) {
-            match self.step(alloc, program, op)? {
+            match self.advance(alloc, program, op)? {
                 Next::Goes => {}
                 Next::Searches => self.leap(alloc, program),
                 Next::Halts => return Ok(()),

@@ -1,27 +1,28 @@
 use Rattle.std.proofs.Common.{◌≡◌, ◌∙◌, sym, subst, arith, Some, None, slice_get}
 use Rattle.pads_image.specs.Answers.{Reaches}
-use Rattle.pads_image.specs.Steps.{Goes, Step, does, step}
+use Rattle.pads_image.specs.Steps.{Step, does}
 use Rattle.law_images.proofs.ReadBack.{all-there}
 use Rattle.pads_steps.specs.Records.{subject_of}
 use Rattle.pads_machine.specs.declared.step.Next.{Next}
 use Rattle.pads_machine.specs.Held.{Roomy}
-use Rattle.pads_machine.specs.Ran.{GoesWithin, Tells, labels_stand}
+use Rattle.pads_machine.specs.Ran.{Advances, GoesWithin, Leads, labels_stand}
 use Rattle.pads_machine.specs.Shown.{shown}
-use Rattle.pads_machine.proofs.Halts.{address-there, at-op, counted-there, fewer-left, fits-here, goes-within, halted, moved-there, never-past, no-more, some-below}
+use Rattle.pads_machine.proofs.Halts.{address-there, at-op, counted-there, fewer-left, fits-here, goes-within, halted, moved-there, never-past, some-below}
+use Rattle.pads_machine.proofs.Passing.{reaches-on}
 use Rattle.pads_machine.proofs.state.State.run.Goals as goal
 
-pub step-requires-clause-labels : goal.step-requires-clause-labels
-step-requires-clause-labels g c =
+pub advance-requires-clause-labels : goal.advance-requires-clause-labels
+advance-requires-clause-labels g c =
     let there : slice_get c.args.program.now.code.now c.run.self.address ≡ Some c.in-Some.op.now = sym c.in-Some.ensures.op in
     all-there labels_stand c.args.program.now.code.now c.run.self.address c.in-Some.op.now c.requires.1.0 there
 
-pub step-requires-clause-address : goal.step-requires-clause-address
-step-requires-clause-address g c =
+pub advance-requires-clause-address : goal.advance-requires-clause-address
+advance-requires-clause-address g c =
     let there : slice_get c.args.program.now.code.now c.run.self.address ≡ Some c.in-Some.op.now = sym c.in-Some.ensures.op in
     omega (arith, some-below c.args.program.now.code.now c.run.self.address c.in-Some.op.now there, c.requires.0)
 
-pub step-requires-clause-within : goal.step-requires-clause-within
-step-requires-clause-within g c =
+pub advance-requires-clause-within : goal.advance-requires-clause-within
+advance-requires-clause-within g c =
     let code = c.args.program.now.code.now in
     let entries = c.args.program.now.entries.now in
     let subject = subject_of c.args.program.now.record in
@@ -40,12 +41,11 @@ leap-requires-clause-address g c =
     let subject = subject_of c.args.program.now.record in
     let room = c.args.self.now.room in
     let s = shown c.run.self in
-    let t = shown c.step.new.self in
-    let op = c.in-Some.op.now in
-    let there : slice_get code s.at_ ≡ Some op = sym c.in-Some.ensures.op in
-    let told = subst (λ (n : Next). Tells n (does entries subject op s) s t) c.in-Searches.is c.in_ok-step.ensures.step in
-    let goes : step entries subject code s ≡ Goes t = at-op code entries subject room s op there ∙ told in
-    omega (arith, address-there code entries subject room g.steps t (counted-there code entries subject room g.steps s t t goes (no-more code entries subject room t) c.run.invariant.counted), c.requires.0)
+    let t = shown c.advance.new.self in
+    let counted = c.run.invariant.counted in
+    let told = subst (λ (n : Next). Advances code entries subject c.run.self.room n s t) c.in-Searches.is c.in_ok-advance.ensures.advance in
+    let led = subst (λ room. Leads code entries subject room s t) c.run.invariant.roomy.room_is told in
+    omega (arith, address-there code entries subject room g.steps t (counted-there code entries subject room g.steps s led.next_ t led.goes led.more counted), c.requires.0)
 
 pub leap-requires-clause-within : goal.leap-requires-clause-within
 leap-requires-clause-within g c =
@@ -54,15 +54,14 @@ leap-requires-clause-within g c =
     let subject = subject_of c.args.program.now.record in
     let room = c.args.self.now.room in
     let s = shown c.run.self in
-    let t = shown c.step.new.self in
-    let op = c.in-Some.op.now in
-    let there : slice_get code s.at_ ≡ Some op = sym c.in-Some.ensures.op in
-    let told = subst (λ (n : Next). Tells n (does entries subject op s) s t) c.in-Searches.is c.in_ok-step.ensures.step in
-    let goes : step entries subject code s ≡ Goes t = at-op code entries subject room s op there ∙ told in
+    let t = shown c.advance.new.self in
+    let counted = c.run.invariant.counted in
+    let told = subst (λ (n : Next). Advances code entries subject c.run.self.room n s t) c.in-Searches.is c.in_ok-advance.ensures.advance in
+    let led = subst (λ room. Leads code entries subject room s t) c.run.invariant.roomy.room_is told in
     omega (
       arith,
-      fits-here code entries subject room g.steps t (counted-there code entries subject room g.steps s t t goes (no-more code entries subject room t) c.run.invariant.counted),
-      c.step.ensures.roomy.room_is,
+      fits-here code entries subject room g.steps t (counted-there code entries subject room g.steps s led.next_ t led.goes led.more counted),
+      c.advance.ensures.roomy.room_is,
       c.run.invariant.roomy.room_is,
     )
 
@@ -73,11 +72,10 @@ returns-in-Halts-clause-ran g c r from =
     let subject = subject_of c.args.program.now.record in
     let room = c.args.self.now.room in
     let s = shown c.run.self in
-    let t = shown c.step.new.self in
-    let op = c.in-Some.op.now in
-    let there : slice_get code s.at_ ≡ Some op = sym c.in-Some.ensures.op in
-    let told = subst (λ (n : Next). Tells n (does entries subject op s) s t) c.in-Halts.is c.in_ok-step.ensures.step in
-    told.1 ∙ halted code entries subject room s r (at-op code entries subject room s op there ∙ told.0) (c.run.invariant.halts r from)
+    let t = shown c.advance.new.self in
+    let counted = c.run.invariant.counted in
+    let led = subst (λ (n : Next). Advances code entries subject c.run.self.room n s t) c.in-Halts.is c.in_ok-advance.ensures.advance in
+    led.1 ∙ halted code entries subject room s r led.0 (c.run.invariant.halts r from)
 
 pub run-smaller-in-Goes : goal.run-smaller-in-Goes
 run-smaller-in-Goes g c =
@@ -86,12 +84,11 @@ run-smaller-in-Goes g c =
     let subject = subject_of c.args.program.now.record in
     let room = c.args.self.now.room in
     let s = shown c.run.self in
-    let t = shown c.step.new.self in
-    let op = c.in-Some.op.now in
-    let there : slice_get code s.at_ ≡ Some op = sym c.in-Some.ensures.op in
-    let told = subst (λ (n : Next). Tells n (does entries subject op s) s t) c.in-Goes.is c.in_ok-step.ensures.step in
-    let goes : step entries subject code s ≡ Goes t = at-op code entries subject room s op there ∙ told in
-    fewer-left code entries subject room g.steps s t t goes (no-more code entries subject room t) c.run.invariant.counted
+    let t = shown c.advance.new.self in
+    let counted = c.run.invariant.counted in
+    let told = subst (λ (n : Next). Advances code entries subject c.run.self.room n s t) c.in-Goes.is c.in_ok-advance.ensures.advance in
+    let led = subst (λ room. Leads code entries subject room s t) c.run.invariant.roomy.room_is told in
+    fewer-left code entries subject room g.steps s led.next_ t led.goes led.more counted
 
 pub run-preserved-in-Goes : goal.run-preserved-in-Goes
 run-preserved-in-Goes g c =
@@ -100,18 +97,16 @@ run-preserved-in-Goes g c =
     let subject = subject_of c.args.program.now.record in
     let room = c.args.self.now.room in
     let s = shown c.run.self in
-    let t = shown c.step.new.self in
-    let op = c.in-Some.op.now in
-    let there : slice_get code s.at_ ≡ Some op = sym c.in-Some.ensures.op in
-    let told = subst (λ (n : Next). Tells n (does entries subject op s) s t) c.in-Goes.is c.in_ok-step.ensures.step in
-    let goes : step entries subject code s ≡ Goes t = at-op code entries subject room s op there ∙ told in
-    let more = (no-more code entries subject room t) in
+    let t = shown c.advance.new.self in
+    let counted = c.run.invariant.counted in
+    let told = subst (λ (n : Next). Advances code entries subject c.run.self.room n s t) c.in-Goes.is c.in_ok-advance.ensures.advance in
+    let led = subst (λ room. Leads code entries subject room s t) c.run.invariant.roomy.room_is told in
     record {
-      placed = c.in_ok-step.ensures.placed;
-      counted = counted-there code entries subject room g.steps s t t goes more c.run.invariant.counted;
-      halts = λ r from. moved-there code entries subject room g.steps s t t goes more c.run.invariant.counted r (c.run.invariant.halts r from);
-      held = c.in_ok-step.ensures.held;
-      roomy = subst (λ room. Roomy room c.step.new.self) c.run.invariant.roomy.room_is c.step.ensures.roomy;
+      placed = c.in_ok-advance.ensures.placed;
+      counted = counted-there code entries subject room g.steps s led.next_ t led.goes led.more counted;
+      halts = λ r from. moved-there code entries subject room g.steps s led.next_ t led.goes led.more counted r (c.run.invariant.halts r from);
+      held = c.in_ok-advance.ensures.held;
+      roomy = subst (λ room. Roomy room c.advance.new.self) c.run.invariant.roomy.room_is c.advance.ensures.roomy;
     }
 
 pub run-smaller : goal.run-smaller
@@ -121,12 +116,14 @@ run-smaller g c =
     let subject = subject_of c.args.program.now.record in
     let room = c.args.self.now.room in
     let s = shown c.run.self in
-    let t = shown c.step.new.self in
-    let op = c.in-Some.op.now in
-    let there : slice_get code s.at_ ≡ Some op = sym c.in-Some.ensures.op in
-    let told = subst (λ (n : Next). Tells n (does entries subject op s) s t) c.in-Searches.is c.in_ok-step.ensures.step in
-    let goes : step entries subject code s ≡ Goes t = at-op code entries subject room s op there ∙ told in
-    fewer-left code entries subject room g.steps s t (shown c.leap.new.self) goes (subst (λ room. Reaches code entries subject room t (shown c.leap.new.self)) (c.step.ensures.roomy.room_is ∙ c.run.invariant.roomy.room_is) c.leap.ensures.leap) c.run.invariant.counted
+    let t = shown c.advance.new.self in
+    let counted = c.run.invariant.counted in
+    let told = subst (λ (n : Next). Advances code entries subject c.run.self.room n s t) c.in-Searches.is c.in_ok-advance.ensures.advance in
+    let led = subst (λ room. Leads code entries subject room s t) c.run.invariant.roomy.room_is told in
+    let u = shown c.leap.new.self in
+    let leapt = subst (λ room. Reaches code entries subject room t u) (c.advance.ensures.roomy.room_is ∙ c.run.invariant.roomy.room_is) c.leap.ensures.leap in
+    let more = reaches-on code entries subject room led.next_ t u led.more leapt in
+    fewer-left code entries subject room g.steps s led.next_ u led.goes more counted
 
 pub run-preserved : goal.run-preserved
 run-preserved g c =
@@ -135,18 +132,19 @@ run-preserved g c =
     let subject = subject_of c.args.program.now.record in
     let room = c.args.self.now.room in
     let s = shown c.run.self in
-    let t = shown c.step.new.self in
-    let op = c.in-Some.op.now in
-    let there : slice_get code s.at_ ≡ Some op = sym c.in-Some.ensures.op in
-    let told = subst (λ (n : Next). Tells n (does entries subject op s) s t) c.in-Searches.is c.in_ok-step.ensures.step in
-    let goes : step entries subject code s ≡ Goes t = at-op code entries subject room s op there ∙ told in
-    let more = (subst (λ room. Reaches code entries subject room t (shown c.leap.new.self)) (c.step.ensures.roomy.room_is ∙ c.run.invariant.roomy.room_is) c.leap.ensures.leap) in
+    let t = shown c.advance.new.self in
+    let counted = c.run.invariant.counted in
+    let told = subst (λ (n : Next). Advances code entries subject c.run.self.room n s t) c.in-Searches.is c.in_ok-advance.ensures.advance in
+    let led = subst (λ room. Leads code entries subject room s t) c.run.invariant.roomy.room_is told in
+    let u = shown c.leap.new.self in
+    let leapt = subst (λ room. Reaches code entries subject room t u) (c.advance.ensures.roomy.room_is ∙ c.run.invariant.roomy.room_is) c.leap.ensures.leap in
+    let more = reaches-on code entries subject room led.next_ t u led.more leapt in
     record {
       placed = c.leap.ensures.placed;
-      counted = counted-there code entries subject room g.steps s t (shown c.leap.new.self) goes more c.run.invariant.counted;
-      halts = λ r from. moved-there code entries subject room g.steps s t (shown c.leap.new.self) goes more c.run.invariant.counted r (c.run.invariant.halts r from);
+      counted = counted-there code entries subject room g.steps s led.next_ u led.goes more counted;
+      halts = λ r from. moved-there code entries subject room g.steps s led.next_ u led.goes more counted r (c.run.invariant.halts r from);
       held = c.leap.ensures.held;
-      roomy = subst (λ room. Roomy room c.leap.new.self) (c.step.ensures.roomy.room_is ∙ c.run.invariant.roomy.room_is) c.leap.ensures.roomy;
+      roomy = subst (λ room. Roomy room c.leap.new.self) (c.advance.ensures.roomy.room_is ∙ c.run.invariant.roomy.room_is) c.leap.ensures.roomy;
     }
 
 pub unreachable-requires : goal.unreachable-requires
