@@ -6,6 +6,7 @@ use Rattle.pads_calc.specs.declared.reading.Reading.{Reading}
 use Rattle.pads_calc.specs.declared.term.Arm.{Arm}
 use Rattle.pads_calc.specs.Calculus.{Caller, read, arm_reader}
 use Rattle.pads_calc.specs.Choices.{branch_of, alt_from}
+use Rattle.pads_calc.specs.Leaves.{unit_of}
 use Rattle.pads_calc.specs.Readings.{Subject, fails, is_ok}
 use Rattle.pads_calc.proofs.Cases.{pick}
 use Rattle.pads_calc.proofs.Induction.{EachArm}
@@ -15,7 +16,7 @@ use Rattle.pads_image.specs.declared.op.Op.TheVariants as op
 use Rattle.pads_image.specs.Blocks.{Block, arms_code, arms_size, alt_block, layout}
 use Rattle.pads_image.specs.Heights.{Deeper}
 use Rattle.pads_image.specs.States.{State, entries, seen}
-use Rattle.pads_image.specs.Steps.{Goes, back_to, mark_at}
+use Rattle.pads_image.specs.Steps.{Goes, mark_at}
 use Rattle.law_images.proofs.LevelledTerms.{levelled, arms-levelled}
 use Rattle.pads_image.proofs.Lengths.{arms-sized, sized}
 use Rattle.law_images.proofs.Levels.{below-left, below-right, tries-level}
@@ -59,7 +60,7 @@ module _ (code : List Op) (of_entries : List Entry) (subject : Subject) (most : 
         let r1 = read subject call arm.term (seen s) place in
         let t = trying s q r in
         let u = trying s q1 r1 in
-        let v = trying s (q1 + 1) (back_to place r1) in
+        let v = trying s (q1 + 1) (unit_of subject.origin place) in
         let found = branch_of subject.origin number r1 place in
         let later = alt_from subject.origin (number + 1) (map (arm_reader subject call) arms) (seen s) place in
         let sized_ : q + length (b.code q) ≡ q1 = ap (λ n. q + n) (sized arm.term q) in
@@ -86,7 +87,7 @@ module _ (code : List Op) (of_entries : List Entry) (subject : Subject) (most : 
         (λ ok. tried (behind s end found) (ap (λ (clean : Bool). if clean then Goes (behind s end found) else Goes v) ok))
         (λ bad. join code of_entries subject most t v (behind s end later)
         (tried v (ap (λ (clean : Bool). if clean then Goes (behind s end found) else Goes v) bad))
-        (tries-run arms (λ k arm there. each (suc k) arm there) (number + 1) (q1 + 1) below h s (back_to place r1) refl (omega (arith, ends)) fits (record {
+        (tries-run arms (λ k arm there. each (suc k) arm there) (number + 1) (q1 + 1) below h s (unit_of subject.origin place) refl (omega (arith, ends)) fits (record {
           at_ = refl;
           deep = ready.deep;
           sane = ready.sane;

@@ -5,11 +5,13 @@ pub mod ArrayEndings
 pub mod ArrayRuns
 pub mod ArrayStates
 pub mod ArrayTurns
+pub mod Begun
 pub mod Closed
 pub mod Declared
 pub mod Halting
 pub mod LevelledTerms
 pub mod Levels
+pub mod Missed
 pub mod Places
 pub mod Reaching
 pub mod ReadArrays

@@ -1,4 +1,5 @@
--- Rows computed on the definitions: how many instructions two structs have as code, and what they need.
+-- Rows computed on the definitions: how many instructions two structs have as code, what they need, and with which literal code
+-- begins.
 use Rattle.std.proofs.Common.{◌≡◌, refl, true, List, [], ◌∷◌, length, Some, None}
 use Rattle.pads_dispatch.specs.declared.base.Base.{Base}
 use Rattle.pads_erase.specs.declared.skeleton.Skeleton.TheVariants as skeleton
@@ -6,6 +7,7 @@ use Rattle.pads_calc.specs.declared.decl.Shape.{Shape}
 use Rattle.pads_image.specs.declared.entry.Entry.{Entry}
 use Rattle.pads_image.specs.declared.op.Op.{Op}
 use Rattle.pads_image.specs.declared.op.Op.TheVariants as op
+use Rattle.pads_image.specs.Beginnings.{begins_with}
 use Rattle.pads_image.specs.Heights.{needs, needs_from, stack_need}
 
 abbrev shape : Shape
@@ -23,6 +25,9 @@ module _ (first second : Base) where
   r-length : length r_code ≡ 7
   r-length = refl
 
+  r-begins : begins_with r_code ≡ None
+  r-begins = refl
+
   r-needs : stack_need r_code one_entry shape ≡ 3
   unfolding needs needs_from
   r-needs = refl
@@ -39,3 +44,12 @@ module _ (first second : Base) where
   pt-needs : stack_need pt_code one_entry shape ≡ 3
   unfolding needs needs_from
   pt-needs = refl
+
+-- `Pstruct c { '('; Pchar x; };`, of any base type
+module _ (only : Base) where
+  abbrev c_code : List Op
+  c_code =
+      op.Open ∷ op.ScanFrom ∷ op.Lit (40 ∷ []) ∷ op.Absorb ∷ op.ScanOn 2 ∷ op.Part None ∷ op.Base only [] ∷ op.Part (Some 1) ∷ op.Close 1 ∷ op.Return ∷ []
+
+  c-begins : begins_with c_code ≡ Some (40 ∷ [])
+  c-begins = refl

@@ -1,4 +1,5 @@
 pub mod Answers
+pub mod Beginnings
 pub mod Blocks
 pub mod Bounds
 pub mod Code

@@ -80,11 +80,12 @@ mark_at place = record { place = place; cause = None }
 abbrev pub marked : State → Step
 marked s = Goes (record s { at_ = s.at_ + 1; marks = mark_at s.last.place ∷ s.marks })
 
+-- of a branch that isn't clean nothing is kept: the next one is tried at the mark's place
 abbrev pub try_step : ℕ → ℕ → ℕ → State → List Mark → Step
 try_step origin number to s [] = Stuck
 try_step origin number to s (m ∷ marks) =
     if is_ok s.last then Goes (record s { at_ = to; last = branch_of origin number s.last m.place; marks = marks })
-    else reads (back_to m.place s.last) s
+    else reads (unit_of origin m.place) s
 
 abbrev pub none_step : ℕ → State → List Mark → Step
 none_step origin s [] = Stuck

@@ -24,7 +24,7 @@ module _ (code : List Op) (of_entries : List Entry) (subject : Subject) (most : 
     fits : entries there ≤ most
     halts : With there r
 
-  fits-first : (n : ℕ) (t end : State) → Runs code of_entries subject most n t end → entries end ≤ most → entries t ≤ most
+  pub fits-first : (n : ℕ) (t end : State) → Runs code of_entries subject most n t end → entries end ≤ most → entries t ≤ most
   fits-first zero t end run within = subst (λ (x : State). entries x ≤ most) (sym run) within
   fits-first (suc n) t end run within = run.0
 
@@ -76,7 +76,7 @@ module _ (code : List Op) (of_entries : List Entry) (subject : Subject) (most : 
   halts-with n s r h = record { end = h.end; reached = record { steps = n; run = h.run }; within = h.within; halts = h.halts; last = h.last }
 
   -- one step less behind a step
-  next-in : (n : ℕ) (s t : State) (r : Reading) → ahead_of s ≡ Goes t → HaltsIn n s r → (k : ℕ) × (n ≡ suc k) × HaltsIn k t r
+  pub next-in : (n : ℕ) (s t : State) (r : Reading) → ahead_of s ≡ Goes t → HaltsIn n s r → (k : ℕ) × (n ≡ suc k) × HaltsIn k t r
   next-in zero s t r goes h = let no = sym goes ∙ subst (λ (x : State). ahead_of x ≡ Halts) (sym h.run) h.halts in absurd cc
   next-in (suc n) s t r goes h =
       let both = sym h.run.2 ∙ goes in
@@ -84,7 +84,7 @@ module _ (code : List Op) (of_entries : List Entry) (subject : Subject) (most : 
       (n, refl, record { end = h.end; run = subst (λ (t : State). Runs code of_entries subject most n t h.end) same h.run.3; within = h.within; halts = h.halts; last = h.last })
 
   -- and behind several
-  along-in : (j n : ℕ) (s u : State) (r : Reading) → Runs code of_entries subject most j s u → HaltsIn n s r → (k : ℕ) × (k ≤ n) × HaltsIn k u r
+  pub along-in : (j n : ℕ) (s u : State) (r : Reading) → Runs code of_entries subject most j s u → HaltsIn n s r → (k : ℕ) × (k ≤ n) × HaltsIn k u r
   along-in zero n s u r run h = (n, omega arith, subst (λ (s : State). HaltsIn n s r) run h)
   along-in (suc j) n s u r run h =
       let one = next-in n s run.1 r run.2 h in

@@ -1,5 +1,6 @@
 pub mod Answered
 pub mod Bound
+pub mod Branches
 pub mod Endings
 pub mod Halts
 pub mod Homes

@@ -1,3 +1,5 @@
 pub mod Held
+pub mod Missing
 pub mod Ran
+pub mod Searched
 pub mod Shown

@@ -91,7 +91,7 @@ impl State {
     {
         let mark = self.mark();
         if !self.last.is_ok() {
-            self.last.place = mark.place;
+            self.last = Reading::leaf(alloc, from.origin, Val::Unit, mark.place, mark.place);
             self.address += 1;
             return Ok(());
         }

@@ -5,9 +5,11 @@ mod arrays;
 mod bindings;
 mod choices;
 mod machine;
+mod misses;
 mod node;
 mod passes;
 mod scans;
+mod searches;
 mod state;
 mod step;
 #[cfg(test)]

@@ -1,11 +1,13 @@
 //! Instructions that are done at once: those of a literal among the parts of a struct where it stands, and a
 //! base type with what keeps it as a part.
-ghost use Rattle.std.specs.Prelude.{◌≡◌, ◌+◌, ◌<◌, ◌≤◌, ◌^◌, true, None, Some, IfOk, IfSome, IsTrue, OnOk, length, slice_get};
+ghost use Rattle.std.specs.Prelude.{◌≡◌, ℕ, List, ◌+◌, ◌<◌, ◌≤◌, ◌^◌, true, None, Some, IfOk, IfSome, IsTrue, OnOk, length, slice_get};
+ghost use Rattle.pads_calc.specs.declared.decl.Decl.{Decl};
 ghost use Rattle.pads_dispatch.specs.Labels.{labels_fit};
+ghost use Rattle.pads_image.specs.Code.{IsCodeOf};
 ghost use Rattle.pads_image.specs.declared.op.Op.TheVariants as instruction;
 ghost use Rattle.pads_image.specs.Steps.{does};
 ghost use Rattle.pads_machine.specs.Held.{Held, Placed, Roomy};
-ghost use Rattle.pads_machine.specs.Ran.{Advances, GoesWithin, IsLiteralPart, StandsAsPart, labels_stand};
+ghost use Rattle.pads_machine.specs.Ran.{Advances, GoesWithin, Halting, IsLiteralPart, StandsAsPart, labels_stand};
 ghost use Rattle.pads_machine.specs.Shown.{shown};
 ghost use Rattle.pads_steps.specs.Records.{subject_of};
 
@@ -199,6 +201,8 @@ impl State {
         requires within { GoesWithin self.old.room (does program.now.entries.now (subject_of program.now.record) op.now (shown self.old)) }
         requires roomy { Roomy self.old.room self.old }
         requires held { Held self.old }
+        requires code { (decls : List Decl) × IsCodeOf decls program.now.code.now program.now.entries.now }
+        requires halts { (steps : ℕ) × Halting program.now.code.now program.now.entries.now (subject_of program.now.record) self.old.room steps (shown self.old) }
         ensures advance { IfOk result (λ next. Advances program.now.code.now program.now.entries.now (subject_of program.now.record) self.old.room next (shown self.old) (shown self.new)) }
         ensures placed { OnOk result (Placed (length program.now.record.bytes.now) self.new) }
         ensures held { OnOk result (Held self.new) }
@@ -213,6 +217,13 @@ impl State {
                 Some(name) => self.pass_base(alloc, program, base, args.as_slice(), name),
                 None => self.one(alloc, program, op),
             },
+            Op::Call(number, _) => {
+                if self.is_hopeless(alloc, program, *number) {
+                    self.pass_branch(alloc, program, *number);
+                    return Ok(Next::Goes);
+                }
+                self.one(alloc, program, op)
+            }
             _ => self.one(alloc, program, op),
         }
     }

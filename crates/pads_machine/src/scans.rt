@@ -6,11 +6,12 @@ ghost use Rattle.pads_image.specs.States.{entries};
 ghost use Rattle.pads_image.specs.Steps.{cause_or, scan_step};
 ghost use Rattle.pads_machine.specs.Held.{Held, Placed, Roomy};
 ghost use Rattle.pads_machine.specs.Ran.{GoesWithin, IsSearch, Tells};
+ghost use Rattle.pads_machine.specs.Searched.{Remembered};
 ghost use Rattle.pads_machine.specs.Shown.{IsSearching, shown};
 ghost use Rattle.pads_steps.specs.Records.{subject_of};
-ghost use Rattle.pads_steps.specs.Searches.{StandsNowhere};
 
 use crate::node::Mark;
+use crate::searches::Past;
 use crate::state::State;
 use crate::step::{Next, Program, at};
 use pads_calc::Reading;
@@ -66,21 +67,6 @@ fn kept(cause: Option<Cause>, found: Cause) -> Cause
     }
 }
 
-/// The first place from here on at which a literal stands, or else the last place of the search.
-fn next_place(from: &Record, literal: &[u8], place: u64, last: u64) -> u64
-    requires { last ≤ length from.now.bytes.now }
-    ensures high { result ≤ last }
-    ensures before { StandsNowhere from.now.bytes.now literal.now place result }
-{
-    if last <= place {
-        return last;
-    }
-    match from.first_place(literal, place, last) {
-        Some(at) => at,
-        None => last,
-    }
-}
-
 impl State {
     /// Ends a search that found something, or that came to its last place; else it goes on one byte behind
     /// where the last reading began.
@@ -131,14 +117,16 @@ impl State {
 
     /// Where a literal is searched for: goes to the first place from here on at which it stands, or to the
     /// last one of the search, over the steps that would find at each place before that it isn't there.
-    pub(crate) fn leap(&mut self, alloc: Global, program: &Program)
+    pub(crate) fn leap(&mut self, alloc: Global, program: &Program, past: &mut Past)
         requires address { self.old.address < 2 ^ 32 }
         requires placed { Placed (length program.now.record.bytes.now) self.old }
         requires within { entries (shown self.old) ≤ self.old.room }
+        requires remembered { Remembered program.now.code.now program.now.record.bytes.now past.old }
         requires roomy { Roomy self.old.room self.old }
         requires held { Held self.old }
         ensures leap { Reaches program.now.code.now program.now.entries.now (subject_of program.now.record) self.old.room (shown self.old) (shown self.new) }
         ensures placed { Placed (length program.now.record.bytes.now) self.new }
+        ensures remembered { Remembered program.now.code.now program.now.record.bytes.now past.new }
         ensures held { Held self.new }
         ensures roomy { Roomy self.old.room self.new }
     {
@@ -150,7 +138,7 @@ impl State {
         }
         let record = &program.record;
         let last = record.last_place(self.mark().place);
-        let next = next_place(record, literal, self.last.place, last);
+        let next = past.next_place(program, literal, self.address, self.last.place, last);
         if self.last.place < next {
             self.last = Reading::fails(alloc, record.origin, Cause::MissingLiteral, next - 1);
             self.last.place = next;

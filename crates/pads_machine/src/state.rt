@@ -75,7 +75,7 @@ impl State {
     }
 
     /// How many bindings are below those of the latest call.
-    fn base(&self) -> usize
+    pub(crate) fn base(&self) -> usize
         ensures base { result ≡ base_of (shown self.now).callers }
     {
         match self.callers.as_slice() {

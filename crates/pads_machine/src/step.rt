@@ -1,7 +1,8 @@
 //! Instructions, one after another.
-ghost use Rattle.std.specs.Prelude.{◌≡◌, ℕ, ◌<◌, ◌≤◌, ◌^◌, true, [], length, slice_get, IfOk, OnOk};
+ghost use Rattle.std.specs.Prelude.{◌≡◌, ℕ, ◌<◌, ◌≤◌, ◌^◌, true, List, [], length, slice_get, IfOk, OnOk};
 ghost use Rattle.std.specs.Option.{option_copied};
 ghost use Rattle.std.specs.List.{list_all};
+ghost use Rattle.pads_calc.specs.declared.decl.Decl.{Decl};
 ghost use Rattle.pads_calc.specs.declared.reading.Reading.{Reading};
 ghost use Rattle.pads_steps.specs.Records.{subject_of};
 ghost use Rattle.pads_image.specs.Answers.{HaltsWith};
@@ -12,12 +13,14 @@ ghost use Rattle.pads_calc.specs.Wrappers.{absorb_of, guard_of};
 ghost use Rattle.pads_dispatch.specs.Labels.{labels_fit};
 ghost use Rattle.pads_expr.specs.Value.{value};
 ghost use Rattle.pads_expr.specs.Worth.{worth_or_none};
+ghost use Rattle.pads_image.specs.Code.{IsCodeOf};
 ghost use Rattle.pads_image.specs.States.{seen};
 ghost use Rattle.pads_image.specs.Steps.{Goes, call_step, does, reads, return_step};
 ghost use Rattle.pads_machine.specs.Held.{Held, Placed, Roomy};
 ghost use Rattle.pads_machine.specs.Ran.{GoesWithin, Halting, StaysPlaced, Tells, is_leaf, is_of_array, labels_stand};
 ghost use Rattle.pads_machine.specs.Shown.{shown};
 
+use crate::searches::Past;
 use crate::state::State;
 use pads_calc::{Base, ComputedForm, Reading};
 use pads_expr::Expr;
@@ -313,14 +316,16 @@ impl State {
         requires halts { Halting program.now.code.now program.now.entries.now (subject_of program.now.record) self.old.room steps (shown self.old) }
         requires roomy { Roomy self.old.room self.old }
         requires held { Held self.old }
+        requires code { (decls : List Decl) × IsCodeOf decls program.now.code.now program.now.entries.now }
         ensures ran { OnOk result ((r : Reading) → HaltsWith program.now.code.now program.now.entries.now (subject_of program.now.record) self.old.room (shown self.old) r → self.new.last ≡ r) }
         ensures place { OnOk result (self.new.last.place ≤ length program.now.record.bytes.now) }
         ensures roomy { Roomy self.old.room self.new }
     {
+        let mut past = Past::new(alloc);
         'run: while let Some(op) = at(program.code, self.address) {
             match self.advance(alloc, program, op)? {
                 Next::Goes => {}
-                Next::Searches => self.leap(alloc, program),
+                Next::Searches => self.leap(alloc, program, &mut past),
                 Next::Halts => return Ok(()),
             }
         }

@@ -7,6 +7,7 @@ use Rattle.pads_image.specs.declared.entry.Entry.{Entry}
 use Rattle.pads_image.specs.declared.op.Op.{Op}
 use Rattle.pads_image.specs.Answers.{first_of, start}
 use Rattle.pads_image.specs.Heights.{inside}
+use Rattle.law_images.proofs.ToldDecls.{decls-of}
 use Rattle.pads_machine.specs.Ran.{labels_stand}
 use Rattle.pads_machine.specs.Shown.{shown}
 use Rattle.pads_machine.proofs.Answered.{code-short, labels-there}
@@ -28,7 +29,8 @@ run-requires g c =
     let less : image.need ≤ state.room = omega (arith, c.requires.0, c.start.ensures.roomy.room_is) in
     let halts =
     halting-there image.code c.as_slice-2.result.now image.entries c.as_slice-3.result.now subject image.need state.room g.steps (start image.entries subject number) (shown state)
-    c.as_slice-2.ensures.items c.as_slice-3.ensures.items starts less c.requires.1.1 in (
+    c.as_slice-2.ensures.items c.as_slice-3.ensures.items starts less c.requires.1.1 in
+    let declared = decls-of image.code image.entries image.shape image.valid in (
       omega (arith, code-short image.code image.entries image.shape image.valid, ap length c.as_slice-2.ensures.items),
       (
         ap (λ (code : List Op). list_all labels_stand code) c.as_slice-2.ensures.items ∙ labels-there image.code image.entries image.shape image.valid,
@@ -38,7 +40,10 @@ run-requires g c =
             halts,
             (
               own-room c.args.state.now.room state c.start.ensures.roomy,
-              c.start.ensures.held,
+              (
+                c.start.ensures.held,
+                (declared.0, record { code_is = c.as_slice-2.ensures.items ∙ declared.1.code_is; entries_are = c.as_slice-3.ensures.items ∙ declared.1.entries_are }),
+              ),
             ),
           ),
         ),

@@ -5,7 +5,7 @@ use Rattle.law_images.proofs.ReadBack.{all-there}
 use Rattle.pads_steps.specs.Records.{subject_of}
 use Rattle.pads_machine.specs.declared.step.Next.{Next}
 use Rattle.pads_machine.specs.Held.{Roomy}
-use Rattle.pads_machine.specs.Ran.{Advances, GoesWithin, Leads, labels_stand}
+use Rattle.pads_machine.specs.Ran.{Advances, GoesWithin, Halting, Leads, labels_stand}
 use Rattle.pads_machine.specs.Shown.{shown}
 use Rattle.pads_machine.proofs.Halts.{address-there, at-op, counted-there, fewer-left, fits-here, goes-within, halted, moved-there, never-past, some-below}
 use Rattle.pads_machine.proofs.Passing.{reaches-on}
@@ -33,6 +33,15 @@ advance-requires-clause-within g c =
     let counted = c.run.invariant.counted in
     subst (λ room. GoesWithin room (does entries subject op s)) (sym c.run.invariant.roomy.room_is)
     (subst (λ (x : Step). GoesWithin room x) (at-op code entries subject room s op there) (goes-within code entries subject room s counted.0 counted.1))
+
+pub advance-requires-clause-halts : goal.advance-requires-clause-halts
+advance-requires-clause-halts g c =
+    let code = c.args.program.now.code.now in
+    let entries = c.args.program.now.entries.now in
+    let subject = subject_of c.args.program.now.record in (
+      g.steps,
+      subst (λ room. Halting code entries subject room g.steps (shown c.run.self)) (sym c.run.invariant.roomy.room_is) c.run.invariant.counted,
+    )
 
 pub leap-requires-clause-address : goal.leap-requires-clause-address
 leap-requires-clause-address g c =
@@ -107,6 +116,7 @@ run-preserved-in-Goes g c =
       halts = λ r from. moved-there code entries subject room g.steps s led.next_ t led.goes led.more counted r (c.run.invariant.halts r from);
       held = c.in_ok-advance.ensures.held;
       roomy = subst (λ room. Roomy room c.advance.new.self) c.run.invariant.roomy.room_is c.advance.ensures.roomy;
+      remembered = c.run.invariant.remembered;
     }
 
 pub run-smaller : goal.run-smaller
@@ -145,6 +155,7 @@ run-preserved g c =
       halts = λ r from. moved-there code entries subject room g.steps s led.next_ u led.goes more counted r (c.run.invariant.halts r from);
       held = c.leap.ensures.held;
       roomy = subst (λ room. Roomy room c.leap.new.self) (c.advance.ensures.roomy.room_is ∙ c.run.invariant.roomy.room_is) c.leap.ensures.roomy;
+      remembered = c.leap.ensures.remembered;
     }
 
 pub unreachable-requires : goal.unreachable-requires

@@ -4,6 +4,7 @@ use Rattle.pads_image.specs.Answers.{HaltsWith}
 use Rattle.pads_steps.specs.Records.{subject_of}
 use Rattle.pads_machine.specs.Held.{Held, Placed, Roomy}
 use Rattle.pads_machine.specs.Ran.{Halting}
+use Rattle.pads_machine.specs.Searched.{Remembered}
 use Rattle.pads_machine.specs.Shown.{shown}
 use Rattle.pads_machine.proofs.Halts.{steps_left}
 use Rattle.pads_machine.proofs.state.State.run.Given as goal
@@ -16,6 +17,7 @@ invariant-run g l = record {
       → HaltsWith l.program.code.now l.program.entries.now (subject_of l.program.record) l.initial.self.room (shown l.self) r;
   held : Held l.self;
   roomy : Roomy l.initial.self.room l.self;
+  remembered : Remembered l.program.code.now l.program.record.bytes.now l.past;
 }
 
 abbrev pub decreases-run : goal.decreases-run
