@@ -278,6 +278,7 @@ impl State {
             unreachable!()
         };
         let Node {
+            opened: _,
             begin,
             base: _,
             size: _,

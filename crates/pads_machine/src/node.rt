@@ -6,6 +6,8 @@ use pads_value::{Cause, Memory, Pd, Val};
 /// A struct or an array that is open.
 #[derive(Drop)]
 pub(crate) struct Node {
+    /// The address of the instruction that began it.
+    pub(crate) opened: usize,
     /// The place where it begins.
     pub(crate) begin: u64,
     /// How many bindings are below its own.

@@ -35,11 +35,24 @@ pub(crate) struct State {
     pub(crate) nodes: Vec<Node>,
     pub(crate) marks: Vec<Mark>,
     pub(crate) callers: Vec<Caller>,
+    /// For each address how many parts the struct had that began there, as far as one was closed: room for
+    /// so many is made at once. It changes nothing that is read.
+    pub(crate) parts: Vec<u16>,
+}
+
+/// An empty list, with room for so many items where there is memory for that.
+fn with_room<T: Drop>(alloc: Global, room: usize) -> Vec<T>
+    ensures empty { result.items ≡ [] }
+{
+    match Vec::with_capacity(alloc, room) {
+        Ok(list) => list,
+        Err(_) => Vec::new(alloc),
+    }
 }
 
 impl State {
-    /// Nothing was read yet. Each stack takes so many entries.
-    pub(crate) fn new(alloc: Global, room: usize) -> Result<State, Memory>
+    /// Nothing was read yet, by code of so many instructions. Each stack takes so many entries.
+    pub(crate) fn new(alloc: Global, instructions: usize, room: usize) -> Result<State, Memory>
         ensures roomy { IfOk result (λ m. Roomy room m) }
     {
         Ok(State {
@@ -52,6 +65,7 @@ impl State {
             nodes: Vec::with_capacity(alloc, room)?,
             marks: Vec::with_capacity(alloc, room)?,
             callers: Vec::with_capacity(alloc, room)?,
+            parts: Vec::from_elem(alloc, 0, instructions)?,
         })
     }
 
@@ -126,6 +140,23 @@ impl State {
         )
     }
 
+    /// How many parts the struct had that was begun at an address, as far as one was closed.
+    fn parts_at(&self, address: usize) -> usize {
+        match self.parts.get(address) {
+            Some(parts) => usize::from(*parts),
+            None => 0,
+        }
+    }
+
+    /// Keeps how many parts a struct had that was begun at an address.
+    fn learn(&mut self, address: usize, parts: usize)
+        ensures same { self.new ≡ record self.old { parts = self.new.parts } }
+    {
+        if let Some(known) = self.parts.get_mut(address) {
+            *known = parts.min(65_535) as u16;
+        }
+    }
+
     /// Begins a struct, or an array that is to have so many elements.
     pub(crate) fn open(&mut self, alloc: Global, size: Option<u128>)
         requires address { self.old.address < 2 ^ 32 }
@@ -139,12 +170,14 @@ impl State {
         ensures held { Held self.new }
         ensures roomy { Roomy self.old.room self.new }
     {
+        let room = self.parts_at(self.address);
         self.nodes.push_reserved(Node {
+            opened: self.address,
             begin: self.last.place,
             base: self.bindings.len(),
             size,
-            values: Vec::new(alloc),
-            pds: Vec::new(alloc),
+            values: with_room(alloc, room),
+            pds: with_room(alloc, room),
             own: None,
         });
         self.address += 1;
@@ -246,6 +279,7 @@ impl State {
             unreachable!()
         };
         let Node {
+            opened,
             begin,
             base,
             size: _,
@@ -254,6 +288,7 @@ impl State {
             own: _,
         } = node;
         take_back(&mut self.bindings, &mut self.homes, base, &mut values);
+        self.learn(opened, values.len());
         let value = Val::Tuple(Items::from_vec(values));
         let place = self.last.place;
         self.last = Reading::node(origin, None, value, begin, place, Items::from_vec(pds));
