@@ -1,5 +1,5 @@
 -- A branch that can't be clean: its steps lead to the next branch.
-use Rattle.std.proofs.Common.{◌≡◌, ◌∙◌, sym, ap, refl, subst, arith, ℕ, zero, suc, ◌+◌, ◌≤◌, Bool, true, false, if◌then◌else◌, List, [], ◌∷◌, drop, length, reverse, IfSome, Option, None, Some, slice_get}
+use Rattle.std.proofs.Common.{◌≡◌, ◌∙◌, sym, ap, refl, subst, arith, ℕ, zero, suc, ◌+◌, ◌≤◌, Bool, false, if◌then◌else◌, List, [], ◌∷◌, drop, length, reverse, IfSome, Option, None, Some, slice_get}
 use Rattle.std.proofs.lemmas.List.{length-reverse}
 use Rattle.pads_expr.specs.declared.expr.Expr.{Expr}
 use Rattle.pads_expr.specs.Value.{Pairs}
@@ -13,10 +13,10 @@ use Rattle.pads_image.specs.declared.op.Op.{Op}
 use Rattle.pads_image.specs.declared.op.Op.TheVariants as op
 use Rattle.pads_image.specs.Answers.{HaltsWith, Reaches, Runs}
 use Rattle.pads_image.specs.Beginnings.{begins_with}
-use Rattle.pads_image.specs.Code.{IsCodeOf, code_of, entries_of}
+use Rattle.pads_image.specs.Code.{IsCodeOf, code_of}
 use Rattle.pads_image.specs.States.{Mark, State, base_of, entries, floor_of}
-use Rattle.pads_image.specs.Steps.{Goes, Step, does_there, reads, step, try_step}
-use Rattle.law_images.proofs.Missed.{Calls, Misses, misses}
+use Rattle.pads_image.specs.Steps.{Goes, does_there, reads, step, try_step}
+use Rattle.law_images.proofs.Missed.{Calls, misses}
 use Rattle.law_images.proofs.Reaching.{join}
 use Rattle.pads_machine.specs.declared.node.Node.{Node}
 use Rattle.pads_machine.specs.declared.state.State.{State as Machine}

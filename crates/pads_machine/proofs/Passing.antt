@@ -1,6 +1,6 @@
 -- Instructions that are done at once: their steps lead to the same state. These are the five of a literal
 -- that is a part of a struct and stands where it is looked for, and a base type with what keeps it as a part.
-use Rattle.std.proofs.Common.{◌≡◌, ◌∙◌, sym, ap, refl, subst, arith, ℕ, zero, suc, ◌+◌, ◌≤◌, Bool, true, false, if◌then◌else◌, nat_lt, List, ◌∷◌, length, Option, Some, None, slice_get}
+use Rattle.std.proofs.Common.{◌≡◌, ◌∙◌, sym, ap, refl, arith, ℕ, zero, suc, ◌+◌, ◌≤◌, Bool, true, false, if◌then◌else◌, nat_lt, List, ◌∷◌, length, Option, Some, None, slice_get}
 use Rattle.std.proofs.lemmas.Bool.{le-ltb}
 use Rattle.pads_value.specs.declared.cause.Cause.TheVariants as cause
 use Rattle.pads_value.specs.declared.descriptor.Pd.{out-Pd, out-roll-Pd}
@@ -16,7 +16,6 @@ use Rattle.pads_calc.proofs.Cases.{pick}
 use Rattle.pads_image.specs.declared.entry.Entry.{Entry}
 use Rattle.pads_image.specs.declared.op.Op.{Op}
 use Rattle.pads_image.specs.declared.op.Op.TheVariants as op
-use Rattle.pads_image.specs.Answers.{Reaches, Runs}
 use Rattle.pads_image.specs.States.{Mark, State, entries, seen}
 use Rattle.pads_image.specs.Steps.{Goes, Step, back_to, began, cause_or, does, does_there, is_last_place, mark_at, part_step, scan_step, step}
 use Rattle.pads_steps.specs.Searches.{stands_at}
@@ -50,15 +49,6 @@ advances-so code of_entries subject most next.Goes s t instruction there told =
 advances-so code of_entries subject most next.Searches s t instruction there told =
     record { next_ = t; goes = at-op code of_entries subject most s instruction there ∙ told; more = no-more code of_entries subject most t }
 advances-so code of_entries subject most next.Halts s t instruction there told = (at-op code of_entries subject most s instruction there ∙ told.0, told.1)
-
--- steps behind steps
-module _ (code : List Op) (of_entries : List Entry) (subject : Subject) (most : ℕ) where
-  runs-on : (n k : ℕ) (s t u : State) → Runs code of_entries subject most n s t → Runs code of_entries subject most k t u → (j : ℕ) × Runs code of_entries subject most j s u
-  runs-on zero k s t u run more = (k, subst (λ (x : State). Runs code of_entries subject most k x u) (sym run) more)
-  runs-on (suc n) k s t u run more = let rest = runs-on n k run.1 t u run.3 more in (suc rest.0, (run.0, run.1, run.2, rest.1))
-
-  pub reaches-on : (s t u : State) → Reaches code of_entries subject most s t → Reaches code of_entries subject most t u → Reaches code of_entries subject most s u
-  reaches-on s t u run more = let whole = runs-on run.steps more.steps s t u run.run more.run in record { steps = whole.0; run = whole.1 }
 
 -- a base type, and behind it what keeps it as a part
 module _ (code : List Op) (of_entries : List Entry) (subject : Subject) (most : ℕ) (s : State) (base : Base) (args : List Expr) (name : Option ℕ) where

@@ -1,4 +1,4 @@
-use Rattle.std.proofs.Common.{◌≡◌, sym, List, drop, Some}
+use Rattle.std.proofs.Common.{◌≡◌, sym, drop, Some}
 use Rattle.pads_image.specs.Beginnings.{begins_with}
 use Rattle.pads_machine.specs.Missing.{BeginsWith}
 use Rattle.pads_machine.proofs.Branches.{if-some}

@@ -1,7 +1,6 @@
-use Rattle.std.proofs.Common.{◌≡◌, ◌∙◌, sym, ap, subst, arith, ◌+◌, ◌≤◌, List, length, drop, map, reverse}
+use Rattle.std.proofs.Common.{◌≡◌, sym, subst, arith, ◌+◌, ◌≤◌, length, drop, map, reverse}
 use Rattle.std.proofs.lemmas.List.{length-reverse}
 use Rattle.pads_calc.specs.declared.reading.Reading.{Reading}
-use Rattle.pads_image.specs.States.{State}
 use Rattle.pads_steps.specs.Records.{subject_of}
 use Rattle.pads_machine.specs.Ran.{Leads}
 use Rattle.pads_machine.specs.Shown.{mark_shown, shown}

@@ -2,13 +2,13 @@ use Rattle.std.proofs.Common.{◌≡◌, ◌∙◌, sym, subst, arith, Some, Non
 use Rattle.pads_image.specs.Answers.{Reaches}
 use Rattle.pads_image.specs.Steps.{Step, does}
 use Rattle.law_images.proofs.ReadBack.{all-there}
+use Rattle.law_images.proofs.Reaching.{join}
 use Rattle.pads_steps.specs.Records.{subject_of}
 use Rattle.pads_machine.specs.declared.step.Next.{Next}
 use Rattle.pads_machine.specs.Held.{Roomy}
 use Rattle.pads_machine.specs.Ran.{Advances, GoesWithin, Halting, Leads, labels_stand}
 use Rattle.pads_machine.specs.Shown.{shown}
 use Rattle.pads_machine.proofs.Halts.{address-there, at-op, counted-there, fewer-left, fits-here, goes-within, halted, moved-there, never-past, some-below}
-use Rattle.pads_machine.proofs.Passing.{reaches-on}
 use Rattle.pads_machine.proofs.state.State.run.Goals as goal
 
 pub advance-requires-clause-labels : goal.advance-requires-clause-labels
@@ -132,7 +132,7 @@ run-smaller g c =
     let led = subst (λ room. Leads code entries subject room s t) c.run.invariant.roomy.room_is told in
     let u = shown c.leap.new.self in
     let leapt = subst (λ room. Reaches code entries subject room t u) (c.advance.ensures.roomy.room_is ∙ c.run.invariant.roomy.room_is) c.leap.ensures.leap in
-    let more = reaches-on code entries subject room led.next_ t u led.more leapt in
+    let more = join code entries subject room led.next_ t u led.more leapt in
     fewer-left code entries subject room g.steps s led.next_ u led.goes more counted
 
 pub run-preserved : goal.run-preserved
@@ -148,7 +148,7 @@ run-preserved g c =
     let led = subst (λ room. Leads code entries subject room s t) c.run.invariant.roomy.room_is told in
     let u = shown c.leap.new.self in
     let leapt = subst (λ room. Reaches code entries subject room t u) (c.advance.ensures.roomy.room_is ∙ c.run.invariant.roomy.room_is) c.leap.ensures.leap in
-    let more = reaches-on code entries subject room led.next_ t u led.more leapt in
+    let more = join code entries subject room led.next_ t u led.more leapt in
     record {
       placed = c.leap.ensures.placed;
       counted = counted-there code entries subject room g.steps s led.next_ u led.goes more counted;
