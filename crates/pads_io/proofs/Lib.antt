@@ -1,3 +1,4 @@
 -- The lemmas of this crate.
+pub mod Calls
 pub mod Partly
 pub mod Worked

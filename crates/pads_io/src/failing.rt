@@ -1,6 +1,7 @@
-ghost use Rattle.std.specs.Prelude.{◌≡◌, ◌↔◌, [], length, drop, Contains, Some, IfOk, IsOk, IsErr, IsSome, IfSome, is_err};
+ghost use Rattle.std.specs.Prelude.{◌≡◌, ◌↔◌, [], length, drop, Contains, Some, IfOk, IsOk, IsErr, IsSome, IfSome, is_err, is_none};
 ghost use Rattle.std.specs.Io.{ReadsAtMost, WritesAtMost};
 ghost use Rattle.std.specs.Io.KnownBytes.{ReadConsumes, WriteAppends};
+ghost use Rattle.pads_io.specs.Calls.{moved};
 ghost use Rattle.pads_io.specs.Faults.{HasCause};
 ghost use Rattle.pads_io.specs.Transfer.{TakesSome, GivesFrom, EndsAt};
 ghost use Rattle.pads_io.specs.InMemory.{portion, counted};
@@ -66,9 +67,12 @@ impl Source for MemSource {
 
     ghost faults = { λ s. s.schedule.faults };
 
+    ghost reads = { λ s count t. t.schedule ≡ counted s.schedule (is_none count) };
+
     fn read(&mut self, into: &mut [u8]) -> Result<usize, Failed>
         ensures within { ReadsAtMost result into.new }
         ensures bytes { ReadConsumes (Some self.old.left) (Some self.new.left) result into.new }
+        ensures call { self.new.schedule ≡ counted self.old.schedule (is_none (moved result)) }
         ensures cause { HasCause self.old.schedule.faults self.new.schedule.faults result }
 
         // It fails exactly at the listed calls, and else gives as much as the piece and the room allow.
@@ -141,10 +145,13 @@ impl Sink for MemSink {
 
     ghost faults = { λ s. s.schedule.faults };
 
+    ghost writes = { λ s count t. t.schedule ≡ counted s.schedule (is_none count) };
+
     fn write(&mut self, piece: &[u8]) -> Result<usize, Failed>
         ensures within { WritesAtMost result piece.now }
         ensures takes { TakesSome result piece.now }
         ensures bytes { WriteAppends (Some self.old.written) (Some self.new.written) result piece.now }
+        ensures call { self.new.schedule ≡ counted self.old.schedule (is_none (moved result)) }
         ensures cause { HasCause self.old.schedule.faults self.new.schedule.faults result }
 
         // It fails at the listed calls, and else only for want of memory.
@@ -205,11 +212,14 @@ impl Files for MemFiles {
 
     ghost faults = { λ s. s.schedule.faults };
 
+    ghost reads = { λ s call t. t.schedule ≡ counted s.schedule (is_none call.count) };
+
     fn read_at(&mut self, name: &str, at: u64, into: &mut [u8]) -> Result<usize, Failed>
         ensures within { ReadsAtMost result into.new }
         ensures bytes { GivesFrom (bytes_at self.old.named name.now) at result into.new }
         ensures end { EndsAt (bytes_at self.old.named name.now) at result into.new }
         ensures stays { bytes_at self.new.named ≡ bytes_at self.old.named }
+        ensures call { self.new.schedule ≡ counted self.old.schedule (is_none (moved result)) }
         ensures cause { HasCause self.old.schedule.faults self.new.schedule.faults result }
 
         // It fails exactly at the listed calls and at a name that isn't there, and else gives as much

@@ -1,4 +1,4 @@
-ghost use Rattle.std.specs.Prelude.{◌≡◌, None};
+ghost use Rattle.std.specs.Prelude.{◌≡◌, None, ⊤};
 ghost use Rattle.std.specs.Io.{ReadsAtMost, WritesAtMost};
 ghost use Rattle.std.specs.Io.KnownBytes.{ReadConsumes, WriteAppends};
 ghost use Rattle.pads_io.specs.Faults.{HasCause};
@@ -33,6 +33,8 @@ impl<R: Read + Drop> Source for RealSource<R> {
 
     ghost faults = { λ s. s.faults };
 
+    ghost reads = { λ _ _ _. ⊤ };
+
     fn read(&mut self, into: &mut [u8]) -> Result<usize, Failed> {
         let Ok(count) = read_some(&mut self.reader, into) else {
             self.faults = raised(self.faults);
@@ -63,6 +65,8 @@ impl<W: Write + Drop> Sink for RealSink<W> {
     ghost written = { λ s. W.contents s.writer };
 
     ghost faults = { λ s. s.faults };
+
+    ghost writes = { λ _ _ _. ⊤ };
 
     fn write(&mut self, piece: &[u8]) -> Result<usize, Failed> {
         let Ok(count) = write_some(&mut self.writer, piece) else {
@@ -148,6 +152,8 @@ impl<R: FileSystem + Drop> Files for RealFiles<R> {
     ghost content = { λ _ _. None };
 
     ghost faults = { λ s. s.faults };
+
+    ghost reads = { λ _ _ _. ⊤ };
 
     fn read_at(&mut self, name: &str, at: u64, into: &mut [u8]) -> Result<usize, Failed> {
         let Ok(count) = self.read_file(name, at, into) else {

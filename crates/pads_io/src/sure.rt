@@ -1,6 +1,7 @@
-ghost use Rattle.std.specs.Prelude.{◌≡◌, ◌≢◌, ◌↔◌, ◌-◌, [], length, drop, Some, IfOk, IsOk, IsErr, is_err};
+ghost use Rattle.std.specs.Prelude.{◌≡◌, ◌≢◌, ◌↔◌, ◌-◌, [], length, drop, Some, IfOk, IsOk, IsErr, is_err, is_none, ⊤};
 ghost use Rattle.std.specs.Io.{ReadsAtMost, WritesAtMost};
 ghost use Rattle.std.specs.Io.KnownBytes.{ReadConsumes, WriteAppends};
+ghost use Rattle.pads_io.specs.Calls.{moved};
 ghost use Rattle.pads_io.specs.Faults.{HasCause};
 ghost use Rattle.pads_io.specs.Transfer.{TakesSome, GivesFrom, EndsAt};
 ghost use Rattle.pads_io.specs.InMemory.{portion, counted_faults};
@@ -59,9 +60,12 @@ impl Source for SureSource {
 
     ghost faults = { λ _. 0 };
 
+    ghost reads = { λ _ _ _. ⊤ };
+
     fn read(&mut self, into: &mut [u8]) -> Result<usize, Failed>
         ensures within { ReadsAtMost result into.new }
         ensures bytes { ReadConsumes (Some self.old.left) (Some self.new.left) result into.new }
+        ensures call { ⊤ }
         ensures cause { HasCause 0 0 result }
 
         // It never fails, and gives as much as the piece and the room allow.
@@ -135,10 +139,13 @@ impl Sink for SureSink {
 
     ghost faults = { λ s. s.faults };
 
+    ghost writes = { λ s count t. t.faults ≡ counted_faults s.faults (is_none count) };
+
     fn write(&mut self, piece: &[u8]) -> Result<usize, Failed>
         ensures within { WritesAtMost result piece.now }
         ensures takes { TakesSome result piece.now }
         ensures bytes { WriteAppends (Some self.old.written) (Some self.new.written) result piece.now }
+        ensures call { self.new.faults ≡ counted_faults self.old.faults (is_none (moved result)) }
         ensures cause { HasCause self.old.faults self.new.faults result }
 
         // It fails exactly where there is a byte to write and no room, and else takes what it can.
@@ -188,11 +195,14 @@ impl Files for SureFiles {
 
     ghost faults = { λ _. 0 };
 
+    ghost reads = { λ s _ t. t ≡ s };
+
     fn read_at(&mut self, name: &str, at: u64, into: &mut [u8]) -> Result<usize, Failed>
         ensures within { ReadsAtMost result into.new }
         ensures bytes { GivesFrom (content_or_empty self.old name.now) at result into.new }
         ensures end { EndsAt (content_or_empty self.old name.now) at result into.new }
         ensures stays { content_or_empty self.new ≡ content_or_empty self.old }
+        ensures call { self.new ≡ self.old }
         ensures cause { HasCause 0 0 result }
 
         // It never fails, and gives as much as the room allows.

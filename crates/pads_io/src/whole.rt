@@ -1,5 +1,6 @@
-ghost use Rattle.std.specs.Prelude.{OnOk, OnErr};
+ghost use Rattle.std.specs.Prelude.{OnOk, OnErr, is_ok};
 ghost use Rattle.std.specs.Io.KnownBytes.{Appends};
+ghost use Rattle.pads_io.specs.Calls.{Writes};
 ghost use Rattle.pads_io.specs.Faults.{HasCause};
 ghost use Rattle.pads_io.specs.Transfer.{AppendsPrefix};
 
@@ -13,6 +14,7 @@ pub struct WriteFault;
 pub fn write_all<K: Sink>(sink: &mut K, bytes: &[u8]) -> Result<(), WriteFault>
     ensures ok { OnOk result (Appends (K.written sink.old) (K.written sink.new) bytes.now) }
     ensures err { OnErr result (AppendsPrefix (K.written sink.old) (K.written sink.new) bytes.now) }
+    ensures calls { Writes K.writes sink.old sink.new (is_ok result) }
     ensures cause { HasCause (K.faults sink.old) (K.faults sink.new) result }
 {
     let mut rest = bytes;

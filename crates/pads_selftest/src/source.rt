@@ -1,6 +1,6 @@
 //! The records, as a source that makes one at a time.
 
-ghost use Rattle.std.specs.Prelude.{◌≡◌, ◌<◌, ◌≤◌, ◌⊎◌, [], Some, IsOk, drop, length, min, take};
+ghost use Rattle.std.specs.Prelude.{◌≡◌, ◌<◌, ◌≤◌, ◌⊎◌, [], Some, IsOk, drop, length, min, take, ⊤};
 ghost use Rattle.std.specs.Io.{ReadsAtMost};
 ghost use Rattle.std.specs.Io.KnownBytes.{ReadConsumes};
 ghost use Rattle.pads_io.specs.Faults.{HasCause};
@@ -92,9 +92,12 @@ impl Source for MadeRecords {
 
     ghost faults = { λ _. 0 };
 
+    ghost reads = { λ _ _ _. ⊤ };
+
     fn read(&mut self, into: &mut [u8]) -> Result<usize, Failed>
         ensures within { ReadsAtMost result into.new }
         ensures bytes { ReadConsumes (Some self.old) (Some self.new) result into.new }
+        ensures call { ⊤ }
         ensures cause { HasCause 0 0 result }
 
         // It never fails.
