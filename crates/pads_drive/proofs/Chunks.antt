@@ -6,10 +6,10 @@ use Rattle.std.proofs.lemmas.Nat.{div-add-mod'}
 use Rattle.std.proofs.Math.Nat.{mod-lt, lt_of_mul-lt-mul_right}
 use Rattle.std.specs.Prelude.{All, IfOk, Result, Ok, Err, flat_map}
 use Rattle.std.specs.Int.{div_ceil}
-use Rattle.std.specs.Fork.{IsChunk, AcceptsChunks, GivesChunk, GivesChunks}
+use Rattle.std.specs.Fork.{AcceptsChunks, GivesChunk, GivesChunks}
 use denote.Ref.{Bor}
 use denote.Param.Members.{Shared}
-use Rattle.pads_drive.specs.Pieces.{AreWhole, Gives, GivesEach, GivesPieces, TakesPieces}
+use Rattle.pads_drive.specs.Pieces.{Gives, GivesEach, GivesPieces, TakesPieces}
 
 -- what stands before a chunk, the chunk and what stands behind it
 three-parts : {A : Type 0} (size start : ℕ) (items piece : List A) → piece ≡ take size (drop start items) → take start items ++ piece ++ drop size (drop start items) ≡ items

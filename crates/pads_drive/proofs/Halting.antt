@@ -3,7 +3,7 @@ use Rattle.std.proofs.Common.{◌≡◌, ℕ, ◌+◌, ◌-◌, ◌^◌, ◌<◌
 use Rattle.std.proofs.lemmas.Bool.{true≢false}
 use Rattle.std.proofs.lemmas.List.{length-append, length-map, map-append}
 use Rattle.std.specs.Io.KnownBytes.{Appends, Consumes, Keeps}
-use Rattle.std.proofs.KnownBytes.{Appends-trans, Consumes-nil, Consumes-trans, Consumes-kept}
+use Rattle.std.proofs.KnownBytes.{Appends-nil, Appends-trans, Consumes-nil, Consumes-trans, Consumes-kept}
 use Rattle.pads_drive.proofs.Ahead.{little_ahead}
 use Rattle.pads_drive.specs.Ahead.{IsBatch, all_have_bytes, weight}
 use Rattle.pads_frame.specs.Cutting.{closed, records}
@@ -102,6 +102,10 @@ module _ {Row Tally : Type 0} (work : Work Row Tally) where
     met_still = omega arith;
   }
 
+  -- Nothing was written.
+  pub halts-idle : (o n : Option (List ℕ)) (m : Moment Tally) → IsBatch m.waiting → Halts work o o n n m [] (MayCome m.framer)
+  halts-idle o n m batch = halts-hand o o n n m (record { out = []; notes = [] }) batch (record { out_grows = (0, Appends-nil o); notes_grow = (0, Appends-nil n) })
+
   -- The same where less may follow.
   pub halts-when : (o o' n n' : Option (List ℕ)) (m : Moment Tally) (bytes : List ℕ) (F G : Bool → List ℕ → Type 0) → ((ended : Bool) (more : List ℕ) → G ended more → F ended more)
       → Halts work o o' n n' m bytes F → Halts work o o' n n' m bytes G
@@ -169,7 +173,7 @@ module _ {Row Tally : Type 0} (work : Work Row Tally) where
   caught-kept left left' left'' o o' n n' old mid new r still waits kept same =
       caught-more left left' left'' o o' n n' old mid new [] r still waits (Consumes-kept left' left' left'' [] (Consumes-nil left') kept) (omega arith) same
 
-  -- a sink failed after this was read
+  -- it stopped after this was read
   pub halts-read : (left left' o mid o' n halfway n' : Option (List ℕ)) (old new : Moment Tally) (beyond : List ℕ) (F : Bool → List ℕ → Type 0) → ((ended : Bool) (more : List ℕ) → F ended more → MayCome new.framer ended more)
       → Reads work left left' o mid n halfway old new beyond → Caught left left' old new → Halts work mid o' halfway n' new [] F → HaltsAt work left left' o o' n n' old F
   halts-read left left' o mid o' n halfway n' old new beyond F may r c h = record {
@@ -191,7 +195,7 @@ module _ {Row Tally : Type 0} (work : Work Row Tally) where
     all_met = omega (arith, c.all_met, r.progress.counted, h.met_still, length-append r.progress.frames h.done);
   }
 
--- From a failure of a sink to the input as a whole.
+-- From there to the input as a whole.
 HasWritten-front : (o o' : Option (List ℕ)) (front others : List ℕ) → HasWritten o o' (front ++ others) → HasWritten o o' front
 HasWritten-front o o' front others p = (others ++ p.0, subst (Appends o o') (append_assoc front others p.0) p.1)
 
@@ -221,14 +225,26 @@ module _ {Row Tally : Type 0} (work : Work Row Tally) (d : Discipline) (max : �
         wrote = grows-past-front o o' n n' old.number 0 (closed d max (take near.0 (h.seen ++ h.piece))) near.1.0 h.halts.done start.number near.1.1 h.halts.wrote;
       }
 
-  -- the reading stopped for a sink while the source was read
+  -- nothing was read
+  pub ahead-nothing : (left o n : Option (List ℕ)) → IfSome left (IsLittleAhead work d max left o o n n)
+  ahead-nothing None o n = tt
+  ahead-nothing (Some input) o n = λ carried. record {
+    taken = [];
+    consumed = refl;
+    served = 0;
+    near = omega arith;
+    wrote = subst (λ frames. GrowsPast o o n n (output_of work (rows_of work 0 frames))) (sym (cuts_nil d max false 0 0))
+        (rw (rows_of-none work 0) record { out_grows = ([], Appends-nil o); notes_grow = ([], Appends-nil n) });
+  }
+
+  -- the reading stopped while the source was read
   pub ahead-reading : (left left' o o' n n' : Option (List ℕ)) (old : Moment Tally) → Starts work d max old → HaltsAt work left left' o o' n n' old Anything
       → IfSome left (IsLittleAhead work d max left' o o' n n')
   ahead-reading None left' o o' n n' old start h = tt
   ahead-reading (Some input) None o o' n n' old start h = absurd h.consumed
   ahead-reading (Some input) (Some more) o o' n n' old start h = little-ahead input more o o' n n' old Anything start h tt
 
-  -- It stopped for a sink after all was read.
+  -- It stopped after all was read.
   pub ahead-finishing : (left left' o mid o' n halfway n' : Option (List ℕ)) (f f' : ℕ) (old new : Moment Tally) (end : Refill) → Starts work d max old → ReadsToEnd work left left' o mid n halfway f f' old new end
       → Caught left left' old new → Halts work mid o' halfway n' new [] (MayCome new.framer) → IfSome left (IsLittleAhead work d max left' o o' n n')
   unfolding halts-read

@@ -10,7 +10,7 @@ use Rattle.pads_drive.specs.declared.output.Output.{Output}
 use Rattle.pads_drive.specs.declared.stop.Stop.{Stop}
 use Rattle.pads_drive.specs.declared.stop.Stop.TheVariants as stop
 use Rattle.pads_drive.specs.Outputs.{Work, Tallies, output_of, rows_of}
-use Rattle.pads_drive.specs.Stopping.{AtLimit, AtSink}
+use Rattle.pads_drive.specs.Stopping.{AtLimit}
 use Rattle.pads_drive.specs.Writing.{Grows, GrowsPrefix}
 use Rattle.pads_drive.specs.Driving.{Collects}
 use Rattle.pads_drive.specs.Progress.{Moment, Progresses, Stops}
@@ -22,18 +22,6 @@ at-limit-map P Q stop.Limit f p = f p
 at-limit-map P Q stop.Out f p = tt
 at-limit-map P Q stop.Notes f p = tt
 at-limit-map P Q stop.Memory f p = tt
-
-pub at-sink-map : (P Q : Type 0) (s : Stop) → (P → Q) → AtSink P s → AtSink Q s
-at-sink-map P Q stop.Out f p = f p
-at-sink-map P Q stop.Notes f p = f p
-at-sink-map P Q stop.Limit f p = tt
-at-sink-map P Q stop.Memory f p = tt
-
-pub at-sink : (P : Type 0) (s : Stop) → P → AtSink P s
-at-sink P stop.Out p = p
-at-sink P stop.Notes p = p
-at-sink P stop.Limit p = tt
-at-sink P stop.Memory p = tt
 
 module _ {Row Tally : Type 0} (work : Work Row Tally) where
   written : (line : Row → List ℕ) (number next : ℕ) (xs ys : List Cut) → next ≡ number + length xs

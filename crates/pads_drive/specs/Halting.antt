@@ -1,4 +1,4 @@
--- How far the reading was when a write on a sink failed: which frames were done, which were at hand, and what came before
+-- How far the reading was when it stopped, as where a write on a sink failed: which frames were done, which were at hand, and what came before
 -- the last piece that was read.
 use Rattle.std.specs.Prelude.{◌≡◌, ℕ, ◌+◌, ◌-◌, ◌^◌, ◌≤◌, min, Bool, false, Option, List, ◌++◌, length, map}
 use Rattle.std.specs.Io.KnownBytes.{Consumes}
@@ -23,7 +23,7 @@ abbrev pub IsFilled : Batch → Type 0
 IsFilled b = IsSized (map cut_of_kept b.frames) b.size
 
 module _ {Row Tally : Type 0} (work : Work Row Tally) where
-  -- These bytes came, and then a sink failed: some frames were done, and their output was written, others were at hand. The
+  -- These bytes came, and then it stopped: some frames were done, and their output was written, others were at hand. The
   -- frames that waited before are among them.
   pub record Halts (o o' n n' : Option (List ℕ)) (old : Moment Tally) (bytes : List ℕ) (MayFollow : Bool → List ℕ → Type 0) : Type 0 where
     pub done : List Cut

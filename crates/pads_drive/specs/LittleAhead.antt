@@ -1,4 +1,4 @@
--- What was written when a write on a sink failed: all but what is due for few of the bytes read.
+-- What was written when the reading stopped: all but what is due for few of the bytes read.
 use Rattle.std.specs.Prelude.{◌≡◌, ℕ, ◌+◌, ◌≤◌, true, Option, Some, List, length, take}
 use Rattle.std.specs.Io.KnownBytes.{Consumes}
 use Rattle.pads_drive.specs.Ahead.{all_have_bytes, most_ahead}

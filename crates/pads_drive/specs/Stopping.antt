@@ -4,13 +4,6 @@ use Rattle.pads_io.specs.Faults.{Rose}
 use Rattle.pads_drive.specs.declared.stop.Stop.{Stop}
 use Rattle.pads_drive.specs.declared.stop.Stop.TheVariants as stop
 
--- this, where a sink failed
-abbrev pub AtSink : Type 0 → Stop → Type 0
-AtSink P stop.Out = P
-AtSink P stop.Notes = P
-AtSink P stop.Memory = ⊤
-AtSink P stop.Limit = ⊤
-
 -- this, where a limit was met
 abbrev pub AtLimit : Type 0 → Stop → Type 0
 AtLimit P stop.Limit = P

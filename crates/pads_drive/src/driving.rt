@@ -1,4 +1,5 @@
-ghost use Rattle.std.specs.Prelude.{◌≡◌, ◌≢◌, ◌+◌, ◌^◌, ◌<◌, ◌≤◌, ◌∷◌, ◌++◌, [], false, true, length, map, IfOk, IfErr, OnOk, OnErr, Ok, Err};
+ghost use Rattle.std.specs.Prelude.{ℕ, Option, ◌≡◌, ◌≢◌, ◌+◌, ◌^◌, ◌<◌, ◌≤◌, ◌∷◌, ◌++◌, [], false, true, length, map, IfOk, IfErr, OnOk, OnErr, Ok, Err};
+ghost use Rattle.pads_io.specs.Calls.{WritesBy, gave_some};
 ghost use Rattle.pads_io.specs.Faults.{Rose};
 ghost use Rattle.pads_frame.specs.State.{reach, room};
 ghost use Rattle.pads_value.specs.Cuts.{cut_of_kept};
@@ -25,6 +26,7 @@ pub(crate) fn write_output<K: Sink, E: Sink>(
     ensures ok { OnOk result (Grows (K.written out.old) (K.written out.new) (E.written notes.old) (E.written notes.new) output.now) }
     ensures err { OnErr result (GrowsPrefix (K.written out.old) (K.written out.new) (E.written notes.old) (E.written notes.new) output.now) }
     ensures sink { IfErr result (AtLimit ⊥) }
+    ensures calls { WritesBy K.writes E.writes out.old notes.old out.new notes.new result }
     ensures cause { HasSinkCause (K.faults out.old) (K.faults out.new) (E.faults notes.old) (E.faults notes.new)
         (output.now.notes ≡ []) result }
 {
@@ -145,6 +147,7 @@ pub(crate) fn refill<S: Source>(source: &mut S, framer: &mut Framer, piece: &mut
     requires bound { length piece.old ≤ 4096 }
     ensures gives { RefillGives (S.left source.old) (S.left source.new) (S.faults source.old) (S.faults source.new)
         framer.old framer.new result }
+    ensures call { (count : Option ℕ) × S.reads source.old count source.new × (result ≡ refilled.More → gave_some count ≡ true) }
     ensures later { S.faults source.old ≤ S.faults source.new }
     ensures kept { result ≢ refilled.ReadFault → S.faults source.new ≡ S.faults source.old }
     ensures piece { length piece.new ≡ length piece.old }

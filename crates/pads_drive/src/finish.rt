@@ -1,11 +1,12 @@
-ghost use Rattle.std.specs.Prelude.{List, ◌<◌, ◌≡◌, ◌+◌, ◌^◌, ◌≤◌, [], length, OnOk, IfErr};
+ghost use Rattle.std.specs.Prelude.{List, ◌<◌, ◌≡◌, ◌+◌, ◌^◌, ◌≤◌, [], length, OnOk, OnErr, IfErr};
 ghost use Rattle.pads_frame.specs.State.{MayCome, reach};
+ghost use Rattle.pads_io.specs.Calls.{WritesBy};
 ghost use Rattle.pads_drive.specs.Driving.{IsWaiting};
 ghost use Rattle.pads_drive.specs.Halting.{Halts, IsFilled};
 ghost use Rattle.pads_drive.specs.Moments.{moment_of};
 ghost use Rattle.pads_drive.specs.Outputs.{Tallies};
 ghost use Rattle.pads_drive.specs.Progress.{Progresses, Stops};
-ghost use Rattle.pads_drive.specs.Stopping.{AtSink, HasSinkCause};
+ghost use Rattle.pads_drive.specs.Stopping.{HasSinkCause};
 
 use crate::command::Command;
 use crate::driving::Reading;
@@ -42,9 +43,10 @@ pub(crate) fn finish<R: Threads + Sync, C: Command, G: Gate + Sync, K: Sink, E: 
     ensures err { IfErr result (Stops (C.work command.now)
         (K.written out.old) (K.written out.new) (E.written notes.old) (E.written notes.new)
         (moment_of reading.old) [] (MayCome reading.old.framer)) }
-    ensures halts { IfErr result (AtSink (Halts (C.work command.now)
+    ensures halts { OnErr result (Halts (C.work command.now)
         (K.written out.old) (K.written out.new) (E.written notes.old) (E.written notes.new)
-        (moment_of reading.old) [] (MayCome reading.old.framer))) }
+        (moment_of reading.old) [] (MayCome reading.old.framer)) }
+    ensures calls { WritesBy K.writes E.writes out.old notes.old out.new notes.new result }
     ensures cause { HasSinkCause (K.faults out.old) (K.faults out.new) (E.faults notes.old) (E.faults notes.new)
         ((row : C.Row) → (C.work command.now).notes row ≡ []) result }
 {

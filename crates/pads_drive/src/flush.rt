@@ -1,10 +1,11 @@
-ghost use Rattle.std.specs.Prelude.{List, ◌<◌, ◌≡◌, ◌+◌, ◌^◌, ◌≤◌, [], length, OnOk, IfErr};
+ghost use Rattle.std.specs.Prelude.{List, ◌<◌, ◌≡◌, ◌+◌, ◌^◌, ◌≤◌, [], length, OnOk, OnErr, IfErr};
 ghost use Rattle.pads_frame.specs.State.{MayCome};
+ghost use Rattle.pads_io.specs.Calls.{WritesBy};
 ghost use Rattle.pads_drive.specs.Halting.{Halts, IsFilled, met};
 ghost use Rattle.pads_drive.specs.Moments.{moment_of};
 ghost use Rattle.pads_drive.specs.Outputs.{Tallies};
 ghost use Rattle.pads_drive.specs.Progress.{Progresses, Stops};
-ghost use Rattle.pads_drive.specs.Stopping.{AtSink, HasSinkCause};
+ghost use Rattle.pads_drive.specs.Stopping.{HasSinkCause};
 
 use crate::command::Command;
 use crate::driving::{Batch, Reading, write_output};
@@ -42,9 +43,10 @@ pub(crate) fn flush<R: Threads + Sync, C: Command, G: Gate + Sync, K: Sink, E: S
     ensures filled { OnOk result (IsFilled reading.new.batch) }
     ensures emptied { OnOk result (reading.new.batch.frames ≡ []) }
     ensures framer { reading.new.framer ≡ reading.old.framer }
-    ensures halts { IfErr result (AtSink (Halts (C.work command.now)
+    ensures halts { OnErr result (Halts (C.work command.now)
         (K.written out.old) (K.written out.new) (E.written notes.old) (E.written notes.new)
-        (moment_of reading.old) [] (MayCome reading.old.framer))) }
+        (moment_of reading.old) [] (MayCome reading.old.framer)) }
+    ensures calls { WritesBy K.writes E.writes out.old notes.old out.new notes.new result }
     ensures cause { HasSinkCause (K.faults out.old) (K.faults out.new) (E.faults notes.old) (E.faults notes.new)
         ((row : C.Row) → (C.work command.now).notes row ≡ []) result }
 {

@@ -1,10 +1,11 @@
-ghost use Rattle.std.specs.Prelude.{◌≡◌, ◌≢◌, ◌<◌, ◌≤◌, [], true, List, Ok, IfErr, IfSome, IfOk};
+ghost use Rattle.std.specs.Prelude.{◌≡◌, ◌≢◌, ◌<◌, ◌≤◌, [], true, List, Ok, IfErr, OnErr, IfSome, IfOk};
 ghost use Rattle.pads_frame.specs.Fits.{FitsLimit};
+ghost use Rattle.pads_io.specs.Calls.{CallsBy};
 ghost use Rattle.pads_io.specs.Faults.{Rose};
 ghost use Rattle.pads_drive.specs.Drives.{DriveGives};
 ghost use Rattle.pads_drive.specs.LittleAhead.{IsLittleAhead};
 ghost use Rattle.pads_drive.specs.Outputs.{Tallies};
-ghost use Rattle.pads_drive.specs.Stopping.{AtLimit, AtSink, HasSinkCause};
+ghost use Rattle.pads_drive.specs.Stopping.{AtLimit, HasSinkCause};
 ghost use Rattle.pads_drive.specs.declared.ended.Ended.TheVariants as ended;
 
 use crate::command::Command;
@@ -28,6 +29,9 @@ use std::thread::Threads;
 /// The records of a batch are read by at most `jobs` workers, which pass the gate before each. What
 /// comes of it is the same for any number of them.
 ///
+/// Nothing is read once the source has ended or failed, and nothing is read or written once a write has
+/// failed: the calls of the three objects come in such an order, and there are no others.
+///
 /// The source is read in pieces of at most 4,096 bytes, and the frames that they complete are gathered
 /// into batches: one has at most 256 frames, and takes no more once they have 4,194,304 bytes. A full
 /// batch is written before more is read, and the rest as soon as the input has ended, failed, or
@@ -36,10 +40,9 @@ use std::thread::Threads;
 /// `Ended` and `Stop` say what was written at each answer. `Ended::ReadFault` comes only where the
 /// source's count of failures rose, `Stop::Out` and `Stop::Notes` only where that sink's did, and
 /// `Ended::TooLong` only where the source tells more than 2^62 bytes. `Stop::Limit` comes where the
-/// tally can't count the rows of all records, and `Ended::Finished` only where it can. At `Stop::Out`
-/// and `Stop::Notes`, where no record of the input is too long or broken, the output of all records
-/// that the bytes read complete was written on both sinks, but for those in at most 2 `max` +
-/// 4,259,840 of the last bytes. What a source or sink doesn't tell, nothing is said of.
+/// tally can't count the rows of all records, and `Ended::Finished` only where it can. At each `Stop`,
+/// where no record of the input is too long or broken, the output of all records that the bytes read
+/// complete was written on both sinks, but for those in at most 2 `max` + 4,259,840 of the last bytes. What a source or sink doesn't tell, nothing is said of.
 pub fn drive<R: Threads + Sync, C: Command, G: Gate + Sync, S: Source, K: Sink, E: Sink>(
     rt: &R,
     command: &C,
@@ -60,10 +63,11 @@ pub fn drive<R: Threads + Sync, C: Command, G: Gate + Sync, S: Source, K: Sink, 
     requires none_counted { Tallies (C.work command.now) [] tally }
     ensures gives { IfSome (S.left source.old) (λ input. DriveGives (C.work command.now) discipline max input (S.left source.new)
         (K.written out.old) (K.written out.new) (E.written notes.old) (E.written notes.new) result) }
-    ensures ahead { IfErr result (AtSink (IfSome (S.left source.old) (IsLittleAhead (C.work command.now) discipline max
-        (S.left source.new) (K.written out.old) (K.written out.new) (E.written notes.old) (E.written notes.new)))) }
+    ensures ahead { OnErr result (IfSome (S.left source.old) (IsLittleAhead (C.work command.now) discipline max
+        (S.left source.new) (K.written out.old) (K.written out.new) (E.written notes.old) (E.written notes.new))) }
     ensures limit { IfErr result (AtLimit ((rows : List C.Row) × ((C.work command.now).is_over rows ≡ true))) }
     ensures read_fault { result ≡ Ok ended.ReadFault → Rose (S.faults source.old) (S.faults source.new) }
+    ensures calls { CallsBy S.reads K.writes E.writes source.old out.old notes.old source.new out.new notes.new result }
     ensures later { S.faults source.old ≤ S.faults source.new }
     ensures kept { IfOk result (λ outcome. outcome ≢ ended.ReadFault → S.faults source.new ≡ S.faults source.old) }
     ensures cause { HasSinkCause (K.faults out.old) (K.faults out.new) (E.faults notes.old) (E.faults notes.new)

@@ -1,11 +1,12 @@
-ghost use Rattle.std.specs.Prelude.{List, ◌<◌, ◌≡◌, ◌≢◌, ◌+◌, ◌^◌, ◌≤◌, [], false, length, IfOk, OnOk, IfErr, Ok};
+ghost use Rattle.std.specs.Prelude.{List, ◌<◌, ◌≡◌, ◌≢◌, ◌+◌, ◌^◌, ◌≤◌, [], false, length, IfOk, OnOk, OnErr, IfErr, Ok};
 ghost use Rattle.pads_frame.specs.State.{reach, rest};
+ghost use Rattle.pads_io.specs.Calls.{CallsBy};
 ghost use Rattle.pads_drive.specs.declared.refill.Refill.TheVariants as refilled;
 ghost use Rattle.pads_drive.specs.Ends.{Anything, ReadsToEnd, StopsAt};
 ghost use Rattle.pads_drive.specs.Halting.{Caught, HaltsAt, IsFilled};
 ghost use Rattle.pads_drive.specs.Moments.{moment_of};
 ghost use Rattle.pads_drive.specs.Outputs.{Tallies};
-ghost use Rattle.pads_drive.specs.Stopping.{AtSink, HasSinkCause};
+ghost use Rattle.pads_drive.specs.Stopping.{HasSinkCause};
 
 use crate::command::Command;
 use crate::driving::{Reading, refill};
@@ -51,11 +52,12 @@ pub(crate) fn read_to_end<
     ensures within { OnOk result (reach reading.new.framer ≤ 2 ^ 62) }
     ensures filled { OnOk result (IsFilled reading.new.batch) }
     ensures caught { OnOk result (Caught (S.left source.old) (S.left source.new) (moment_of reading.old) (moment_of reading.new)) }
-    ensures halts { IfErr result (AtSink (HaltsAt (C.work command.now) (S.left source.old) (S.left source.new)
-        (K.written out.old) (K.written out.new) (E.written notes.old) (E.written notes.new) (moment_of reading.old) Anything)) }
+    ensures halts { OnErr result (HaltsAt (C.work command.now) (S.left source.old) (S.left source.new)
+        (K.written out.old) (K.written out.new) (E.written notes.old) (E.written notes.new) (moment_of reading.old) Anything) }
     ensures err { IfErr result (StopsAt (C.work command.now)
         (S.left source.old) (S.left source.new) (K.written out.old) (K.written out.new)
         (E.written notes.old) (E.written notes.new) (moment_of reading.old)) }
+    ensures calls { CallsBy S.reads K.writes E.writes source.old out.old notes.old source.new out.new notes.new result }
     ensures later { S.faults source.old ≤ S.faults source.new }
     ensures kept { result ≢ Ok refilled.ReadFault → S.faults source.new ≡ S.faults source.old }
     ensures cause { HasSinkCause (K.faults out.old) (K.faults out.new) (E.faults notes.old) (E.faults notes.new)

@@ -1,7 +1,8 @@
-use Rattle.std.proofs.Common.{ap, ◌∙◌}
+use Rattle.std.proofs.Common.{ap, true, ◌∙◌}
+use Rattle.pads_io.specs.Calls.{stays}
 use Rattle.pads_drive.specs.declared.output.Output.{Output}
-use Rattle.pads_drive.proofs.Progress.{at-sink, flat_map-nothing, stops-over, stops-unwritten, stops-waiting}
-use Rattle.pads_drive.proofs.Halting.{halts-hand}
+use Rattle.pads_drive.proofs.Progress.{flat_map-nothing, stops-over, stops-unwritten, stops-waiting}
+use Rattle.pads_drive.proofs.Halting.{halts-hand, halts-idle}
 use Rattle.pads_drive.proofs.Blame.{cause-weaker}
 use Rattle.pads_drive.proofs.flush.flush.Goals as goal
 
@@ -18,9 +19,21 @@ returns-in-Err-clause-err g c =
 
 pub returns-in-Err-clause-halts : goal.returns-in-Err-clause-halts
 returns-in-Err-clause-halts g c =
-    at-sink _ c.in-Err.stop (halts-hand (g.C.Command.work c.args.command.now) _ _ _ _ _ c.in-Ok.output c.requires.filled.batch c.in-Err.ensures.err)
+    halts-hand (g.C.Command.work c.args.command.now) _ _ _ _ _ c.in-Ok.output c.requires.filled.batch c.in-Err.ensures.err
+
+pub returns-in-Err-Fault-clause-halts : goal.returns-in-Err-Fault-clause-halts
+returns-in-Err-Fault-clause-halts g c = halts-idle (g.C.Command.work c.args.command.now) _ _ _ c.requires.filled.batch
+
+pub returns-in-Err-Memory-clause-halts : goal.returns-in-Err-Memory-clause-halts
+returns-in-Err-Memory-clause-halts g c = halts-idle (g.C.Command.work c.args.command.now) _ _ _ c.requires.filled.batch
 
 pub returns-in-Err-clause-cause : goal.returns-in-Err-clause-cause
 returns-in-Err-clause-cause g c =
     let work = g.C.Command.work c.args.command.now in
     cause-weaker _ _ _ _ _ _ _ (λ none. ap (λ (o : Output). o.notes) c.in-Ok.ensures.output ∙ flat_map-nothing work.notes _ none) c.in-Err.ensures.cause
+
+pub returns-in-Err-Fault-clause-calls : goal.returns-in-Err-Fault-clause-calls
+returns-in-Err-Fault-clause-calls g c = (true, stays, tt)
+
+pub returns-in-Err-Memory-clause-calls : goal.returns-in-Err-Memory-clause-calls
+returns-in-Err-Memory-clause-calls g c = (true, stays, tt)

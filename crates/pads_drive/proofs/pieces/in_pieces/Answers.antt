@@ -1,6 +1,5 @@
-use Rattle.std.proofs.Common.{rules, ◌≡◌, ◌<◌, ◌≤◌, [], ◌∷◌, length, IfOk, ℕ, ◌+◌, ◌-◌, ◌*◌, ◌/◌, ◌%◌, List, ◌++◌, false, true, zero, suc, sym, ◌∙◌, arith}
+use Rattle.std.proofs.Common.{◌≡◌, ◌<◌, ℕ, false, true, zero, suc, sym, ◌∙◌, arith}
 use Rattle.std.specs.Bool.{◌==◌}
-use Rattle.pads_drive.specs.Pieces.{Gives, GivesPieces, TakesPieces}
 use Rattle.pads_drive.proofs.Chunks.{accepts-chunks, gives-chunks, gives-if-one}
 use Rattle.pads_drive.proofs.pieces.in_pieces.Goals as goal
 
