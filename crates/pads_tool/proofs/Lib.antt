@@ -7,6 +7,7 @@ pub mod Records
 pub mod Kept
 pub mod Stops
 pub mod Described
+pub mod FileReads
 pub mod Accepted
 pub mod Readers
 pub mod Tested

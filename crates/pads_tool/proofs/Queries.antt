@@ -1,5 +1,5 @@
 -- How the promise of a query is kept.
-use Rattle.std.proofs.Common.{◌≡◌, inl, inr, refl, sym, subst, ℕ, List, Option, None, IfOk, IfErr, Result, Ok, Err}
+use Rattle.std.proofs.Common.{◌≡◌, inl, inr, refl, subst, ℕ, List, Option, None, IfOk, IfErr, Result, Ok, Err}
 use Rattle.pads_ast.specs.declared.decl.Ast.{Ast}
 use Rattle.pads_code.specs.declared.Coding.{Coding}
 use Rattle.pads_describe.proofs.AnswerLaws.{one_tree}

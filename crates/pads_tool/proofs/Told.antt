@@ -31,3 +31,8 @@ told-more None now text piece grown n at same here p fits given e = tt
 told-more (Some bytes) now text piece grown n at same here p fits given e =
     let given' = rw (same, here) at given in
     subst (λ g. IsFront g bytes) (sym e) (IsFront-more text bytes piece n p fits given')
+
+-- nothing was read yet
+pub told-none : (content : Option (List ℕ)) (text : List ℕ) → text ≡ [] → IfSome content (IsFront text)
+told-none None text none = tt
+told-none (Some bytes) text none = subst (λ t. IsFront t bytes) (sym none) (IsFront-none bytes)

@@ -1,6 +1,6 @@
 -- Counts of rows that are above their limit are above it among other rows too, as the commands say that count.
 use Rattle.std.specs.Cmp.Derive.{both_true}
-use Rattle.std.proofs.Common.{◌≡◌, ◌∙◌, sym, ap, refl, ℕ, ◌+◌, ◌^◌, nat_le, nat_eq, Bool, true, false, true≢false, not, ◌&&◌, List, [], ◌∷◌, ◌++◌, length, length-append, Option, Some, leb-true, le-leb, arith}
+use Rattle.std.proofs.Common.{◌≡◌, ◌∙◌, sym, ap, refl, ℕ, ◌+◌, ◌^◌, nat_le, nat_eq, Bool, true, false, true≢false, not, List, [], ◌∷◌, ◌++◌, length, length-append, Option, Some, leb-true, le-leb, arith}
 use Rattle.std.proofs.lemmas.Bool.{lt-ltb, ltb-true}
 use Rattle.std.proofs.lemmas.List.Elements.{filter-append}
 use Rattle.std.proofs.lemmas.List.Sums.{sum_by-append}

@@ -5,6 +5,7 @@ pub mod Closing
 pub mod Describing
 pub mod Descriptions
 pub mod Endings
+pub mod FileReads
 pub mod Images
 pub mod Limits
 pub mod Masking
@@ -12,6 +13,7 @@ pub mod Printing
 pub mod Promises
 pub mod Querying
 pub mod Reading
+pub mod RunCalls
 pub mod Running
 pub mod Summing
 pub mod Telling

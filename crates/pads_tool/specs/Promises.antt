@@ -19,7 +19,7 @@ use Rattle.pads_tool.specs.Describing.{Description, frames_of, is_clean, lines}
 use Rattle.pads_tool.specs.Images.{CanBeRead, IsUnreadFor}
 use Rattle.pads_tool.specs.Printing.{IsKept, prints}
 use Rattle.pads_tool.specs.Querying.{CanBeAsked, IsUnaskedFor, answers, asking}
-use Rattle.pads_tool.specs.Reading.{ReadLittleAhead, Reads, WroteAll, WroteComplete, WroteMost, WrotePrefix, rows_in}
+use Rattle.pads_tool.specs.Reading.{ReadLittleAhead, Reads, WroteAll, WroteComplete, WroteMost, WrotePrefix, WroteSome, rows_in}
 use Rattle.pads_tool.specs.Testing.{TestsBy, all_clean, selftest_line}
 use Rattle.pads_tool.specs.Summing.{CanBeSummed, IsUnsummedFor, SumsAll, SumsComplete, SumsMost, SumsOver, SumsSome}
 use Rattle.pads_tool.specs.Masking.{IsBounded, IsReadUnder, Preparation, describing, masking}
@@ -103,9 +103,13 @@ checking name settings = record {
   keeps_records = λ content left. Unit {0};
 }
 
+-- By a module that is there, a prefix of the output was written, and little more was read than was written for.
+abbrev pub wrote_some : Preparation → (Description → Work Row Bool) → List ℕ → Cutting → Seen → Type 0
+wrote_some prepared work name cutting s = Reads (prepared.is_made (s.content name)) cutting s.left (WroteSome work s.left' s.out s.out' s.notes s.notes')
+
 -- A command that reads records, by how it comes by its module, by what it makes of the module's records, and whether it
 -- writes on the notes for them. By a module that is there and an input of at most 2^62 bytes, its output for each record is
--- written on both sinks. Where there is no memory, nothing was read and written, or a prefix was written.
+-- written on both sinks. Where there is no memory, nothing was read and written, or a prefix was written and little more read.
 abbrev pub reading : Preparation → (Description → Work Row Bool) → Bool → List ℕ → Cutting → Promise
 reading prepared work noting name cutting = record {
   finishes = λ well s. Reads (prepared.is_made (s.content name)) cutting s.left (WroteAll work s.left' s.out s.out' s.notes s.notes' well);
@@ -115,7 +119,7 @@ reading prepared work noting name cutting = record {
   stops_writing = λ s. Reads (prepared.is_made (s.content name)) cutting s.left (WrotePrefix work s.left' s.out s.out' s.notes s.notes');
   stays_near = λ s. Reads (prepared.is_made (s.content name)) cutting s.left (ReadLittleAhead work s.left' s.out s.out' s.notes s.notes');
   stops_early = λ s. ((s.out' ≡ s.out) × (s.notes' ≡ s.notes) × (s.left' ≡ s.left))
-      ⊎ Reads (prepared.is_made (s.content name)) cutting s.left (WrotePrefix work s.left' s.out s.out' s.notes s.notes');
+      ⊎ wrote_some prepared work name cutting s;
   refused_for = λ content why. prepared.refused_for (content name) why;
   can_finish = λ content left. prepared.can_make (content name) × (input : List ℕ) × (left ≡ Some input) × (length input ≤ 2 ^ 62);
   reads_files = true;
@@ -167,7 +171,7 @@ querying asks settings mask = record {
   stops_writing = λ s. (asked : Asked) × (answering asks settings mask asked).stops_writing s;
   stays_near = λ s. (asked : Asked) × (answering asks settings mask asked).stays_near s;
   stops_early = λ s. ((s.out' ≡ s.out) × (s.notes' ≡ s.notes) × (s.left' ≡ s.left))
-      ⊎ ((asked : Asked) × (answering asks settings mask asked).stops_writing s);
+      ⊎ ((asked : Asked) × wrote_some (asking settings.coding mask settings.scan asks asked) (λ d. answers d.made asked) asks.description settings.cutting s);
   refused_for = λ content why. IsUnaskedFor (content asks.description) settings.coding mask asks why;
   can_finish = λ content left. CanBeAsked (content asks.description) settings.coding mask asks × (input : List ℕ) × (left ≡ Some input) × (length input ≤ 2 ^ 62);
   reads_files = true;

@@ -81,7 +81,7 @@ module _ (work : Description → Work Row Bool) (noting : Bool) (d : Description
   RecordsGive ending.ReadFault = Rose source source' × IfSome left (WroteComplete work left' o o' n n' d)
   RecordsGive ending.WriteFault = SinkFailed noting out out' notes notes' × IfSome left (WroteSome work left' o o' n n' d)
   RecordsGive ending.TooLong = IfSome left (WroteMost work left' o o' n n' d)
-  RecordsGive ending.Memory = IfSome left (WrotePrefix work left' o o' n n' d)
+  RecordsGive ending.Memory = IfSome left (WroteSome work left' o o' n n' d)
   RecordsGive ending.Usage = ⊥
   RecordsGive (ending.Refused reason) = ⊥
   RecordsGive ending.Limit = ⊥

@@ -1,5 +1,7 @@
-ghost use Rattle.std.specs.Prelude.{◌≡◌, ◌≢◌, ℕ, List, Option};
+ghost use Rattle.std.specs.Prelude.{◌≡◌, ◌≢◌, ℕ, Bool, List, Option};
+ghost use Rattle.pads_io.specs.Calls.{Writes};
 ghost use Rattle.pads_tool.specs.Checking.{accepted_line};
+ghost use Rattle.pads_tool.specs.FileReads.{ReadsOnce};
 ghost use Rattle.pads_tool.specs.Promises.{Keeps, checking, counts, seen};
 ghost use Rattle.pads_tool.specs.declared.ending.Ending.TheVariants as ending;
 
@@ -32,6 +34,8 @@ pub(crate) fn check<F: Files, K: Sink>(
     ensures gives { (left left' noted noted' : Option (List ℕ)) (source source' notes notes' : ℕ) → Keeps (checking name.now settings.now)
         (seen (F.content files.old) left left' (K.written out.old) (K.written out.new) noted noted')
         (counts (F.faults files.old) (F.faults files.new) source source' (K.faults out.old) (K.faults out.new) notes notes') result }
+    ensures reads { ReadsOnce F.reads name.now files.old files.new }
+    ensures calls { (well : Bool) × Writes K.writes out.old out.new well }
     ensures files_kept { result ≢ ending.FileFault → F.faults files.new ≡ F.faults files.old }
     ensures out_kept { result ≢ ending.WriteFault → K.faults out.new ≡ K.faults out.old }
 {

@@ -1,5 +1,6 @@
 ghost use Rattle.std.specs.Prelude.{◌≡◌, IfOk, IfSome, OnOk, Err};
 ghost use Rattle.pads_tool.specs.Causes.{FaultHasCause};
+ghost use Rattle.pads_tool.specs.FileReads.{ReadsOnce};
 ghost use Rattle.pads_tool.specs.Descriptions.{described_by};
 ghost use Rattle.pads_value.specs.declared.memory.Refusal.TheVariants as refusal;
 
@@ -18,6 +19,7 @@ pub(crate) fn read_description<F: Files>(
     ensures told { IfOk result (λ described. IfSome (F.content files.old name.now)
         (λ bytes. described ≡ described_by bytes)) }
     ensures stays { F.content files.new ≡ F.content files.old }
+    ensures reads { ReadsOnce F.reads name.now files.old files.new }
     ensures cause { FaultHasCause (F.faults files.old) (F.faults files.new) result }
     ensures kept { OnOk result (F.faults files.new ≡ F.faults files.old) }
     ensures wanted { result ≡ Err refusal.Memory → F.faults files.new ≡ F.faults files.old }

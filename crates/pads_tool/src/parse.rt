@@ -1,8 +1,10 @@
 ghost use Rattle.std.specs.Prelude.{◌≡◌, ◌≢◌, ℕ, List, Option, false};
+ghost use Rattle.pads_io.specs.Calls.{CallsOfTwo};
 ghost use Rattle.pads_orders.specs.Orders.{KeepSettings};
 ghost use Rattle.pads_tool.specs.Describing.{described, lines};
 ghost use Rattle.pads_tool.specs.Endings.{status_of};
 ghost use Rattle.pads_tool.specs.Reading.{RecordsGive};
+ghost use Rattle.pads_tool.specs.FileReads.{ReadsOnce};
 ghost use Rattle.pads_tool.specs.Promises.{Keeps, counts, parsing, seen};
 ghost use Rattle.pads_tool.specs.Running.{IsBeforeInput};
 ghost use Rattle.pads_tool.specs.declared.ending.Ending.TheVariants as ending;
@@ -110,6 +112,7 @@ fn write_lines<R: Threads + Sync, S: Source, K: Sink, G: Gate + Sync>(
     ensures gives { (noted : Option (List ℕ)) (notes : ℕ) → RecordsGive (λ d. lines d.made) false (described (contents command.now.reader.module) settings.now.cutting)
         (S.left source.old) (S.left source.new) (K.written out.old) (K.written out.new) noted noted
         (S.faults source.old) (S.faults source.new) (K.faults out.old) (K.faults out.new) notes notes result }
+    ensures calls { CallsOfTwo S.reads K.writes source.old out.old source.new out.new }
     ensures out_kept { result ≢ ending.WriteFault → K.faults out.new ≡ K.faults out.old }
     ensures source_kept { result ≢ ending.ReadFault → result ≢ ending.WriteFault → result ≢ ending.Memory → S.faults source.new ≡ S.faults source.old }
 {
@@ -147,6 +150,8 @@ pub(crate) fn parse<R: Threads + Sync, F: Files, S: Source, K: Sink, G: Gate + S
         (counts (F.faults files.old) (F.faults files.new) (S.faults source.old) (S.faults source.new) (K.faults out.old) (K.faults out.new)
         notes notes) result }
     ensures untouched { IsBeforeInput (status_of result) → source.new ≡ source.old }
+    ensures reads { ReadsOnce F.reads name.now files.old files.new }
+    ensures calls { CallsOfTwo S.reads K.writes source.old out.old source.new out.new }
     ensures files_kept { result ≢ ending.FileFault → F.faults files.new ≡ F.faults files.old }
     ensures out_kept { result ≢ ending.WriteFault → K.faults out.new ≡ K.faults out.old }
     ensures source_kept { result ≢ ending.ReadFault → result ≢ ending.WriteFault → result ≢ ending.Memory → S.faults source.new ≡ S.faults source.old }

@@ -1,9 +1,11 @@
 ghost use Rattle.std.specs.Prelude.{◌≡◌, ◌≢◌, ◌<◌, ◌≤◌, true, IfOk};
 ghost use Rattle.pads_module.specs.Modules.{contents};
 ghost use Rattle.pads_frame.specs.Fits.{FitsLimit};
+ghost use Rattle.pads_io.specs.Calls.{Calls};
 ghost use Rattle.pads_orders.specs.Orders.{KeepSettings};
 ghost use Rattle.pads_tool.specs.Describing.{described};
 ghost use Rattle.pads_tool.specs.Endings.{status_of};
+ghost use Rattle.pads_tool.specs.FileReads.{ReadsOnce};
 ghost use Rattle.pads_tool.specs.Limits.{FitsLimit-prop};
 ghost use Rattle.pads_tool.specs.Printing.{prints, told_of};
 ghost use Rattle.pads_tool.specs.Promises.{Keeps, counts, printing, seen};
@@ -149,6 +151,7 @@ fn print_records<R: Threads + Sync, S: Source, K: Sink, E: Sink, G: Gate + Sync>
     ensures gives { RecordsGive prints true (described (contents command.now.reader.module) command.now.cutting)
         (S.left source.old) (S.left source.new) (K.written out.old) (K.written out.new) (E.written notes.old) (E.written notes.new)
         (S.faults source.old) (S.faults source.new) (K.faults out.old) (K.faults out.new) (E.faults notes.old) (E.faults notes.new) result }
+    ensures calls { Calls S.reads K.writes E.writes source.old out.old notes.old source.new out.new notes.new }
     ensures out_kept { result ≢ ending.WriteFault → K.faults out.new ≡ K.faults out.old }
     ensures notes_kept { result ≢ ending.WriteFault → E.faults notes.new ≡ E.faults notes.old }
     ensures source_kept { result ≢ ending.ReadFault → result ≢ ending.WriteFault → result ≢ ending.Memory → S.faults source.new ≡ S.faults source.old }
@@ -190,6 +193,8 @@ pub(crate) fn print<R: Threads + Sync, F: Files, S: Source, K: Sink, E: Sink, G:
         (E.faults notes.old) (E.faults notes.new)) result }
     ensures untouched { IsBeforeInput (status_of result) → source.new ≡ source.old }
     ensures quiet { IsBeforeInput (status_of result) → notes.new ≡ notes.old }
+    ensures reads { ReadsOnce F.reads name.now files.old files.new }
+    ensures calls { Calls S.reads K.writes E.writes source.old out.old notes.old source.new out.new notes.new }
     ensures files_kept { result ≢ ending.FileFault → F.faults files.new ≡ F.faults files.old }
     ensures out_kept { result ≢ ending.WriteFault → K.faults out.new ≡ K.faults out.old }
     ensures notes_kept { result ≢ ending.WriteFault → E.faults notes.new ≡ E.faults notes.old }

@@ -1,8 +1,10 @@
 ghost use Rattle.std.specs.Prelude.{◌≡◌, ◌≢◌, ◌++◌, ℕ, List, Option, false, OnOk};
 ghost use Rattle.pads_module.specs.Modules.{contents};
+ghost use Rattle.pads_io.specs.Calls.{CallsOfTwo};
 ghost use Rattle.pads_orders.specs.Orders.{KeepSettings};
 ghost use Rattle.pads_tool.specs.Describing.{described};
 ghost use Rattle.pads_tool.specs.Endings.{status_of};
+ghost use Rattle.pads_tool.specs.FileReads.{ReadsOnce};
 ghost use Rattle.pads_tool.specs.Promises.{Keeps, counts, querying, seen};
 ghost use Rattle.pads_tool.specs.Querying.{answer_to, answers, is_header, is_kept, lines_of};
 ghost use Rattle.pads_tool.specs.Reading.{RecordsGive};
@@ -173,6 +175,7 @@ fn write_answers<R: Threads + Sync, S: Source, K: Sink, G: Gate + Sync>(
     ensures gives { (noted : Option (List ℕ)) (notes : ℕ) → RecordsGive (λ d. answers d.made command.now.asked) false (described (contents command.now.reader.module) settings.now.cutting)
         (S.left source.old) (S.left source.new) (K.written out.old) (K.written out.new) noted noted
         (S.faults source.old) (S.faults source.new) (K.faults out.old) (K.faults out.new) notes notes result }
+    ensures calls { CallsOfTwo S.reads K.writes source.old out.old source.new out.new }
     ensures out_kept { result ≢ ending.WriteFault → K.faults out.new ≡ K.faults out.old }
     ensures source_kept { result ≢ ending.ReadFault → result ≢ ending.WriteFault → result ≢ ending.Memory → S.faults source.new ≡ S.faults source.old }
 {
@@ -211,6 +214,8 @@ pub(crate) fn query<R: Threads + Sync, F: Files, S: Source, K: Sink, G: Gate + S
         (counts (F.faults files.old) (F.faults files.new) (S.faults source.old) (S.faults source.new) (K.faults out.old) (K.faults out.new)
         notes notes) result }
     ensures untouched { IsBeforeInput (status_of result) → source.new ≡ source.old }
+    ensures reads { ReadsOnce F.reads question.now.description files.old files.new }
+    ensures calls { CallsOfTwo S.reads K.writes source.old out.old source.new out.new }
     ensures files_kept { result ≢ ending.FileFault → F.faults files.new ≡ F.faults files.old }
     ensures out_kept { result ≢ ending.WriteFault → K.faults out.new ≡ K.faults out.old }
     ensures source_kept { result ≢ ending.ReadFault → result ≢ ending.WriteFault → result ≢ ending.Memory → S.faults source.new ≡ S.faults source.old }

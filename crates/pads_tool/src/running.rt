@@ -1,9 +1,12 @@
 ghost use Rattle.std.specs.Prelude.{◌≡◌, ◌≢◌, ◌↔◌, ◌⊎◌, true, false, None};
+ghost use Rattle.pads_io.specs.Calls.{Calls};
 ghost use Rattle.pads_io.specs.Faults.{Rose};
 ghost use Rattle.pads_orders.specs.Orders.{KeepsLimits, order_of};
 ghost use Rattle.pads_tool.specs.Causes.{SinkFailed};
 ghost use Rattle.pads_tool.specs.Endings.{status_of};
+ghost use Rattle.pads_tool.specs.FileReads.{ReadsFor, ReadsItsFile, file_of};
 ghost use Rattle.pads_tool.specs.Promises.{Keeps, counts, promise_of, seen};
+ghost use Rattle.pads_tool.specs.RunCalls.{RunCalls};
 ghost use Rattle.pads_tool.specs.Running.{Ordered, RunGives, BeforeLastWords, IsFair, IsQuiet, EndsOrWantsMemory, IsBeforeInput};
 ghost use Rattle.pads_tool.specs.declared.status.Status.TheVariants as status;
 ghost use Rattle.pads_tool.specs.declared.ending.Ending.TheVariants as ending;
@@ -46,6 +49,8 @@ fn perform<R: Threads + Sync, F: Files, S: Source, K: Sink, E: Sink, G: Gate + S
     ensures unnoted { (promise_of order.now).writes_notes ≡ false → notes.new ≡ notes.old }
     ensures untouched { IsBeforeInput (status_of result) → source.new ≡ source.old }
     ensures quiet { IsBeforeInput (status_of result) → notes.new ≡ notes.old }
+    ensures reads { ReadsFor F.reads (file_of order.now) files.old files.new }
+    ensures calls { Calls S.reads K.writes E.writes source.old out.old notes.old source.new out.new notes.new }
     ensures files_kept { result ≢ ending.FileFault → F.faults files.new ≡ F.faults files.old }
     ensures out_kept { result ≢ ending.WriteFault → K.faults out.new ≡ K.faults out.old }
     ensures notes_kept { result ≢ ending.WriteFault → E.faults notes.new ≡ E.faults notes.old }
@@ -133,6 +138,8 @@ fn obey<R: Threads + Sync, F: Files, S: Source, K: Sink, E: Sink, G: Gate + Sync
     ensures unread { Ordered words.now (λ promise. promise.reads_source ≡ false) → source.new ≡ source.old }
     ensures untouched { IsBeforeInput (status_of result) → source.new ≡ source.old }
     ensures quiet { IsQuiet words.now (status_of result) → notes.new ≡ notes.old }
+    ensures reads { ReadsItsFile F.reads words.now files.old files.new }
+    ensures calls { Calls S.reads K.writes E.writes source.old out.old notes.old source.new out.new notes.new }
     ensures files_kept { result ≢ ending.FileFault → F.faults files.new ≡ F.faults files.old }
     ensures out_kept { result ≢ ending.WriteFault → K.faults out.new ≡ K.faults out.old }
     ensures notes_kept { result ≢ ending.WriteFault → E.faults notes.new ≡ E.faults notes.old }
@@ -229,6 +236,11 @@ pub fn run<R: Threads + Sync, F: Files, S: Source, K: Sink, E: Sink, G: Gate + S
     ensures untouched { IsBeforeInput result → source.new ≡ source.old }
     ensures unopened { order_of words.now ≡ None → files.new ≡ files.old }
     ensures without_files { Ordered words.now (λ promise. promise.reads_files ≡ false) → files.new ≡ files.old }
+
+    // The description is read once, in order, from its first byte on, and no other file is. From the source nothing is read once
+    // it has ended or failed, and nothing is read or written once a write has failed, but for the last words.
+    ensures reads { ReadsItsFile F.reads words.now files.old files.new }
+    ensures calls { RunCalls S.reads K.writes E.writes source.old out.old notes.old source.new out.new notes.new }
 
     // The last words come last on the notes, and tell the verdict on a description that is refused. Where the command writes
     // nothing else there, or the input wasn't reached, nothing else does stand there behind what stood there before.

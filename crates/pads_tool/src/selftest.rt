@@ -1,5 +1,6 @@
-ghost use Rattle.std.specs.Prelude.{◌≡◌, ◌≢◌, ◌^◌, ◌<◌, ◌≤◌, ℕ, List, Option, Some, IfErr, IfOk, length};
+ghost use Rattle.std.specs.Prelude.{◌≡◌, ◌≢◌, ◌^◌, ◌<◌, ◌≤◌, ℕ, Bool, List, Option, Some, IfErr, IfOk, length};
 ghost use Rattle.pads_module.specs.Modules.{contents};
+ghost use Rattle.pads_io.specs.Calls.{Writes};
 ghost use Rattle.pads_orders.specs.Orders.{KeepSettings};
 ghost use Rattle.pads_selftest.specs.Description.{description as description_text};
 ghost use Rattle.pads_selftest.specs.Records.{made};
@@ -164,6 +165,7 @@ pub(crate) fn selftest<R: Threads + Sync, K: Sink, G: Gate + Sync>(
         → Keeps (testing records settings.now)
         (seen content left left' (K.written out.old) (K.written out.new) noted noted')
         (counts files files' source source' (K.faults out.old) (K.faults out.new) notes notes') result }
+    ensures calls { (well : Bool) × Writes K.writes out.old out.new well }
     ensures out_kept { result ≢ ending.WriteFault → K.faults out.new ≡ K.faults out.old }
 {
     let reader = match test_reader(alloc, settings.coding) {

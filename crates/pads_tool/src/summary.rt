@@ -1,6 +1,7 @@
 ghost use Rattle.std.specs.Coded.{Coded-set, coded_list};
-ghost use Rattle.std.specs.Prelude.{◌≡◌, ◌≢◌, ℕ, [], List, Option, false, IfErr, IfOk, OnErr};
+ghost use Rattle.std.specs.Prelude.{◌≡◌, ◌≢◌, ℕ, [], Bool, List, Option, false, IfErr, IfOk, OnErr};
 ghost use Rattle.pads_accum.specs.States.{IsSummaryOf};
+ghost use Rattle.pads_io.specs.Calls.{CallsOfTwo, Reads, Writes};
 ghost use Rattle.pads_module.specs.Modules.{contents};
 ghost use Rattle.pads_orders.specs.Orders.{KeepSettings};
 ghost use Rattle.pads_plan.specs.Plans.{lists_of, most, size};
@@ -8,6 +9,7 @@ ghost use Rattle.pads_plan.specs.contracts.part.PlanList as plan_list;
 ghost use Rattle.pads_report.specs.Reports.{report_text};
 ghost use Rattle.pads_tool.specs.Describing.{described};
 ghost use Rattle.pads_tool.specs.Endings.{status_of};
+ghost use Rattle.pads_tool.specs.FileReads.{ReadsOnce};
 ghost use Rattle.pads_tool.specs.Promises.{Keeps, counts, seen, summarizing};
 ghost use Rattle.pads_tool.specs.Running.{IsBeforeInput};
 ghost use Rattle.pads_tool.specs.Summing.{HasNoSummary, SumsGive};
@@ -132,6 +134,7 @@ fn summed<R: Threads + Sync, S: Source, G: Gate + Sync>(
     requires unspent { summary.spent ≡ false }
     ensures gives { SumsGive (S.left source.new) (S.left source.old) (S.faults source.old) (S.faults source.new)
         (described (contents command.now.reader.module) settings.now.cutting) result }
+    ensures calls { Reads S.reads source.old source.new }
     ensures source_kept { IfErr result (λ stop. stop ≢ ending.ReadFault → stop ≢ ending.Memory → stop ≢ ending.Limit → S.faults source.new ≡ S.faults source.old) }
     ensures source_well { IfOk result (λ all. S.faults source.new ≡ S.faults source.old) }
 {
@@ -180,6 +183,7 @@ fn empty_summary(alloc: Global, made: &Module) -> Result<Summary, Ending>
 fn tell_report<K: Sink>(alloc: Global, summed: &Summed, top: u32, out: &mut K) -> Ending
     ensures tells { Tells (report_text top summed.now.summary.lists) summed.now.clean
         (K.written out.old) (K.written out.new) (K.faults out.old) (K.faults out.new) result }
+    ensures calls { (well : Bool) × Writes K.writes out.old out.new well }
     ensures kept { result ≢ ending.WriteFault → K.faults out.new ≡ K.faults out.old }
 {
     let Ok(text) = report(alloc, summed.summary.lists(), top) else {
@@ -206,6 +210,8 @@ pub(crate) fn summary<R: Threads + Sync, F: Files, S: Source, K: Sink, G: Gate +
         (counts (F.faults files.old) (F.faults files.new) (S.faults source.old) (S.faults source.new) (K.faults out.old) (K.faults out.new)
         notes notes') result }
     ensures untouched { IsBeforeInput (status_of result) → source.new ≡ source.old }
+    ensures reads { ReadsOnce F.reads name.now files.old files.new }
+    ensures calls { CallsOfTwo S.reads K.writes source.old out.old source.new out.new }
     ensures files_kept { result ≢ ending.FileFault → F.faults files.new ≡ F.faults files.old }
     ensures out_kept { result ≢ ending.WriteFault → K.faults out.new ≡ K.faults out.old }
     ensures source_kept { result ≢ ending.ReadFault → result ≢ ending.WriteFault → result ≢ ending.Memory → result ≢ ending.Limit

@@ -5,6 +5,7 @@ ghost use Rattle.pads_ast.specs.declared.decl.Ast.{Ast};
 ghost use Rattle.pads_describe.specs.Describing.{Describes};
 ghost use Rattle.pads_describe.specs.Trees.{IsAccepted};
 ghost use Rattle.pads_question.specs.Questions.{IsAsked};
+ghost use Rattle.pads_tool.specs.FileReads.{ReadsOnce};
 ghost use Rattle.pads_tool.specs.Images.{HasImage, IsReadIn, IsUnreadFor};
 ghost use Rattle.pads_orders.specs.Orders.{greatest_scan};
 ghost use Rattle.pads_tool.specs.Masking.{IsBounded, IsMaskFault, IsMaskedIn, IsReadUnder, IsRefusedUnder, bounded};
@@ -37,6 +38,7 @@ use std::alloc::Global;
 fn text_in<F: Files>(alloc: Global, files: &mut F, name: &str) -> Result<Bytes, Ending>
     ensures text { IfOk result (IsTextIn (F.content files.old name.now)) }
     ensures stops { IfErr result (StopsBefore (IsRefusedFor (F.content files.old name.now)) (F.faults files.old) (F.faults files.new)) }
+    ensures reads { ReadsOnce F.reads name.now files.old files.new }
     ensures kept { OnOk result (F.faults files.new ≡ F.faults files.old) }
     ensures untold { IfErr result (λ stop. stop ≢ ending.FileFault → F.faults files.new ≡ F.faults files.old) }
 {
@@ -58,6 +60,7 @@ pub(crate) fn accepted_in<F: Files>(
     ensures accepted { IfOk result (IsAcceptedIn (F.content files.old name.now)) }
     ensures small { IfOk result (λ count. (made : Contents) × IsReadIn (F.content files.old name.now) coding made) }
     ensures stops { IfErr result (StopsBefore (IsUnreadFor (F.content files.old name.now) coding) (F.faults files.old) (F.faults files.new)) }
+    ensures reads { ReadsOnce F.reads name.now files.old files.new }
     ensures kept { OnOk result (F.faults files.new ≡ F.faults files.old) }
     ensures untold { IfErr result (λ stop. stop ≢ ending.FileFault → F.faults files.new ≡ F.faults files.old) }
 {
@@ -96,6 +99,7 @@ fn described_in<F: Files>(
     ensures plain { IfOk result (λ made. Plain (contents made).decls) }
     ensures keeps_all { IfOk result (λ made. KeepsAll (contents made).decls) }
     ensures stops { IfErr result (StopsBefore (IsRefusedFor (F.content files.old name.now)) (F.faults files.old) (F.faults files.new)) }
+    ensures reads { ReadsOnce F.reads name.now files.old files.new }
     ensures kept { OnOk result (F.faults files.new ≡ F.faults files.old) }
     ensures untold { IfErr result (λ stop. stop ≢ ending.FileFault → F.faults files.new ≡ F.faults files.old) }
 {
@@ -118,6 +122,7 @@ pub(crate) fn read_in<F: Files>(
     ensures plain { IfOk result (λ reader. Plain (contents reader.module).decls) }
     ensures keeps_all { IfOk result (λ reader. KeepsAll (contents reader.module).decls) }
     ensures stops { IfErr result (StopsBefore (IsUnreadFor (F.content files.old name.now) coding) (F.faults files.old) (F.faults files.new)) }
+    ensures reads { ReadsOnce F.reads name.now files.old files.new }
     ensures kept { OnOk result (F.faults files.new ≡ F.faults files.old) }
     ensures untold { IfErr result (λ stop. stop ≢ ending.FileFault → F.faults files.new ≡ F.faults files.old) }
 {
@@ -160,6 +165,7 @@ fn masked_in<F: Files>(
 ) -> Result<Module, Ending>
     ensures masked { IfOk result (λ made. IsMaskedIn (F.content files.old name.now) coding mask.now (contents made)) }
     ensures stops { IfErr result (StopsBefore (IsRefusedUnder (F.content files.old name.now) coding mask.now) (F.faults files.old) (F.faults files.new)) }
+    ensures reads { ReadsOnce F.reads name.now files.old files.new }
     ensures kept { OnOk result (F.faults files.new ≡ F.faults files.old) }
     ensures untold { IfErr result (λ stop. stop ≢ ending.FileFault → F.faults files.new ≡ F.faults files.old) }
 {
@@ -182,6 +188,7 @@ pub(crate) fn read_under<F: Files>(
     requires scan { scan ≤ greatest_scan }
     ensures read { IfOk result (λ reader. IsBounded scan (λ whole. IsReadUnder (F.content files.old name.now) coding mask.now whole) (contents reader.module)) }
     ensures stops { IfErr result (StopsBefore (IsRefusedUnder (F.content files.old name.now) coding mask.now) (F.faults files.old) (F.faults files.new)) }
+    ensures reads { ReadsOnce F.reads name.now files.old files.new }
     ensures kept { OnOk result (F.faults files.new ≡ F.faults files.old) }
     ensures untold { IfErr result (λ stop. stop ≢ ending.FileFault → F.faults files.new ≡ F.faults files.old) }
 {
@@ -248,6 +255,7 @@ pub(crate) fn asked_in<F: Files>(
     ensures asked { IfOk result (λ answers. IsBounded scan (λ whole. IsAskedIn (F.content files.old asks.now.description) coding mask.now asks.now answers.asked whole × HasImage whole)
         (contents answers.reader.module)) }
     ensures stops { IfErr result (StopsBefore (IsUnaskedFor (F.content files.old asks.now.description) coding mask.now asks.now) (F.faults files.old) (F.faults files.new)) }
+    ensures reads { ReadsOnce F.reads asks.now.description files.old files.new }
     ensures kept { OnOk result (F.faults files.new ≡ F.faults files.old) }
     ensures untold { IfErr result (λ stop. stop ≢ ending.FileFault → F.faults files.new ≡ F.faults files.old) }
 {

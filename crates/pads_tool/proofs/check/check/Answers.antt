@@ -1,3 +1,5 @@
+use Rattle.std.proofs.Common.{true}
+use Rattle.pads_io.specs.Calls.{stays}
 use Rattle.pads_tool.proofs.Promises.{check-stopped}
 use Rattle.pads_tool.specs.Promises.{counts}
 use Rattle.pads_tool.proofs.check.check.Goals as goal
@@ -9,3 +11,6 @@ returns-in-Err-clause-gives g c = λ left left' noted noted' source source' note
     (counts (g.F.Files.faults c.args.files.now) (g.F.Files.faults c.accepted_in.new.files) source source'
     (g.K.Sink.faults c.args.out.now) (g.K.Sink.faults c.args.out.now) notes notes')
     c.in-Err.ending c.in-Err.ensures.stops
+
+pub returns-in-Err-clause-calls : goal.returns-in-Err-clause-calls
+returns-in-Err-clause-calls g c = (true, stays)

@@ -1,4 +1,5 @@
-use Rattle.std.proofs.Common.{refl, false, None}
+use Rattle.std.proofs.Common.{refl, true, false, None}
+use Rattle.pads_io.specs.Calls.{stays}
 use Rattle.pads_module.specs.Modules.{contents}
 use Rattle.pads_tool.specs.Describing.{described, lines}
 use Rattle.pads_tool.specs.Masking.{masking}
@@ -21,6 +22,8 @@ returns-in-Ok g c = record {
       (g.S.Source.faults c.args.source.now) (g.S.Source.faults c.write_lines.new.source)
       (g.K.Sink.faults c.args.out.now) (g.K.Sink.faults c.write_lines.new.out) 0 0
       c.write_lines.result (c.write_lines.ensures.gives None 0) before);
+  reads = c.in-Ok.ensures.reads;
+  calls = c.write_lines.ensures.calls;
   files_kept = λ other. c.in-Ok.ensures.kept;
   out_kept = c.write_lines.ensures.out_kept;
   source_kept = c.write_lines.ensures.source_kept;
@@ -33,6 +36,8 @@ returns-in-Err g c = record {
       (counts (g.F.Files.faults c.args.files.now) (g.F.Files.faults c.read_under.new.files) (g.S.Source.faults c.args.source.now) (g.S.Source.faults c.args.source.now)
       (g.K.Sink.faults c.args.out.now) (g.K.Sink.faults c.args.out.now) notes notes) c.in-Err.ending (masking-excludes c.args.settings.now.coding c.args.mask.now c.args.settings.now.scan) c.in-Err.ensures.stops;
   untouched = λ before. refl;
+  reads = c.in-Err.ensures.reads;
+  calls = (true, true, stays);
   files_kept = c.in-Err.ensures.untold;
   out_kept = λ other. refl;
   source_kept = λ reads writes wants. refl;

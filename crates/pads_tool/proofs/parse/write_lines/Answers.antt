@@ -1,5 +1,6 @@
 use denote.Param.Send.{sendable}
 use Rattle.std.proofs.Common.{refl}
+use Rattle.pads_io.proofs.Calls.{without-notes}
 use Rattle.pads_module.specs.Modules.{contents}
 use Rattle.pads_tool.specs.Describing.{described, lines}
 use Rattle.pads_tool.proofs.Records.{records-give, quiet-give, out-kept, source-kept}
@@ -16,6 +17,7 @@ returns g c = record {
       (g.K.Sink.written c.args.out.now) (g.K.Sink.written c.drive.new.out) _ _ (g.S.Source.faults c.args.source.now)
       (g.S.Source.faults c.drive.new.source) (g.K.Sink.faults c.args.out.now) (g.K.Sink.faults c.drive.new.out) _ _
       c.drive.result c.drive.ensures.gives c.drive.ensures.ahead c.drive.ensures.read_fault c.drive.ensures.cause) notes);
+  calls = let d = c.drive.ensures.calls in without-notes g.S.Source.reads g.K.Sink.writes _ _ _ _ _ _ _ d.0 d.1 d.2;
   out_kept = rw c.ending_of.ensures.ending
       (out-kept (g.K.Sink.faults c.args.out.now) (g.K.Sink.faults c.drive.new.out) _ _ _ c.drive.result c.drive.ensures.cause);
   source_kept = rw c.ending_of.ensures.ending

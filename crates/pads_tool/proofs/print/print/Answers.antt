@@ -1,4 +1,5 @@
 use Rattle.std.proofs.Common.{refl, true}
+use Rattle.pads_io.specs.Calls.{stays}
 use Rattle.pads_module.specs.Modules.{contents}
 use Rattle.pads_tool.specs.Describing.{described}
 use Rattle.pads_tool.specs.Masking.{describing}
@@ -35,6 +36,8 @@ returns-in-Ok g c = record {
       (g.S.Source.faults c.args.source.now) (g.S.Source.faults c.print_records.new.source) (g.K.Sink.faults c.args.out.now) (g.K.Sink.faults c.print_records.new.out)
       (g.E.Sink.faults c.args.notes.now) (g.E.Sink.faults c.print_records.new.notes)
       c.print_records.result c.print_records.ensures.gives before);
+  reads = c.in-Ok.ensures.reads;
+  calls = c.print_records.ensures.calls;
   files_kept = λ other. c.in-Ok.ensures.kept;
   out_kept = c.print_records.ensures.out_kept;
   notes_kept = c.print_records.ensures.notes_kept;
@@ -49,6 +52,8 @@ returns-in-Err g c = record {
       (g.K.Sink.faults c.args.out.now) (g.K.Sink.faults c.args.out.now) (g.E.Sink.faults c.args.notes.now) (g.E.Sink.faults c.args.notes.now)) c.in-Err.ending c.in-Err.ensures.stops;
   untouched = λ before. refl;
   quiet = λ before. refl;
+  reads = c.in-Err.ensures.reads;
+  calls = (true, true, stays);
   files_kept = c.in-Err.ensures.untold;
   out_kept = λ other. refl;
   notes_kept = λ other. refl;

@@ -14,6 +14,7 @@ returns g c = record {
       (g.S.Source.faults c.args.source.now) (g.S.Source.faults c.drive.new.source) (g.K.Sink.faults c.args.out.now) (g.K.Sink.faults c.drive.new.out)
       (g.E.Sink.faults c.args.notes.now) (g.E.Sink.faults c.drive.new.notes)
       c.drive.result c.drive.ensures.gives c.drive.ensures.ahead c.drive.ensures.read_fault c.drive.ensures.cause);
+  calls = let d = c.drive.ensures.calls in (d.0, d.1, d.2);
   out_kept = rw c.ending_of.ensures.ending
       (out-kept (g.K.Sink.faults c.args.out.now) (g.K.Sink.faults c.drive.new.out) _ _ _ c.drive.result c.drive.ensures.cause);
   notes_kept = rw c.ending_of.ensures.ending

@@ -1,4 +1,5 @@
-use Rattle.std.proofs.Common.{refl, false, None}
+use Rattle.std.proofs.Common.{refl, true, false, None}
+use Rattle.pads_io.specs.Calls.{stays}
 use Rattle.pads_module.specs.Modules.{contents}
 use Rattle.pads_tool.specs.Describing.{described}
 use Rattle.pads_tool.specs.Promises.{counts, seen}
@@ -30,6 +31,8 @@ returns-in-Ok g c =
           (g.S.Source.faults c.args.source.now) (g.S.Source.faults c.write_answers.new.source)
           (g.K.Sink.faults c.args.out.now) (g.K.Sink.faults c.write_answers.new.out) 0 0
           c.write_answers.result (c.write_answers.ensures.gives None 0) before);
+      reads = c.in-Ok.ensures.reads;
+      calls = c.write_answers.ensures.calls;
       files_kept = λ other. c.in-Ok.ensures.kept;
       out_kept = c.write_answers.ensures.out_kept;
       source_kept = c.write_answers.ensures.source_kept;
@@ -44,6 +47,8 @@ returns-in-Err g c = record {
       (g.K.Sink.faults c.args.out.now) (g.K.Sink.faults c.args.out.now) notes notes)
       c.in-Err.ending refl refl refl c.in-Err.ensures.stops;
   untouched = λ before. refl;
+  reads = c.in-Err.ensures.reads;
+  calls = (true, true, stays);
   files_kept = c.in-Err.ensures.untold;
   out_kept = λ other. refl;
   source_kept = λ reads writes wants. refl;

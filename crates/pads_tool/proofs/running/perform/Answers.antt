@@ -1,4 +1,5 @@
-use Rattle.std.proofs.Common.{rules}
+use Rattle.std.proofs.Common.{rules, true}
+use Rattle.pads_io.proofs.Calls.{out-writes, with-notes}
 use Rattle.pads_orders.specs.declared.order.Order.TheVariants as order
 use Rattle.pads_tool.specs.Promises.{counts, seen}
 use Rattle.pads_tool.proofs.Promises.{same-order-keeps}
@@ -62,3 +63,23 @@ returns-in-Query-clause-gives g c =
     (counts (g.F.Files.faults c.args.files.now) (g.F.Files.faults c.query.new.files) (g.S.Source.faults c.args.source.now) (g.S.Source.faults c.query.new.source)
     (g.K.Sink.faults c.args.out.now) (g.K.Sink.faults c.query.new.out) (g.E.Sink.faults c.args.notes.now) (g.E.Sink.faults c.args.notes.now))
     c.query.result (search rules) (c.query.ensures.gives (g.E.Sink.written c.args.notes.now) (g.E.Sink.faults c.args.notes.now))
+
+pub returns-in-Check-clause-calls : goal.returns-in-Check-clause-calls
+returns-in-Check-clause-calls g c =
+    let wrote = c.check.ensures.calls in (true, wrote.0, out-writes g.S.Source.reads g.K.Sink.writes g.E.Sink.writes true c.args.source.now c.args.notes.now wrote.1)
+
+pub returns-in-Selftest-clause-calls : goal.returns-in-Selftest-clause-calls
+returns-in-Selftest-clause-calls g c =
+    let wrote = c.selftest.ensures.calls in (true, wrote.0, out-writes g.S.Source.reads g.K.Sink.writes g.E.Sink.writes true c.args.source.now c.args.notes.now wrote.1)
+
+pub returns-in-Parse-clause-calls : goal.returns-in-Parse-clause-calls
+returns-in-Parse-clause-calls g c =
+    let did = c.parse.ensures.calls in (did.0, did.1, with-notes g.S.Source.reads g.K.Sink.writes g.E.Sink.writes c.args.notes.now did.2)
+
+pub returns-in-Summary-clause-calls : goal.returns-in-Summary-clause-calls
+returns-in-Summary-clause-calls g c =
+    let did = c.summary.ensures.calls in (did.0, did.1, with-notes g.S.Source.reads g.K.Sink.writes g.E.Sink.writes c.args.notes.now did.2)
+
+pub returns-in-Query-clause-calls : goal.returns-in-Query-clause-calls
+returns-in-Query-clause-calls g c =
+    let did = c.query.ensures.calls in (did.0, did.1, with-notes g.S.Source.reads g.K.Sink.writes g.E.Sink.writes c.args.notes.now did.2)

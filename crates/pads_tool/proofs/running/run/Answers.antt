@@ -266,3 +266,6 @@ returns-clause-out_told g c = λ other. c.obey-ending.ensures.out_kept (λ e. ot
 pub returns-clause-source_told : goal.returns-clause-source_told
 returns-clause-source_told g c = λ reads writes wants passes. c.obey-ending.ensures.source_kept (λ e. reads (c.close.ensures.status ∙ ap status_of e))
     (λ e. writes (c.close.ensures.status ∙ ap status_of e)) (λ e. wants (c.close.ensures.status ∙ ap status_of e)) (λ e. passes (c.close.ensures.status ∙ ap status_of e))
+
+pub returns-clause-calls : goal.returns-clause-calls
+returns-clause-calls g c = (c.obey-ending.new.notes, c.obey-ending.ensures.calls, c.close.ensures.calls.0, c.close.ensures.calls.1)

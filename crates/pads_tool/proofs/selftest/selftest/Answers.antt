@@ -1,4 +1,5 @@
-use Rattle.std.proofs.Common.{◌≡◌, ◌∙◌, ap, nat_eq, refl}
+use Rattle.std.proofs.Common.{◌≡◌, ◌∙◌, ap, nat_eq, refl, true}
+use Rattle.pads_io.specs.Calls.{stays}
 use Rattle.pads_module.specs.Modules.{contents}
 use Rattle.pads_tool.proofs.Promises.{test-stopped, test-told}
 use Rattle.pads_tool.proofs.Tested.{counted-clean}
@@ -25,3 +26,9 @@ returns-in-Ok-tested-clause-gives g c = λ content left left' noted noted' files
     test-told records c.args.settings.now (seen content left left' (g.K.Sink.written c.args.out.now) (g.K.Sink.written c.tell.new.out) noted noted')
     (counts files files' source source' (g.K.Sink.faults c.args.out.now) (g.K.Sink.faults c.tell.new.out) notes notes') (contents c.in-Ok.reader.module) c.tell.result c.in-Ok.ensures.read
     (rw (text, well) at c.tell.ensures.tells)
+
+pub returns-in-Err-clause-calls : goal.returns-in-Err-clause-calls
+returns-in-Err-clause-calls g c = (true, stays)
+
+pub returns-clause-calls : goal.returns-clause-calls
+returns-clause-calls g c = (true, stays)

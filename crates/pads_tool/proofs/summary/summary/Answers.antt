@@ -1,4 +1,6 @@
-use Rattle.std.proofs.Common.{refl}
+use Rattle.std.proofs.Common.{refl, true}
+use Rattle.pads_io.specs.Calls.{never, stays}
+use Rattle.pads_io.proofs.Calls.{many-trans, out-writes, with-sink}
 use Rattle.pads_module.specs.Modules.{contents}
 use Rattle.pads_tool.proofs.Summaries.{summary-ended, summary-none, summary-stopped, summary-told}
 use Rattle.pads_tool.proofs.Unread.{telling-reaches}
@@ -43,3 +45,22 @@ returns-in-Ok-summed-clause-gives g c = λ noted noted' notes notes'.
 
 pub returns-in-Ok-summed-clause-untouched : goal.returns-in-Ok-summed-clause-untouched
 returns-in-Ok-summed-clause-untouched g c = λ before. absurd (telling-reaches _ _ _ _ _ _ c.tell_report.result c.tell_report.ensures.tells before)
+
+pub returns-in-Err-clause-calls : goal.returns-in-Err-clause-calls
+returns-in-Err-clause-calls g c = (true, true, stays)
+
+pub returns-in-Err-empty_summary-clause-calls : goal.returns-in-Err-empty_summary-clause-calls
+returns-in-Err-empty_summary-clause-calls g c = (true, true, stays)
+
+pub returns-in-Err-empty_summary-2-clause-calls : goal.returns-in-Err-empty_summary-2-clause-calls
+returns-in-Err-empty_summary-2-clause-calls g c = (true, true, stays)
+
+pub returns-clause-calls : goal.returns-clause-calls
+returns-clause-calls g c =
+    let read = c.in-Err-summed.ensures.calls in (read.0, true, with-sink g.S.Source.reads g.K.Sink.writes c.args.out.now read.1)
+
+pub returns-in-Ok-summed-clause-calls : goal.returns-in-Ok-summed-clause-calls
+returns-in-Ok-summed-clause-calls g c =
+    let read = c.in-Ok-summed.ensures.calls in
+    let wrote = c.tell_report.ensures.calls in
+    (read.0, wrote.0, many-trans (with-sink g.S.Source.reads g.K.Sink.writes c.args.out.now read.1) (out-writes g.S.Source.reads g.K.Sink.writes never read.0 c.summed.new.source (tt {0}) wrote.1))

@@ -15,6 +15,7 @@ returns-in-Ok g c =
       plain = c.described_by.ensures.plain;
       keeps_all = c.described_by.ensures.keeps_all;
       stops = described-stops content c.args.coding c.in-Ok.text c.in-Ok.ensures.text before now r (rw c.as_slice.ensures.items at c.described_by.ensures.stops);
+      reads = c.in-Ok.ensures.reads;
       kept = stays-ok Module (now ≡ before) r c.in-Ok.ensures.kept;
       untold = stays-err Module (now ≡ before) r c.in-Ok.ensures.kept;
     }

@@ -15,6 +15,7 @@ returns-in-Ok g c =
     record {
       masked = masked-gives content c.args.coding c.args.mask.now m c.in-Ok.ensures.described r c.masked.ensures.masked;
       stops = masked-stops content c.args.coding c.args.mask.now m c.in-Ok.ensures.described before now r c.masked.ensures.stops;
+      reads = c.in-Ok.ensures.reads;
       kept = stays-ok Module (now ≡ before) r c.in-Ok.ensures.kept;
       untold = stays-err Module (now ≡ before) r c.in-Ok.ensures.kept;
     }
@@ -24,6 +25,7 @@ returns-in-Err g c = record {
   masked = tt;
   stops = unmasked-stop (g.F.Files.content c.args.files.now c.args.name.now) c.args.coding c.args.mask.now
       (g.F.Files.faults c.args.files.now) (g.F.Files.faults c.described_in.new.files) c.in-Err.ending c.in-Err.ensures.stops;
+  reads = c.in-Err.ensures.reads;
   kept = tt;
   untold = c.in-Err.ensures.untold;
 }

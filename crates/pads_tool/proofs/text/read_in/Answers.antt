@@ -21,6 +21,7 @@ returns-in-Ok g c =
       plain = by-reader (λ made. Plain made.decls) (bounded c.args.scan m) c.in-Ok.ensures.plain r c.bounded.ensures.made;
       keeps_all = by-reader (λ made. KeepsAll made.decls) (bounded c.args.scan m) c.in-Ok.ensures.keeps_all r c.bounded.ensures.made;
       stops = image-stops-before content c.args.coding m here before now r c.bounded.ensures.stops;
+      reads = c.in-Ok.ensures.reads;
       kept = stays-ok Reader (now ≡ before) r c.in-Ok.ensures.kept;
       untold = stays-err Reader (now ≡ before) r c.in-Ok.ensures.kept;
     }
@@ -32,6 +33,7 @@ returns-in-Err g c = record {
   keeps_all = tt;
   stops = undescribed-stop (g.F.Files.content c.args.files.now c.args.name.now) c.args.coding
       (g.F.Files.faults c.args.files.now) (g.F.Files.faults c.described_in.new.files) c.in-Err.ending c.in-Err.ensures.stops;
+  reads = c.in-Err.ensures.reads;
   kept = tt;
   untold = c.in-Err.ensures.untold;
 }

@@ -16,6 +16,7 @@ returns-in-Ok g c =
     record {
       read = read-gives content c.args.coding c.args.mask.now m here c.args.scan r c.bounded.ensures.made c.bounded.ensures.small;
       stops = unread-stops content c.args.coding c.args.mask.now m here before now r c.bounded.ensures.stops;
+      reads = c.in-Ok.ensures.reads;
       kept = stays-ok Reader (now ≡ before) r c.in-Ok.ensures.kept;
       untold = stays-err Reader (now ≡ before) r c.in-Ok.ensures.kept;
     }
