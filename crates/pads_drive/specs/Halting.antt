@@ -1,5 +1,5 @@
--- How far the reading was when it stopped, as where a write on a sink failed: which frames were done, which were at hand, and what came before
--- the last piece that was read.
+-- How far the reading was when it stopped, as where a write on a sink failed: which frames were done, which were at hand,
+-- and what came before the last piece that was read.
 use Rattle.std.specs.Prelude.{◌≡◌, ℕ, ◌+◌, ◌-◌, ◌^◌, ◌≤◌, min, Bool, false, Option, List, ◌++◌, length, map}
 use Rattle.std.specs.Io.KnownBytes.{Consumes}
 use Rattle.pads_drive.specs.Ahead.{IsBatch, weight}

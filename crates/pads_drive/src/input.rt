@@ -33,16 +33,17 @@ use std::thread::Threads;
 /// failed: the calls of the three objects come in such an order, and there are no others.
 ///
 /// The source is read in pieces of at most 4,096 bytes, and the frames that they complete are gathered
-/// into batches: one has at most 256 frames, and takes no more once they have 4,194,304 bytes. A full
-/// batch is written before more is read, and the rest as soon as the input has ended, failed, or
-/// proved too long.
+/// into batches: one has at most 256 frames, or 8,192 that several workers share, and takes no more once
+/// they have 4,194,304 bytes. A full batch is written before more is read, and the rest as soon as the
+/// input has ended, failed, or proved too long.
 ///
 /// `Ended` and `Stop` say what was written at each answer. `Ended::ReadFault` comes only where the
 /// source's count of failures rose, `Stop::Out` and `Stop::Notes` only where that sink's did, and
 /// `Ended::TooLong` only where the source tells more than 2^62 bytes. `Stop::Limit` comes where the
 /// tally can't count the rows of all records, and `Ended::Finished` only where it can. At each `Stop`,
 /// where no record of the input is too long or broken, the output of all records that the bytes read
-/// complete was written on both sinks, but for those in at most 2 `max` + 4,259,840 of the last bytes. What a source or sink doesn't tell, nothing is said of.
+/// complete was written on both sinks, but for those in at most 2 `max` + 4,259,840 of the last bytes.
+/// What a source or sink doesn't tell, nothing is said of.
 pub fn drive<R: Threads + Sync, C: Command, G: Gate + Sync, S: Source, K: Sink, E: Sink>(
     rt: &R,
     command: &C,
