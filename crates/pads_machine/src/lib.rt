@@ -4,6 +4,7 @@
 mod arrays;
 mod bindings;
 mod choices;
+mod literals;
 mod machine;
 mod misses;
 mod node;

@@ -90,7 +90,7 @@ impl Machine {
         ensures room { IfOk result (λ machine. machine ≡ image.now.need) }
     {
         Ok(Machine {
-            state: State::new(alloc, image.code.as_slice().len(), image.need as usize)?,
+            state: State::new(alloc, image.code.as_slice(), image.need as usize)?,
         })
     }
 

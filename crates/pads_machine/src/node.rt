@@ -45,8 +45,10 @@ impl Node {
         ensures values { OnOk result (self.new.values.items ≡ self.old.values.items ++ value ∷ []) }
         ensures pds { OnOk result (self.new.pds.items ≡ self.old.pds.items ++ pd ∷ []) }
     {
-        self.values.push(value)?;
-        self.pds.push(pd)?;
+        self.values.reserve(1)?;
+        self.pds.reserve(1)?;
+        self.values.push_reserved(value);
+        self.pds.push_reserved(pd);
         Ok(())
     }
 }

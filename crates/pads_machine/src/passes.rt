@@ -163,12 +163,13 @@ impl State {
     {
         let record = &program.record;
         let place = self.last.place;
-        let reading = record.base_in(alloc, base, args, self.seen(), place)?;
+        let reading = self.base_reading(alloc, record, base, args, place)?;
         self.put(alloc, record.origin, name, reading)?;
         Ok(Next::Goes)
     }
 
     /// One instruction, told as steps.
+    #[inline(always)]
     fn one(&mut self, alloc: Global, program: &Program, op: &Op) -> Result<Next, Memory>
         requires there { slice_get program.now.code.now self.old.address ≡ Some op.now }
         requires labels { labels_stand op.now ≡ true }
@@ -209,22 +210,24 @@ impl State {
         ensures roomy { Roomy self.old.room self.new }
     {
         match op {
-            Op::ScanFrom => match self.literal_here(alloc, program) {
-                Some(reading) => self.pass_literal(alloc, program, reading),
-                None => self.one(alloc, program, op),
-            },
-            Op::Base(base, args) => match self.part_here(program) {
-                Some(name) => self.pass_base(alloc, program, base, args.as_slice(), name),
-                None => self.one(alloc, program, op),
-            },
+            Op::ScanFrom => {
+                if let Some(reading) = self.literal_here(alloc, program) {
+                    return self.pass_literal(alloc, program, reading);
+                }
+            }
+            Op::Base(base, args) => {
+                if let Some(name) = self.part_here(program) {
+                    return self.pass_base(alloc, program, base, args.as_slice(), name);
+                }
+            }
             Op::Call(number, _) => {
                 if self.is_hopeless(alloc, program, *number) {
                     self.pass_branch(alloc, program, *number);
                     return Ok(Next::Goes);
                 }
-                self.one(alloc, program, op)
             }
-            _ => self.one(alloc, program, op),
+            _ => {}
         }
+        self.one(alloc, program, op)
     }
 }

@@ -9,11 +9,12 @@ ghost use Rattle.pads_machine.specs.Ran.{GoesWithin, opens};
 ghost use Rattle.pads_machine.specs.Shown.{below, caller_shown, shown};
 
 use crate::bindings::{bind, hold, take_back};
+use crate::literals::Literals;
 use crate::node::{Caller, Mark, Node, keep_latest};
 use pads_calc::Reading;
 use pads_dispatch::Args;
 use pads_expr::Binding;
-use pads_image::Entry;
+use pads_image::{Entry, Op};
 use pads_value::{Items, Memory, Val};
 use std::alloc::Global;
 use std::mem;
@@ -38,6 +39,8 @@ pub(crate) struct State {
     /// For each address how many parts the struct had that began there, as far as one was closed: room for
     /// so many is made at once. It changes nothing that is read.
     pub(crate) parts: Vec<u16>,
+    /// Arguments that base types have in the code, so that they aren't made anew at each reading.
+    pub(crate) literals: Literals,
 }
 
 /// An empty list, with room for so many items where there is memory for that.
@@ -51,8 +54,8 @@ fn with_room<T: Drop>(alloc: Global, room: usize) -> Vec<T>
 }
 
 impl State {
-    /// Nothing was read yet, by code of so many instructions. Each stack takes so many entries.
-    pub(crate) fn new(alloc: Global, instructions: usize, room: usize) -> Result<State, Memory>
+    /// Nothing was read yet, by this code. Each stack takes so many entries.
+    pub(crate) fn new(alloc: Global, code: &[Op], room: usize) -> Result<State, Memory>
         ensures roomy { IfOk result (λ m. Roomy room m) }
     {
         Ok(State {
@@ -65,7 +68,8 @@ impl State {
             nodes: Vec::with_capacity(alloc, room)?,
             marks: Vec::with_capacity(alloc, room)?,
             callers: Vec::with_capacity(alloc, room)?,
-            parts: Vec::from_elem(alloc, 0, instructions)?,
+            parts: Vec::from_elem(alloc, 0, code.len())?,
+            literals: Literals::of(alloc, code)?,
         })
     }
 
@@ -209,6 +213,7 @@ impl State {
     }
 
     /// Keeps a reading as the next part of the latest struct, and binds a named part's value.
+    #[inline(always)]
     fn keep(&mut self, name: Option<u16>, reading: Reading) -> Result<(), Memory>
         requires some { 0 < length self.old.nodes.items }
         requires room { bindings_of name + length self.old.bindings.items ≤ self.old.room }
@@ -336,6 +341,9 @@ impl State {
         ensures held { Held self.new }
         ensures roomy { Roomy self.old.room self.new }
     {
+        if self.bindings.len() <= base {
+            return;
+        }
         match self.nodes.pop() {
             None => {
                 self.bindings.truncate(base);

@@ -8,6 +8,7 @@ ghost use Rattle.pads_steps.specs.Records.{subject_of};
 ghost use Rattle.pads_image.specs.Answers.{HaltsWith};
 ghost use Rattle.pads_calc.specs.Arguments.{arguments as arguments_of};
 ghost use Rattle.pads_calc.specs.Leaves.{base_of, compute_of};
+ghost use Rattle.pads_calc.specs.Places.{EndsWithin};
 ghost use Rattle.pads_calc.specs.Readings.{fails};
 ghost use Rattle.pads_calc.specs.Wrappers.{absorb_of, guard_of};
 ghost use Rattle.pads_dispatch.specs.Labels.{labels_fit};
@@ -26,7 +27,7 @@ use pads_calc::{Base, ComputedForm, Reading};
 use pads_expr::Expr;
 use pads_image::{Entry, Op};
 use pads_steps::{Record, arguments_in, guarded_in};
-use pads_value::{Cause, Memory};
+use pads_value::{Cause, Memory, Val};
 use std::alloc::Global;
 
 /// What came of an instruction.
@@ -70,6 +71,26 @@ impl State {
         self.read(Reading::fails(alloc, origin, cause, place));
     }
 
+    /// What a base type reads as with its arguments.
+    pub(crate) fn base_reading(
+        &self,
+        alloc: Global,
+        from: &Record,
+        base: &Base,
+        args: &[Expr],
+        place: u64,
+    ) -> Result<Reading, Memory>
+        requires labels { labels_fit base.now ≡ true }
+        requires place { place ≤ length from.now.bytes.now }
+        ensures base { IfOk result (λ r. r ≡ base_of (subject_of from.now) base.now (arguments_of args.now (seen (shown self.now))) place) }
+        ensures within { IfOk result (λ r. EndsWithin from.now.bytes.now place r) }
+    {
+        match self.literals.of_args(self.address, args) {
+            Some(args) => from.base_with(alloc, base, args, place),
+            None => from.base_in(alloc, base, args, self.seen(), place),
+        }
+    }
+
     /// Reads a base type with its arguments.
     fn base_type(
         &mut self,
@@ -90,7 +111,7 @@ impl State {
         ensures roomy { Roomy self.old.room self.new }
     {
         let place = self.last.place;
-        let reading = from.base_in(alloc, base, args, self.seen(), place)?;
+        let reading = self.base_reading(alloc, from, base, args, place)?;
         self.read(reading);
         Ok(())
     }
@@ -120,10 +141,8 @@ impl State {
     }
 
     /// Drops the value that was read.
-    fn absorb(&mut self, alloc: Global, origin: u64)
-        requires origin { origin ≤ 2 ^ 62 }
+    fn absorb(&mut self)
         requires address { self.old.address < 2 ^ 32 }
-        requires place { self.old.last.place ≤ 2 ^ 62 }
         requires roomy { Roomy self.old.room self.old }
         requires held { Held self.old }
         ensures absorb { reads (absorb_of self.old.last) (shown self.old) ≡ Goes (shown self.new) }
@@ -131,8 +150,12 @@ impl State {
         ensures held { Held self.new }
         ensures roomy { Roomy self.old.room self.new }
     {
-        let reading = self.take_last(alloc, origin);
-        self.read(reading.absorbed());
+        self.last.value = if self.last.is_ok() {
+            Val::Unit
+        } else {
+            Val::Missing
+        };
+        self.address += 1;
     }
 
     /// Constrains the value that was read, by its name in the condition.
@@ -229,7 +252,7 @@ impl State {
             Op::Eor => self.read(from.end(alloc, place)),
             Op::Base(base, args) => self.base_type(alloc, from, base, args.as_slice())?,
             Op::Compute(e, form) => self.compute(alloc, from, e, form)?,
-            Op::Absorb => self.absorb(alloc, from.origin),
+            Op::Absorb => self.absorb(),
             Op::Guard(binder, condition) => self.guard(alloc, from.origin, *binder, condition),
             _ => unreachable!(),
         }
@@ -265,6 +288,7 @@ impl State {
     }
 
     /// One instruction.
+    #[inline(always)]
     pub(crate) fn step(&mut self, alloc: Global, program: &Program, op: &Op) -> Result<Next, Memory>
         requires labels { labels_stand op.now ≡ true }
         requires address { self.old.address < 2 ^ 32 }

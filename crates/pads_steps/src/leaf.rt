@@ -1,5 +1,5 @@
 //! The terms without a term in them, read at a place of a record.
-ghost use Rattle.std.specs.Prelude.{◌≡◌, ◌≤◌, ◌+◌, true, length, drop, reverse, IfOk};
+ghost use Rattle.std.specs.Prelude.{◌≡◌, ◌≤◌, ◌+◌, true, length, drop, reverse, IfOk, Some};
 ghost use Rattle.std.specs.Option.{option_map};
 ghost use Rattle.pads_calc.specs.Leaves.{unit_of, lit_of, eor_of, at_end, base_node, base_of, computed_told, compute_of};
 ghost use Rattle.pads_calc.specs.Arguments.{arguments as arguments_of};
@@ -93,6 +93,23 @@ impl<'a> Record<'a> {
         }
     }
 
+    /// A base type with its arguments.
+    pub fn base_with(
+        &self,
+        alloc: Global,
+        base: &Base,
+        args: &Args,
+        place: u64,
+    ) -> Result<Reading, Memory>
+        requires labels { labels_fit base.now ≡ true }
+        requires place { place ≤ length self.now.bytes.now }
+        ensures base { IfOk result (λ r. r ≡ base_of (subject_of self.now) base.now (Some args.now) place) }
+        ensures within { IfOk result (λ r. EndsWithin self.now.bytes.now place r) }
+    {
+        let read = read_base(alloc, base, args, self.rest(place))?;
+        Ok(self.node_of(alloc, read, place))
+    }
+
     /// A base type, where all of its arguments have a value.
     fn base_at(
         &self,
@@ -107,10 +124,7 @@ impl<'a> Record<'a> {
         ensures within { IfOk result (λ r. EndsWithin self.now.bytes.now place r) }
     {
         match args {
-            Some(args) => {
-                let read = read_base(alloc, base, &args, self.rest(place))?;
-                Ok(self.node_of(alloc, read, place))
-            }
+            Some(args) => self.base_with(alloc, base, &args, place),
             None => Ok(Reading::fails(alloc, self.origin, Cause::BadParam, place)),
         }
     }

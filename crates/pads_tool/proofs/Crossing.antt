@@ -19,6 +19,7 @@ use Rattle.pads_calc.proofs.term.ComputedForm.TheSendSync as form
 use Rattle.pads_calc.proofs.term.Key.TheSendSync as key
 use Rattle.pads_calc.proofs.term.Term.TheLaws.TheKnot as ring
 use Rattle.pads_calc.specs.contracts.decl.Decl as Decl
+use Rattle.pads_dispatch.proofs.base.Arg.TheSendSync as argument
 use Rattle.pads_dispatch.proofs.base.Base.TheSendSync as base
 use Rattle.pads_erase.proofs.skeleton.Skeleton.TheLaws.TheKnot as skeleton
 use Rattle.pads_expr.proofs.expr.Expr.TheLaws.TheKnot as expr
@@ -35,7 +36,7 @@ use Rattle.pads_tool.specs.contracts.selftest.Tests as Tests
 use Rattle.pads_tool.specs.contracts.summary.Sums as Sums
 
 pub machine_send : IsSend Machine.the_row
-machine_send = search (cause.the_field_send, option.the_field_send, val.crosses, pd.crosses, crosses, sendable) depth 60 fits 20000
+machine_send = search (items.the_send, argument.the_send, cause.the_field_send, option.the_field_send, val.crosses, pd.crosses, crosses, sendable) depth 60 fits 20000
 
 decl_sync : IsSync Decl.the_row
 decl_sync = search (items.the_sync, base.the_sync, key.the_sync, form.the_sync, crosses, expr.crosses, ring.crosses, sendable) depth 60 fits 20000

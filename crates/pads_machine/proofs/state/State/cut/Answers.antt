@@ -72,3 +72,12 @@ returns-in-Some-clause-held c =
       sound = cut-held (reverse m.marks.items) m.address m.depth m.last bs hs cs base bs' hs' c.take_back.ensures.bindings c.take_back.ensures.homes n k rest ns' refl c.take_back.ensures.values less each ns_are sound;
       deep = c.requires.held.deep;
     }
+
+-- no binding is above it
+pub returns-then-len-base-clause-cut : goal.returns-then-len-base-clause-cut
+returns-then-len-base-clause-cut c =
+    let m = c.args.self.now in
+    let bs = reverse m.bindings.items in
+    let hs = reverse m.homes.items in
+    let none : 0 ≡ length bs - c.args.base = omega (arith, length-reverse m.bindings.items, m.bindings.ok.0, c.len.ensures, c.if-len-base.true) in
+    ap (λ n. record (shows (reverse m.marks.items) m.address m.last m.depth bs hs (reverse m.nodes.items) (reverse m.callers.items)) { bindings = drop n bs }) none

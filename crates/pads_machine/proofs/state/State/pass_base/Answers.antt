@@ -1,7 +1,3 @@
-use Rattle.std.proofs.Common.{◌∙◌, ap}
-use Rattle.pads_expr.specs.Value.{Pairs}
-use Rattle.pads_calc.specs.Arguments.{arguments}
-use Rattle.pads_calc.specs.Leaves.{base_of}
 use Rattle.pads_steps.specs.Records.{subject_of}
 use Rattle.pads_machine.specs.Shown.{shown}
 use Rattle.pads_machine.proofs.Passing.{base-leads}
@@ -16,6 +12,5 @@ returns-clause-advance c =
     let base = c.args.base.now in
     let args = c.args.args.now in
     let r = c.in_ok-reading.reading in
-    let read = c.in_ok-reading.ensures.base ∙ ap (λ (env : Pairs). base_of subject base (arguments args env) s.last.place) c.seen.ensures.seen in
-    base-leads program.code.now program.entries.now subject m.room s base args c.args.name (shown c.put.new.self) r c.requires.there c.requires.part c.requires.within read
-    c.in_ok-put.ensures.put
+    base-leads program.code.now program.entries.now subject m.room s base args c.args.name (shown c.put.new.self) r c.requires.there c.requires.part c.requires.within
+    c.in_ok-reading.ensures.base c.in_ok-put.ensures.put
