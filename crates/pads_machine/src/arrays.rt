@@ -16,6 +16,17 @@ use pads_value::{Cause, Class, Items, Memory};
 use std::alloc::Global;
 use std::mem;
 
+/// A list whose room is given back where it isn't half full.
+fn fitting<T: Drop>(list: Vec<T>) -> Items<T>
+    ensures same { result ≡ list.items }
+{
+    let mut list = list;
+    if list.len() <= list.capacity() / 2 {
+        list.shrink_to_fit();
+    }
+    Items::from_vec(list)
+}
+
 impl State {
     /// The struct or the array that was begun last.
     pub(crate) fn node(&self) -> &Node
@@ -287,8 +298,8 @@ impl State {
             own,
         } = node;
         let elements = Run {
-            values: Items::from_vec(values),
-            pds: Items::from_vec(pds),
+            values: fitting(values),
+            pds: fitting(pds),
             place: self.last.place,
         };
         self.last = elements.into_array(origin, own, begin);

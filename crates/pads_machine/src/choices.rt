@@ -1,5 +1,5 @@
 //! Unions: places to come back to, branches and cases.
-ghost use Rattle.std.specs.Prelude.{◌≡◌, ◌≤◌, ◌<◌, ◌^◌, length, map, reverse, slice_get, Some, IfOk, OnOk};
+ghost use Rattle.std.specs.Prelude.{◌≡◌, ◌≤◌, ◌<◌, ◌^◌, ◌∷◌, [], length, map, reverse, slice_get, Some, IfOk, OnOk};
 ghost use Rattle.pads_calc.specs.Arguments.{argument};
 ghost use Rattle.pads_calc.specs.Choices.{branch_of, chosen};
 ghost use Rattle.pads_calc.specs.Readings.{fails};
@@ -15,7 +15,7 @@ use pads_calc::Reading;
 use pads_expr::Expr;
 use pads_image::Target;
 use pads_steps::{Record, chosen_in};
-use pads_value::{Boxed, Cause, Items, Memory, Pd, Span, Val};
+use pads_value::{Boxed, Cause, Items, Memory, Pd, Pds, Span, Val};
 use std::alloc::Global;
 
 impl State {
@@ -175,6 +175,15 @@ impl State {
     }
 }
 
+/// One descriptor, in a list with room for just it.
+fn one(alloc: Global, pd: Pd) -> Result<Pds, Memory>
+    ensures one { IfOk result (λ kids. kids ≡ pd ∷ []) }
+{
+    let mut kids = Vec::with_capacity(alloc, 1)?;
+    kids.push_reserved(pd);
+    Ok(Items::from_vec(kids))
+}
+
 /// A reading as a branch that begins where it begins.
 fn branch_over(alloc: Global, origin: u64, number: u16, reading: Reading) -> Result<Reading, Memory>
     requires origin { origin ≤ 2 ^ 62 }
@@ -187,8 +196,7 @@ fn branch_over(alloc: Global, origin: u64, number: u16, reading: Reading) -> Res
         end: origin + place,
     };
     let value = Val::Branch(number, Boxed::new(alloc, value)?);
-    let mut kids = Items::new(alloc);
-    kids.push(pd)?;
+    let kids = one(alloc, pd)?;
     Ok(Reading {
         value,
         pd: Pd::of(None, span, kids),
