@@ -70,7 +70,7 @@ def faults_of(description, data, options, counts):
         counts["bad"] += 1
         for fault in row["faults"]:
             print(f"{data.name}{place(row, fault, lines)}: {fault['at']} {fault['cause']} {at(fault, row, data, coding)}")
-            counts[re.sub(r"\[\d+\]", "[]", fault["at"]), fault["cause"]] += 1
+            counts[re.sub(r"\[\d+\]", "[*]", fault["at"]), fault["cause"]] += 1
     if run.status > runs.DIRTY:
         runs.told(run, description)
     return run.status

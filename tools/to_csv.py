@@ -3,7 +3,7 @@
 
 Reads records from standard input by the description in the file DESC, and writes these fields of each clean record
 as CSV (RFC 4180, lines ended by a newline) below a line of their names. A field is the way to it from the record, as
-`request.meth`, `events[0].tstamp`; `.` is the whole value. What isn't there is empty; what is or holds one scalar, as
+`request.meth`, `events[0].tstamp`, with `$.` before it or without; `.` and `$` are the whole value. What isn't there is empty; what is or holds one scalar, as
 an optional or a union does, is that; another struct or an array is its JSON. Clean records that have none of the
 fields, such as headers and comments, are left out. Records that aren't clean are left out too, and counted on standard
 error; with --all they are written as well, what is missing in them empty. Three fields come from the line and not from
@@ -21,11 +21,15 @@ OF_LINE = {"@record": lambda row: row["record"], "@offset": lambda row: row["spa
 ABSENT = object()
 
 
+class WrongField(Exception):
+    """A word that names no field."""
+
+
 def steps(field):
     """The steps to a field: names and numbers."""
-    if not re.fullmatch(r"\.|@\w+|(\w+|\[\d+\])(\.\w+|\[\d+\])*", field):
-        sys.exit(f"pads: csv: no way to a field: {field}")
-    return [int(number) if number else name for name, number in re.findall(r"(\w+)|\[(\d+)\]", field.lstrip("."))] \
+    if not re.fullmatch(r"\.|\$|@\w+|(\$\.?)?(\w+|\[\d+\])(\.\w+|\[\d+\])*", field):
+        raise WrongField(f"{field} isn't a field, such as request.uri or events[0]; records are read from standard input")
+    return [int(number) if number else name for name, number in re.findall(r"(\w+)|\[(\d+)\]", field.lstrip("$."))] \
         if not field.startswith("@") else []
 
 
@@ -61,7 +65,7 @@ def columns(fields):
     found = []
     for field in fields:
         if field.startswith("@") and field not in OF_LINE:
-            sys.exit(f"pads: csv: no field of a line: {field} (there are {' '.join(OF_LINE)})")
+            raise WrongField(f"there is no field {field}, only {' '.join(OF_LINE)}")
         way = steps(field)
         found.append(OF_LINE.get(field) or (lambda row, way=way: reached(row["value"], way)))
     return found
@@ -73,7 +77,12 @@ def main(words):
         return runs.usage(__doc__, options)
     description, *fields = names
     every, options = "--all" in options, [word for word in options if word != "--all"]
-    ways, met, left, count = columns(fields), [False] * len(fields), 0, 0
+    try:
+        ways = columns(fields)
+    except WrongField as wrong:
+        print(f"pads: csv: {wrong}", file=sys.stderr)
+        return 2
+    met, left, count = [False] * len(fields), 0, 0
     coding = "utf-8" if runs.option(options, "coding", "ascii") == "ebcdic" else "latin-1"
     out = sys.stdout.buffer
     run = runs.Run(description, options, sys.stdin.buffer)
