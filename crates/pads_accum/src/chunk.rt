@@ -52,6 +52,7 @@ impl Chunk {
         requires plans { later.plan ≡ self.old.plan }
         ensures merged { OnOk result ((rows more : List RowOf) → IsChunkOf self.old rows → IsChunkOf later more → IsChunkOf self.new (rows ++ more)) }
         ensures within { OnOk result (merge_limit self.old.lists later.lists ≡ None) }
+        ensures memory { is_memory result ≡ true → merge_limit self.old.lists later.lists ≡ None }
         ensures limit { OnFault result (λ limit. merge_limit self.old.lists later.lists ≡ Some limit) }
         ensures unchanged { OnFault result (λ limit. self.new ≡ self.old) }
         ensures plan { self.new.plan ≡ self.old.plan }

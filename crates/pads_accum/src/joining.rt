@@ -20,6 +20,7 @@ impl Sums {
         requires later_unspent { later.spent ≡ false }
         ensures merged { OnOk result ((rows more : List RowOf) → self.old.lists ≡ summed self.old.room (map plan_of self.old.guides) rows → later.lists ≡ summed None (map plan_of self.old.guides) more → self.new.lists ≡ summed self.old.room (map plan_of self.old.guides) (rows ++ more)) }
         ensures within { OnOk result (merge_limit self.old.lists later.lists ≡ None) }
+        ensures memory { is_memory result ≡ true → merge_limit self.old.lists later.lists ≡ None }
         ensures limit { OnFault result (λ limit. merge_limit self.old.lists later.lists ≡ Some limit) }
         ensures unchanged { OnFault result (λ limit. self.new.lists ≡ self.old.lists) }
         ensures guides { self.new.guides ≡ self.old.guides }

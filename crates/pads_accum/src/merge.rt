@@ -122,6 +122,7 @@ pub(crate) fn merge_all(
     ensures within { IfOk result (λ next. lists_within next lists.new ≡ true) }
     ensures limit { OnFault result (λ limit. merge_limit lists.old later ≡ Some limit) }
     ensures unchanged { OnFault result (λ limit. lists.new ≡ lists.old) }
+    ensures memory { is_memory result ≡ true → merge_limit lists.old later ≡ None }
 {
     match merged_bound(bound, later_bound, lists.as_slice(), later.as_slice()) {
         Err(limit) => Err(Refusal::Fault(limit)),

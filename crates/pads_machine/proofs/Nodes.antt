@@ -11,7 +11,7 @@ use Rattle.pads_image.specs.States as states
 use Rattle.pads_image.specs.Steps.{new_node, with_reading}
 use Rattle.pads_machine.specs.declared.node.Node.{Node}
 use Rattle.pads_machine.specs.Held.{AreHomes, AreSound}
-use Rattle.pads_machine.specs.Shown.{Homes, KeptLatest, above, below, home_of, put_back, stand_in, node_shown, nodes_shown}
+use Rattle.pads_machine.specs.Shown.{Homes, above, below, home_of, put_back, stand_in, node_shown, nodes_shown}
 use Rattle.pads_machine.proofs.Homes.{above-all, below-all, part-held, below-bind, below-home, held-homes, home-more, back-split, back-length, below-below, left-homes}
 
 -- what a node shows, with these values and descriptors
@@ -122,17 +122,3 @@ last-set [] i x size = absurd (omega (arith, size))
 last-set (y ∷ []) zero x size = refl
 last-set (y ∷ z ∷ xs) zero x size = absurd (omega (arith, size))
 last-set (y ∷ xs) (suc i) x size = ap (λ xs. y ∷ xs) (last-set xs i x (omega (arith, size)))
-
--- the latest node has another one in its place, with one more part
-pub latest-kept : (xs ys : List Node) (i : ℕ) (n k : Node) (value : Val) (pd : Pd) → length xs ≡ i + 1 → n ≡ get_or xs i n → ys ≡ slice_set xs i k
-    → IsFilled n k → k.values.items ≡ n.values.items ++ value ∷ [] → k.pds.items ≡ n.pds.items ++ pd ∷ [] → KeptLatest xs ys value pd
-latest-kept xs ys i n k value pd size there set filled values pds = record {
-  before = take i xs;
-  node = n;
-  kept = k;
-  nodes_are = last-is xs i n size there;
-  left_are = set ∙ last-set xs i k size;
-  filled = filled;
-  values = values;
-  pds = pds;
-}

@@ -110,14 +110,3 @@ pub record TakenOne (bindings : Pairs) (homes : Homes) (values : List Val) (bind
   pub bindings_are : bindings ≡ bindings_left ++ binding ∷ []
   pub homes_are : homes ≡ homes_left ++ home ∷ []
   pub values_are : values_left ≡ put_home home binding.1 values
-
--- the latest struct or array keeps one more part; structs and arrays as they are stored, the latest last
-pub record KeptLatest (nodes nodes_left : List Node) (value : Val) (pd : Pd) : Type 0 where
-  pub before : List Node
-  pub node : Node
-  pub kept : Node
-  pub nodes_are : nodes ≡ before ++ node ∷ []
-  pub left_are : nodes_left ≡ before ++ kept ∷ []
-  pub filled : kept ≡ record node { values = kept.values; pds = kept.pds }
-  pub values : kept.values.items ≡ node.values.items ++ value ∷ []
-  pub pds : kept.pds.items ≡ node.pds.items ++ pd ∷ []

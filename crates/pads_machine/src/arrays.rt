@@ -16,12 +16,12 @@ use pads_value::{Cause, Class, Items, Memory};
 use std::alloc::Global;
 use std::mem;
 
-/// A list whose room is given back where it isn't half full.
+/// A list whose room is given back where three quarters of it are free.
 fn fitting<T: Drop>(list: Vec<T>) -> Items<T>
     ensures same { result ≡ list.items }
 {
     let mut list = list;
-    if list.len() <= list.capacity() / 2 {
+    if list.len() <= list.capacity() / 4 {
         list.shrink_to_fit();
     }
     Items::from_vec(list)

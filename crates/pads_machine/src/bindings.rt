@@ -55,33 +55,6 @@ pub(crate) fn bind(
     }
 }
 
-/// Binds the value of a named part, whose home is this part of its struct, and gives what stands for it
-/// there.
-pub(crate) fn hold(
-    bindings: &mut Vec<Binding>,
-    homes: &mut Vec<Option<usize>>,
-    name: Option<u16>,
-    value: Val,
-    home: usize,
-) -> Val
-    requires bindings_room { bindings_of name + vec_len bindings.old ≤ vec_capacity bindings.old }
-    requires homes_room { bindings_of name + vec_len homes.old ≤ vec_capacity homes.old }
-    ensures held { result ≡ stand_in name value }
-    ensures bindings { reverse bindings.new.items ≡ bound name value (reverse bindings.old.items) }
-    ensures homes { reverse homes.new.items ≡ home_of name home (reverse homes.old.items) }
-    ensures bindings_kept { vec_capacity bindings.new ≡ vec_capacity bindings.old }
-    ensures homes_kept { vec_capacity homes.new ≡ vec_capacity homes.old }
-{
-    match name {
-        None => value,
-        Some(name) => {
-            bindings.push_reserved((name, value));
-            homes.push_reserved(Some(home));
-            Val::Missing
-        }
-    }
-}
-
 /// Puts a value at its home, if it has one.
 #[tactic(auto, using(std::proofs::lemmas::List::set_past))]
 fn put(values: &mut Vec<Val>, home: Option<usize>, value: Val)

@@ -1,7 +1,14 @@
-ghost use Rattle.std.specs.Prelude.{◌≡◌, ◌<◌, ◌∷◌, ◌++◌, [], OnOk, vec_capacity, vec_len};
-ghost use Rattle.pads_machine.specs.Shown.{KeptLatest};
+ghost use Rattle.std.specs.Prelude.{◌≡◌, ◌+◌, ◌<◌, ◌≤◌, ◌^◌, ◌∷◌, ◌++◌, [], OnOk, length, reverse, vec_capacity, vec_len};
+ghost use Rattle.pads_calc.specs.Leaves.{unit_of};
+ghost use Rattle.pads_calc.specs.Structs.{bind as bound};
+ghost use Rattle.pads_image.specs.Blocks.{bindings_of};
+ghost use Rattle.pads_machine.specs.Shown.{home_of, stand_in};
 
+use pads_calc::Reading;
+use pads_expr::Binding;
 use pads_value::{Cause, Memory, Pd, Val};
+use std::alloc::Global;
+use std::mem;
 
 /// A struct or an array that is open.
 #[derive(Drop)]
@@ -39,27 +46,44 @@ pub(crate) struct Caller {
 }
 
 impl Node {
-    /// Keeps one more part or element.
-    fn keep(&mut self, value: Val, pd: Pd) -> Result<(), Memory>
+    /// Keeps what was read as one more part or element, binds its value where it has a name, and leaves nothing
+    /// read at the same place.
+    pub(crate) fn keep(
+        &mut self,
+        alloc: Global,
+        origin: u64,
+        name: Option<u16>,
+        last: &mut Reading,
+        bindings: &mut Vec<Binding>,
+        homes: &mut Vec<Option<usize>>,
+    ) -> Result<(), Memory>
+        requires origin { origin ≤ 2 ^ 62 }
+        requires place { last.old.place ≤ 2 ^ 62 }
+        requires bindings_room { bindings_of name + vec_len bindings.old ≤ vec_capacity bindings.old }
+        requires homes_room { bindings_of name + vec_len homes.old ≤ vec_capacity homes.old }
         ensures filled { OnOk result (self.new ≡ record self.old { values = self.new.values; pds = self.new.pds }) }
-        ensures values { OnOk result (self.new.values.items ≡ self.old.values.items ++ value ∷ []) }
-        ensures pds { OnOk result (self.new.pds.items ≡ self.old.pds.items ++ pd ∷ []) }
+        ensures values { OnOk result (self.new.values.items ≡ self.old.values.items ++ stand_in name last.old.value ∷ []) }
+        ensures pds { OnOk result (self.new.pds.items ≡ self.old.pds.items ++ last.old.pd ∷ []) }
+        ensures bindings { OnOk result (reverse bindings.new.items ≡ bound name last.old.value (reverse bindings.old.items)) }
+        ensures homes { OnOk result (reverse homes.new.items ≡ home_of name (length self.old.values.items) (reverse homes.old.items)) }
+        ensures bindings_kept { vec_capacity bindings.new ≡ vec_capacity bindings.old }
+        ensures homes_kept { vec_capacity homes.new ≡ vec_capacity homes.old }
+        ensures last { OnOk result (last.new ≡ unit_of origin last.old.place) }
     {
         self.values.reserve(1)?;
         self.pds.reserve(1)?;
-        self.values.push_reserved(value);
+        let place = last.place;
+        let unit = Reading::leaf(alloc, origin, Val::Unit, place, place);
+        let Reading { value, pd, place: _ } = mem::replace(last, unit);
+        match name {
+            None => self.values.push_reserved(value),
+            Some(name) => {
+                homes.push_reserved(Some(self.values.len()));
+                bindings.push_reserved((name, value));
+                self.values.push_reserved(Val::Missing);
+            }
+        }
         self.pds.push_reserved(pd);
         Ok(())
     }
-}
-
-/// Keeps one more part or element in the latest of several structs and arrays.
-pub(crate) fn keep_latest(nodes: &mut Vec<Node>, value: Val, pd: Pd) -> Result<(), Memory>
-    requires some { 0 < vec_len nodes.old }
-    ensures kept { OnOk result (KeptLatest nodes.old.items nodes.new.items value pd) }
-    ensures capacity { vec_capacity nodes.new ≡ vec_capacity nodes.old }
-{
-    let latest = nodes.len() - 1;
-    nodes[latest].keep(value, pd)?;
-    Ok(())
 }

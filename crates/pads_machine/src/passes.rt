@@ -169,7 +169,6 @@ impl State {
     }
 
     /// One instruction, told as steps.
-    #[inline(always)]
     fn one(&mut self, alloc: Global, program: &Program, op: &Op) -> Result<Next, Memory>
         requires there { slice_get program.now.code.now self.old.address ≡ Some op.now }
         requires labels { labels_stand op.now ≡ true }

@@ -8,9 +8,9 @@ ghost use Rattle.pads_machine.specs.Held.{Held, Placed, Roomy};
 ghost use Rattle.pads_machine.specs.Ran.{GoesWithin, opens};
 ghost use Rattle.pads_machine.specs.Shown.{below, caller_shown, shown};
 
-use crate::bindings::{bind, hold, take_back};
+use crate::bindings::{bind, take_back};
 use crate::literals::Literals;
-use crate::node::{Caller, Mark, Node, keep_latest};
+use crate::node::{Caller, Mark, Node};
 use pads_calc::Reading;
 use pads_dispatch::Args;
 use pads_expr::Binding;
@@ -206,34 +206,36 @@ impl State {
         ensures held { OnOk result (Held self.new) }
         ensures roomy { Roomy self.old.room self.new }
     {
-        let reading = self.take_last(alloc, origin);
-        self.keep(name, reading)?;
+        self.keep(alloc, origin, name)?;
         self.address += 1;
         Ok(())
     }
 
-    /// Keeps a reading as the next part of the latest struct, and binds a named part's value.
-    #[inline(always)]
-    fn keep(&mut self, name: Option<u16>, reading: Reading) -> Result<(), Memory>
+    /// Keeps what was read as the next part of the latest struct, binds a named part's value, and leaves
+    /// nothing read at the same place.
+    fn keep(&mut self, alloc: Global, origin: u64, name: Option<u16>) -> Result<(), Memory>
+        requires origin { origin ≤ 2 ^ 62 }
+        requires place { self.old.last.place ≤ 2 ^ 62 }
         requires some { 0 < length self.old.nodes.items }
         requires room { bindings_of name + length self.old.bindings.items ≤ self.old.room }
         requires roomy { Roomy self.old.room self.old }
         requires held { Held self.old }
-        ensures keep { OnOk result ((origin address : ℕ) → part_step origin name (record (shown self.old) { at_ = address; last = reading }) (shown self.old).nodes ≡ Goes (record (shown self.new) { at_ = address + 1; last = unit_of origin reading.place })) }
+        ensures keep { OnOk result ((address : ℕ) → part_step origin name (record (shown self.old) { at_ = address }) (shown self.old).nodes ≡ Goes (record (shown self.new) { at_ = address + 1 })) }
         ensures address { OnOk result (self.new.address ≡ self.old.address) }
-        ensures last { OnOk result (self.new.last ≡ self.old.last) }
+        ensures last { OnOk result (self.new.last ≡ unit_of origin self.old.last.place) }
         ensures marks { OnOk result (self.new.marks ≡ self.old.marks) }
         ensures held { OnOk result (Held self.new) }
         ensures roomy { Roomy self.old.room self.new }
     {
-        let part = self.node().values.len();
-        let Reading {
-            value,
-            pd,
-            place: _,
-        } = reading;
-        let held = hold(&mut self.bindings, &mut self.homes, name, value, part);
-        keep_latest(&mut self.nodes, held, pd)?;
+        let latest = self.nodes.len() - 1;
+        self.nodes[latest].keep(
+            alloc,
+            origin,
+            name,
+            &mut self.last,
+            &mut self.bindings,
+            &mut self.homes,
+        )?;
         Ok(())
     }
 
@@ -259,9 +261,8 @@ impl State {
         ensures held { OnOk result (Held self.new) }
         ensures roomy { Roomy self.old.room self.new }
     {
-        let place = reading.place;
-        self.keep(name, reading)?;
-        self.last = Reading::leaf(alloc, origin, Val::Unit, place, place);
+        self.last = reading;
+        self.keep(alloc, origin, name)?;
         self.address += 2;
         Ok(())
     }

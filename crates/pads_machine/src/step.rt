@@ -288,7 +288,6 @@ impl State {
     }
 
     /// One instruction.
-    #[inline(always)]
     pub(crate) fn step(&mut self, alloc: Global, program: &Program, op: &Op) -> Result<Next, Memory>
         requires labels { labels_stand op.now ≡ true }
         requires address { self.old.address < 2 ^ 32 }
