@@ -1,4 +1,4 @@
-ghost use Rattle.std.specs.Prelude.{◌≡◌, [], ◌∷◌, ◌++◌, List, None, Some, false, OnOk};
+ghost use Rattle.std.specs.Prelude.{◌≡◌, [], ◌∷◌, ◌++◌, List, None, Some, true, false, OnOk};
 ghost use Rattle.pads_value.specs.Refusals.{OnFault};
 ghost use Rattle.pads_value.specs.declared.row.Row.{Row as RowOf};
 ghost use Rattle.pads_accum.specs.Limits.{limit_of, merge_limit};

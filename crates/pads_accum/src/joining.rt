@@ -1,4 +1,4 @@
-ghost use Rattle.std.specs.Prelude.{◌≡◌, ◌++◌, [], List, map, false, IfOk, OnOk, None, Some};
+ghost use Rattle.std.specs.Prelude.{◌≡◌, ◌++◌, [], List, map, true, false, IfOk, OnOk, None, Some};
 ghost use Rattle.pads_value.specs.Refusals.{OnFault};
 ghost use Rattle.pads_value.specs.declared.row.Row.{Row as RowOf};
 ghost use Rattle.pads_accum.specs.Guides.{plan_of};

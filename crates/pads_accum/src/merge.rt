@@ -4,6 +4,7 @@ ghost use Rattle.pads_sums.specs.Merging.{merged};
 ghost use Rattle.pads_accum.specs.Feeding.{lists_within};
 ghost use Rattle.pads_accum.specs.Limits.{merge_limit};
 ghost use Rattle.pads_accum.specs.Merging.{list_merged, lists_merged, one_with, parts_merged};
+ghost use Rattle.pads_accum.specs.States.{is_memory};
 
 use crate::Limit;
 use crate::merge_over::merged_bound;

@@ -1,4 +1,4 @@
-ghost use Rattle.std.specs.Prelude.{◌≡◌, ◌<◌, ◌≤◌, [], ◌∷◌, ◌++◌, List, length, Bool, not, None, Some, is_some, false, IfOk, IfSome, OnOk};
+ghost use Rattle.std.specs.Prelude.{◌≡◌, ◌<◌, ◌≤◌, [], ◌∷◌, ◌++◌, List, length, Bool, not, None, Some, is_some, true, false, IfOk, IfSome, OnOk};
 ghost use Rattle.pads_module.specs.Modules.{contents};
 ghost use Rattle.pads_plan.specs.Plans.{lists_of, size, most};
 ghost use Rattle.pads_value.specs.Refusals.{OnFault};
