@@ -1,4 +1,5 @@
 pub mod Held
+pub mod Idle
 pub mod Missing
 pub mod Ran
 pub mod Searched

@@ -192,7 +192,7 @@ impl State {
     }
 
     /// Ends the latest array, with what is wrong with it, at the place where its last turn began.
-    fn undo(&mut self, own: Cause, place: u64, to: u32)
+    pub(crate) fn undo(&mut self, own: Cause, place: u64, to: u32)
         requires some { 0 < length self.old.nodes.items }
         requires roomy { Roomy self.old.room self.old }
         requires held { Held self.old }

@@ -11,6 +11,7 @@ mod node;
 mod passes;
 mod scans;
 mod searches;
+mod stalls;
 mod state;
 mod step;
 #[cfg(test)]

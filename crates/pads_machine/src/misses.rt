@@ -47,7 +47,7 @@ fn beginning_from(code: &[Op], address: u32) -> Option<&[u8]>
 }
 
 /// The entry of a declaration.
-fn entry_at(entries: &[Entry], number: u16) -> Option<&Entry>
+pub(crate) fn entry_at(entries: &[Entry], number: u16) -> Option<&Entry>
     ensures entry { option_copied result ≡ slice_get entries.now number }
 {
     entries.get(usize::from(number))

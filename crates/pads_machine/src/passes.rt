@@ -225,6 +225,12 @@ impl State {
                     return Ok(Next::Goes);
                 }
             }
+            Op::Turn(_) => {
+                if let Some(end) = self.stalls_at(program) {
+                    self.pass_turn(program, end);
+                    return Ok(Next::Goes);
+                }
+            }
             _ => {}
         }
         self.one(alloc, program, op)

@@ -1,0 +1,95 @@
+-- A turn whose element takes no byte, where the array has one: its steps lead to the array's end.
+use Rattle.std.proofs.Common.{◌≡◌, ◌∙◌, sym, ap, refl, subst, arith, ℕ, zero, suc, ◌+◌, ◌<◌, ◌≤◌, Bool, true, false, not, ◌&&◌, if◌then◌else◌, nat_eq, eq-eqb, List, [], ◌∷◌, length, Some, slice_get}
+use Rattle.pads_value.specs.declared.cause.Cause.TheVariants as cause
+use Rattle.pads_value.specs.declared.descriptor.Pd.{out-Pd}
+use Rattle.pads_calc.specs.declared.reading.Reading.{Reading}
+use Rattle.pads_calc.specs.Arrays.{is_fail_class}
+use Rattle.pads_calc.specs.Leaves.{unit_of}
+use Rattle.pads_calc.specs.Readings.{Subject}
+use Rattle.pads_image.specs.declared.entry.Entry.{Entry}
+use Rattle.pads_image.specs.declared.op.Op.{Op}
+use Rattle.pads_image.specs.declared.op.Op.TheVariants as op
+use Rattle.pads_image.specs.Answers.{HaltsWith, Reaches}
+use Rattle.pads_image.specs.States.{Mark, Node, State, entries}
+use Rattle.pads_image.specs.Steps.{Step, Goes, back_to, began, does_there, is_first, mark_at, shut_step, step, with_own, with_reading}
+use Rattle.law_images.proofs.Reaching.{before, here, to-same}
+use Rattle.pads_machine.specs.Idle.{Idles}
+use Rattle.pads_machine.specs.Ran.{Leads}
+use Rattle.pads_machine.specs.Shown.{has_own}
+use Rattle.pads_machine.proofs.Endings.{turn-goes}
+use Rattle.pads_machine.proofs.Halts.{fits-first, moved}
+use Rattle.pads_machine.proofs.Idling.{Idling, To, Walks, along, by, idling, join, once}
+
+-- a number that isn't 0
+above-zero : (n : ℕ) → 0 < n → (k : ℕ) × (n ≡ suc k)
+above-zero zero more = absurd (omega (arith, more))
+above-zero (suc k) more = (k, refl)
+
+module _ (code : List Op) (of_entries : List Entry) (subject : Subject) (most : ℕ) where
+  -- steps of a run that halts are within its room
+  fitting : (n : ℕ) (s u : State) (r : Reading) → Walks code of_entries subject n s u → HaltsWith code of_entries subject most s r → Reaches code of_entries subject most s u
+  fitting zero s u r walk h = to-same code of_entries subject most s s u walk (here code of_entries subject most s)
+  fitting (suc n) s u r walk h =
+      before code of_entries subject most s walk.0 u (fits-first code of_entries subject most h.reached.steps s h.end h.reached.run h.within) walk.1
+      (fitting n walk.0 u r walk.2 (moved code of_entries subject most s walk.0 r walk.1 h))
+
+  pub room-there : (s : State) (r : Reading) → HaltsWith code of_entries subject most s r → entries s ≤ most
+  room-there s r h = fits-first code of_entries subject most h.reached.steps s h.end h.reached.run h.within
+
+  module _ (s : State) (n : Node) (nodes : List Node) (nodes_are : s.nodes ≡ n ∷ nodes) (later : is_first n ≡ false) (alone : n.base ≤ length s.bindings)
+      (first number to again : ℕ) (turns : slice_get code s.at_ ≡ Some (op.Turn first)) (calls : slice_get code (s.at_ + 1) ≡ Some (op.Call number []))
+      (ends : slice_get code (s.at_ + 2) ≡ Some (op.Elem to again)) (shuts : slice_get code to ≡ Some op.Shut) where
+    abbrev begun : State
+    begun = record s { at_ = s.at_ + 1; nodes = n ∷ nodes; marks = mark_at s.last.place ∷ s.marks }
+
+    begins : step of_entries subject code s ≡ Goes begun
+    begins =
+        by code of_entries subject s _ (op.Turn first) turns
+        (turn-goes first s n nodes nodes_are false later
+        ∙ ap (λ (nodes : List Node). Goes (record s { at_ = s.at_ + 1; nodes = nodes; marks = mark_at s.last.place ∷ s.marks })) nodes_are)
+
+    -- where the element has been read
+    abbrev read : Reading → State
+    read r = record begun { at_ = s.at_ + 2; last = r }
+
+    -- where the array ends
+    abbrev ended : ℕ → State
+    ended place = record s { at_ = to; last = record s.last { place = place }; nodes = with_own (Some cause.ArrayStall) n ∷ nodes }
+
+    abbrev taken : (fell first stays : Bool) → Reading → Step
+    taken fell first stays r =
+        if fell then Goes (record s { at_ = to; last = back_to s.last.place r; nodes = with_own (Some cause.ArrayElem) n ∷ nodes })
+        else if not first && stays then Goes (record s { at_ = to; last = back_to s.last.place r; nodes = with_own (Some cause.ArrayStall) n ∷ nodes })
+        else Goes (record s { at_ = again; last = unit_of subject.origin r.place; nodes = with_reading n r ∷ nodes })
+
+    stalls : (r : Reading) → r.place ≡ s.last.place → is_fail_class (out-Pd r.pd).class ≡ false
+        → step of_entries subject code (read r) ≡ Goes (record s { at_ = to; last = back_to s.last.place r; nodes = with_own (Some cause.ArrayStall) n ∷ nodes })
+    stalls r place class_is =
+        let fallen = nat_eq r.place (began subject.origin r) in
+        let stays = nat_eq r.place s.last.place in
+        ap (λ o. does_there of_entries subject o (read r)) ends
+        ∙ ap (λ (fails : Bool). taken (fails && fallen) (is_first n) stays r) class_is
+        ∙ ap (λ (first : Bool). taken false first stays r) later
+        ∙ ap (λ (stays : Bool). taken false false stays r) (eq-eqb r.place s.last.place place)
+
+    pub stall-leads : (u : State) (r : Reading) → 0 < s.depth → Idles code of_entries s.depth number
+        → shut_step subject.origin (record s { at_ = to; nodes = has_own (Some cause.ArrayStall) s.nodes }) (has_own (Some cause.ArrayStall) s.nodes) ≡ Goes u
+        → HaltsWith code of_entries subject most s r → Leads code of_entries subject most s u
+    stall-leads u r deep idles goes halts =
+        let depth = above-zero s.depth deep in
+        let idles_so : Idles code of_entries (suc depth.0) number = subst (λ d. Idles code of_entries d number) depth.1 idles in
+        let e = idling code of_entries subject depth.0 number idles_so begun calls depth.1 alone in
+        let further : s.at_ + 1 + 1 ≡ s.at_ + 2 = omega arith in
+        let q = e.reading in
+        let elem : To code of_entries subject begun (read q) = subst (λ p. To code of_entries subject begun (record begun { at_ = p; last = q })) further e.walk in
+        let z : State = record s { at_ = to; last = back_to s.last.place q; nodes = with_own (Some cause.ArrayStall) n ∷ nodes } in
+        let own = λ (nodes : List Node). shut_step subject.origin (record s { at_ = to; nodes = has_own (Some cause.ArrayStall) nodes }) (has_own (Some cause.ArrayStall) nodes) in
+        let shut : step of_entries subject code z ≡ Goes u = by code of_entries subject z u op.Shut shuts (sym (ap own nodes_are) ∙ goes) in
+        let walk : To code of_entries subject begun u =
+        join code of_entries subject begun (read q) u elem
+        (along code of_entries subject (read q) z u (stalls q e.place e.class_is) (once code of_entries subject z u shut)) in
+        record {
+          next_ = begun;
+          goes = begins;
+          more = fitting walk.steps begun u r walk.walk (moved code of_entries subject most s begun r begins halts);
+        }

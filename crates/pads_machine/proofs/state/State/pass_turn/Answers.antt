@@ -1,0 +1,29 @@
+use Rattle.std.proofs.Common.{◌≡◌, ◌∙◌, sym, ap, subst, arith, ◌+◌, ◌≤◌, false, nat_eq, length, reverse, Some}
+use Rattle.std.proofs.lemmas.Bool.{ne_eqb}
+use Rattle.std.proofs.lemmas.List.{length-reverse}
+use Rattle.pads_value.specs.declared.cause.Cause.TheVariants as cause
+use Rattle.pads_steps.specs.Records.{subject_of}
+use Rattle.pads_image.specs.States as states
+use Rattle.pads_image.specs.Steps.{Goes, shut_step}
+use Rattle.pads_machine.specs.Shown.{has_own, shown}
+use Rattle.pads_machine.proofs.Stalls.{stall-leads}
+use Rattle.pads_machine.proofs.Tops.{below_top, nodes-are, nodes-first, top_shown}
+use Rattle.pads_machine.proofs.state.State.pass_turn.Goals as goal
+
+pub returns-clause-leads : goal.returns-clause-leads
+returns-clause-leads c =
+    let m = c.args.self.now in
+    let s = shown m in
+    let program = c.args.program.now in
+    let code = program.code.now in
+    let entries = program.entries.now in
+    let subject = subject_of program.record in
+    let stalled = c.requires.stalled in
+    let n = stalled.standing.node in
+    let nodes_are = nodes-are m n stalled.standing.latest in
+    let first : nat_eq (length n.values.items) 0 ≡ false = ne_eqb (length n.values.items) 0 (λ none. absurd (omega (arith, none, stalled.standing.later))) in
+    let alone : n.base ≤ length s.bindings = omega (arith, stalled.standing.alone, length-reverse m.bindings.items) in
+    let goes = sym (ap (λ (t : states.State). shut_step subject.origin t t.nodes) c.undo.ensures.undo) ∙ c.shut.ensures.shut in
+    stall-leads code entries subject m.room s (top_shown m n) (below_top m n) nodes_are (nodes-first m n false first) alone
+    c.requires.there.0 stalled.call.0 c.args.to stalled.elem.0 c.requires.there.1 stalled.call.1 stalled.elem.1 stalled.shut
+    (shown c.shut.new.self) c.requires.halts.1.0 stalled.deep stalled.call.2 goes c.requires.halts.1.1
