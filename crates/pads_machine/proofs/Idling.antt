@@ -1,9 +1,8 @@
 -- A call that takes no byte, by the code alone: its steps lead behind it with a reading that takes none and doesn't fail.
-use Rattle.std.proofs.Common.{◌≡◌, ◌∙◌, sym, ap, refl, subst, arith, ℕ, zero, suc, ◌+◌, ◌-◌, ◌<◌, ◌≤◌, Bool, true, false, not, ◌&&◌, if◌then◌else◌, nat_eq, nat_le, eq-eqb, le-leb, List, [], ◌∷◌, ◌++◌, drop, length, Option, Some, None, slice_get}
+use Rattle.std.proofs.Common.{◌≡◌, ◌∙◌, sym, ap, refl, subst, arith, ℕ, zero, suc, ◌+◌, ◌-◌, ◌<◌, ◌≤◌, Bool, true, false, not, ◌&&◌, if◌then◌else◌, nat_eq, eq-eqb, le-leb, List, [], ◌∷◌, ◌++◌, drop, length, Option, Some, None, slice_get}
 use Rattle.pads_value.specs.declared.cause.Cause.{Cause}
 use Rattle.pads_value.specs.declared.cause.Cause.TheVariants as cause
 use Rattle.pads_value.specs.declared.descriptor.Class.TheVariants as class
-use Rattle.pads_value.specs.declared.descriptor.Own.{Own}
 use Rattle.pads_value.specs.declared.descriptor.Pd.{Pd, Pd-F, out-Pd, out-roll-Pd}
 use Rattle.pads_value.specs.declared.value.Val.{Val}
 use Rattle.pads_value.specs.declared.value.Val.TheVariants as val
@@ -18,8 +17,8 @@ use Rattle.pads_image.specs.declared.entry.Entry.{Entry}
 use Rattle.pads_image.specs.declared.op.Op.{Op}
 use Rattle.pads_image.specs.declared.op.Op.TheVariants as op
 use Rattle.pads_image.specs.States.{Caller, Mark, Node, State, floor_of}
-use Rattle.pads_image.specs.Steps.{Step, Goes, Stuck, back_to, began, call_in, call_step, does, does_there, mark_at, reads, step, undone, with_own, with_reading}
-use Rattle.pads_machine.specs.Idle.{Holds, Idles, IsArrayOf}
+use Rattle.pads_image.specs.Steps.{Step, Goes, Stuck, back_to, began, call_in, call_step, does, does_there, mark_at, step}
+use Rattle.pads_machine.specs.Idle.{Holds, Idles}
 use Rattle.pads_machine.proofs.Leaps.{fails-began}
 
 -- one link more

@@ -4,10 +4,12 @@ pub mod Branches
 pub mod Endings
 pub mod Halts
 pub mod Homes
+pub mod Idling
 pub mod Labels
 pub mod Leaps
 pub mod Nodes
 pub mod Passing
 pub mod Shows
+pub mod Stalls
 pub mod Taking
 pub mod Tops

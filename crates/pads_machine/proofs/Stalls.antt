@@ -1,5 +1,5 @@
 -- A turn whose element takes no byte, where the array has one: its steps lead to the array's end.
-use Rattle.std.proofs.Common.{◌≡◌, ◌∙◌, sym, ap, refl, subst, arith, ℕ, zero, suc, ◌+◌, ◌<◌, ◌≤◌, Bool, true, false, not, ◌&&◌, if◌then◌else◌, nat_eq, eq-eqb, List, [], ◌∷◌, length, Some, slice_get}
+use Rattle.std.proofs.Common.{◌≡◌, ◌∙◌, sym, ap, refl, subst, arith, ℕ, zero, suc, ◌+◌, ◌<◌, ◌≤◌, Bool, false, not, ◌&&◌, if◌then◌else◌, nat_eq, eq-eqb, List, [], ◌∷◌, length, Some, slice_get}
 use Rattle.pads_value.specs.declared.cause.Cause.TheVariants as cause
 use Rattle.pads_value.specs.declared.descriptor.Pd.{out-Pd}
 use Rattle.pads_calc.specs.declared.reading.Reading.{Reading}
@@ -10,7 +10,7 @@ use Rattle.pads_image.specs.declared.entry.Entry.{Entry}
 use Rattle.pads_image.specs.declared.op.Op.{Op}
 use Rattle.pads_image.specs.declared.op.Op.TheVariants as op
 use Rattle.pads_image.specs.Answers.{HaltsWith, Reaches}
-use Rattle.pads_image.specs.States.{Mark, Node, State, entries}
+use Rattle.pads_image.specs.States.{Node, State, entries}
 use Rattle.pads_image.specs.Steps.{Step, Goes, back_to, began, does_there, is_first, mark_at, shut_step, step, with_own, with_reading}
 use Rattle.law_images.proofs.Reaching.{before, here, to-same}
 use Rattle.pads_machine.specs.Idle.{Idles}
@@ -18,7 +18,7 @@ use Rattle.pads_machine.specs.Ran.{Leads}
 use Rattle.pads_machine.specs.Shown.{has_own}
 use Rattle.pads_machine.proofs.Endings.{turn-goes}
 use Rattle.pads_machine.proofs.Halts.{fits-first, moved}
-use Rattle.pads_machine.proofs.Idling.{Idling, To, Walks, along, by, idling, join, once}
+use Rattle.pads_machine.proofs.Idling.{To, Walks, along, by, idling, join, once}
 
 -- a number that isn't 0
 above-zero : (n : ℕ) → 0 < n → (k : ℕ) × (n ≡ suc k)

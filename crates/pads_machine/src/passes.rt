@@ -226,9 +226,11 @@ impl State {
                 }
             }
             Op::Turn(_) => {
-                if let Some(end) = self.stalls_at(program) {
-                    self.pass_turn(program, end);
-                    return Ok(Next::Goes);
+                if self.is_standing() {
+                    if let Some(end) = self.stalls_at(program) {
+                        self.pass_turn(program, end);
+                        return Ok(Next::Goes);
+                    }
                 }
             }
             _ => {}

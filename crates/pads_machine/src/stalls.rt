@@ -157,7 +157,8 @@ fn idles(code: &[Op], entries: &[Entry], depth: u8, number: u16) -> bool
 
 impl State {
     /// Whether the latest array has an element, and took no byte so far.
-    fn is_standing(&self) -> bool
+    #[inline]
+    pub(crate) fn is_standing(&self) -> bool
         requires some { 0 < length self.now.nodes.items }
         ensures standing { IsTrue result → IsStanding self.now }
     {
@@ -168,14 +169,13 @@ impl State {
     }
 
     /// The address where the latest array ends, if the turn that begins here is sure to be undone.
+    #[cold]
+    #[inline(never)]
     pub(crate) fn stalls_at(&self, program: &Program) -> Option<u32>
-        requires some { 0 < length self.now.nodes.items }
+        requires standing { IsStanding self.now }
         requires address { self.now.address < 2 ^ 32 }
         ensures stalled { IfSome result (λ to. IsStalled program.now.code.now program.now.entries.now to self.now) }
     {
-        if !self.is_standing() {
-            return None;
-        }
         if self.depth == 0 {
             return None;
         }
@@ -191,6 +191,8 @@ impl State {
     }
 
     /// Ends the latest array, over the steps that would begin a turn, read its element and undo it.
+    #[cold]
+    #[inline(never)]
     pub(crate) fn pass_turn(&mut self, program: &Program, to: u32)
         requires there { (first : ℕ) × (slice_get program.now.code.now self.old.address ≡ Some (instruction.Turn first)) }
         requires stalled { IsStalled program.now.code.now program.now.entries.now to self.old }
