@@ -10,6 +10,6 @@ pub mod Leaps
 pub mod Nodes
 pub mod Passing
 pub mod Shows
-pub mod Stalls
 pub mod Taking
 pub mod Tops
+pub mod Undone

@@ -1,5 +1,5 @@
 -- A turn whose element takes no byte, where the array has one: its steps lead to the array's end.
-use Rattle.std.proofs.Common.{◌≡◌, ◌∙◌, sym, ap, refl, subst, arith, ℕ, zero, suc, ◌+◌, ◌<◌, ◌≤◌, Bool, false, not, ◌&&◌, if◌then◌else◌, nat_eq, eq-eqb, List, [], ◌∷◌, length, Some, slice_get}
+use Rattle.std.proofs.Common.{cond, ◌≡◌, ◌∙◌, sym, ap, refl, subst, arith, ℕ, zero, suc, ◌+◌, ◌<◌, ◌≤◌, Bool, true, false, not, ◌&&◌, if◌then◌else◌, nat_eq, eq-eqb, List, [], ◌∷◌, length, Some, slice_get}
 use Rattle.pads_value.specs.declared.cause.Cause.TheVariants as cause
 use Rattle.pads_value.specs.declared.descriptor.Pd.{out-Pd}
 use Rattle.pads_calc.specs.declared.reading.Reading.{Reading}
@@ -11,14 +11,27 @@ use Rattle.pads_image.specs.declared.op.Op.{Op}
 use Rattle.pads_image.specs.declared.op.Op.TheVariants as op
 use Rattle.pads_image.specs.Answers.{HaltsWith, Reaches}
 use Rattle.pads_image.specs.States.{Node, State, entries}
-use Rattle.pads_image.specs.Steps.{Step, Goes, back_to, began, does_there, is_first, mark_at, shut_step, step, with_own, with_reading}
+use Rattle.pads_image.specs.Steps.{Step, Goes, Stuck, back_to, began, does_there, is_first, mark_at, shut_step, step, with_own, with_reading}
 use Rattle.law_images.proofs.Reaching.{before, here, to-same}
 use Rattle.pads_machine.specs.Idle.{Idles}
-use Rattle.pads_machine.specs.Ran.{Leads}
+use Rattle.pads_machine.specs.Ran.{GoesWithin, Leads}
 use Rattle.pads_machine.specs.Shown.{has_own}
 use Rattle.pads_machine.proofs.Endings.{turn-goes}
 use Rattle.pads_machine.proofs.Halts.{fits-first, moved}
 use Rattle.pads_machine.proofs.Idling.{To, Walks, along, by, idling, join, once}
+
+within-if : (most : ℕ) (b : Bool) (t : State) → b ≡ true → entries t ≤ most → GoesWithin most (cond b (Goes t) Stuck)
+within-if most true t is fits = fits
+within-if most false t is fits = absurd cc
+
+-- the array ends over stacks that have less
+pub shut-within : (origin to place most : ℕ) (s : State) (n : Node) (nodes : List Node) → s.nodes ≡ n ∷ nodes → n.base ≡ length s.bindings → entries s ≤ most
+    → GoesWithin most (shut_step origin (record s { at_ = to; last = record s.last { place = place }; nodes = has_own (Some cause.ArrayStall) s.nodes }) (has_own (Some cause.ArrayStall) s.nodes))
+shut-within origin to place most s n nodes nodes_are alone fits =
+    let ended = λ (nodes : List Node). record s { at_ = to; last = record s.last { place = place }; nodes = has_own (Some cause.ArrayStall) nodes } in
+    let left : length s.bindings + length nodes + length s.marks + length s.callers ≤ most = omega (arith, fits, ap (λ (nodes : List Node). length nodes) nodes_are) in
+    subst (λ (nodes : List Node). GoesWithin most (shut_step origin (ended nodes) (has_own (Some cause.ArrayStall) nodes))) (sym nodes_are)
+    (within-if most (nat_eq (length s.bindings) n.base) _ (eq-eqb (length s.bindings) n.base (sym alone)) left)
 
 -- a number that isn't 0
 above-zero : (n : ℕ) → 0 < n → (k : ℕ) × (n ≡ suc k)
