@@ -163,9 +163,13 @@ impl State {
         ensures standing { IsTrue result → IsStanding self.now }
     {
         let node = self.node();
-        self.last.place == node.begin
-            && node.values.len() > 0
-            && node.base == self.bindings.len()
+        if self.last.place != node.begin {
+            return false;
+        }
+        if node.values.len() == 0 {
+            return false;
+        }
+        node.base == self.bindings.len()
     }
 
     /// The address where the latest array ends, if the turn that begins here is sure to be undone.
