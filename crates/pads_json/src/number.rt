@@ -14,9 +14,14 @@ pub(crate) fn write_null(out: &mut Bytes) -> Result<(), Memory>
     out.extend_from_slice(b"null")
 }
 
+/// Writes a number. Many have one digit.
+#[tactic(auto, using(std::proofs::lemmas::Fmt::decimal_digit))]
 pub(crate) fn write_count(out: &mut Bytes, count: u64) -> Result<(), Memory>
     ensures written { OnOk result (out.new ≡ out.old ++ decimal count) }
 {
+    if count < 10 {
+        return out.push(b'0' + count as u8);
+    }
     let mut buffer = Buffer::new();
     out.extend_from_slice(buffer.format(count).as_bytes())
 }

@@ -1,18 +1,22 @@
-ghost use Rattle.std.specs.Prelude.{◌≡◌, ◌++◌, length, encode_utf8_all, OnOk};
+ghost use Rattle.std.specs.Prelude.{◌≡◌, ◌≤◌, ◌++◌, length, encode_utf8_all, OnOk};
 ghost use Rattle.pads_calc.specs.declared.term.Term.{out-Term};
+ghost use Rattle.serde_json.specs.Data.{object};
 ghost use Rattle.serde_json.specs.Written.{compact_text, comma_if};
-ghost use Rattle.pads_json.specs.Members.{part_told, key_text};
+ghost use Rattle.pads_json.specs.Members.{members_at, numbers_of, part_told, key_text};
 ghost use Rattle.pads_json.specs.Values.{shown, number_told, text_told, base_told, address_told, label_told, computed_told, term_told, struct_told, parts_told, branch_told, array_told, elements_told};
 
 use crate::number::{write_integer, write_null};
-use crate::order::order_of;
-use crate::text::write_quoted;
+use crate::order::{name_of, put_in_order};
+use crate::text::{write_points, write_quoted};
 use pads_bases::{Labels, spell_ip};
 use pads_calc::{Base, ComputedForm, Part, Term};
 use pads_code::Coding;
 use pads_forms::{Terms, arm_at, form_at, name_at};
 use pads_value::{Bytes, Memory, Val};
 use std::alloc::Global;
+
+/// How many parts are put in order without memory taken.
+const FEW: usize = 16;
 
 /// Writes the value of a base type.
 fn write_base(out: &mut Bytes, base: &Base, val: &Val) -> Result<(), Memory>
@@ -95,9 +99,13 @@ fn write_comma(out: &mut Bytes, later: bool) -> Result<(), Memory>
 fn write_key(out: &mut Bytes, later: bool, name: &[u8]) -> Result<(), Memory>
     ensures written { OnOk result (out.new ≡ out.old ++ key_text later (encode_utf8_all name.now)) }
 {
-    write_comma(out, later)?;
-    write_quoted(out, name)?;
-    out.push(b':')
+    if later {
+        out.extend_from_slice(br#",""#)?;
+    } else {
+        out.push(b'"')?;
+    }
+    write_points(out, name)?;
+    out.extend_from_slice(br#"":"#)
 }
 
 /// Writes a value of a term, where calls may be nested so deep.
@@ -142,6 +150,7 @@ fn write_form<'m>(
     }
 }
 
+#[inline(never)]
 #[cycle(value)]
 fn write_struct<'m>(
     terms: &Terms<'m>,
@@ -178,11 +187,58 @@ fn write_parts<'m>(
     requires counts { length values.now ≡ length parts.now }
     ensures written { OnOk result (out.new ≡ out.old ++ compact_text (parts_told terms.now.decls.now terms.now.names.now depth parts.now values.now)) }
 {
-    let order = order_of(terms, alloc, parts)?;
+    if parts.len() <= FEW {
+        let mut order = [0; FEW];
+        return write_in_order(terms, alloc, out, values, depth, parts, &mut order);
+    }
+    let mut order = vec![in alloc; 0; parts.len()]?;
+    write_in_order(
+        terms,
+        alloc,
+        out,
+        values,
+        depth,
+        parts,
+        order.as_mut_slice(),
+    )
+}
+
+/// The same, where `order` has room for the numbers of all parts.
+#[cycle(value)]
+fn write_in_order<'m>(
+    terms: &Terms<'m>,
+    alloc: Global,
+    out: &mut Bytes,
+    values: &[Val],
+    depth: u64,
+    parts: &'m [Part],
+    order: &mut [usize],
+) -> Result<(), Memory>
+    requires counts { length values.now ≡ length parts.now }
+    requires room { length parts.now ≤ length order.old }
+    ensures written { OnOk result (out.new ≡ out.old ++ compact_text (parts_told terms.now.decls.now terms.now.names.now depth parts.now values.now)) }
+{
+    let count = put_in_order(terms, parts, order);
+    write_members(terms, alloc, out, values, depth, parts, &order[..count])
+}
+
+/// Writes the object of the parts of some numbers, in their order.
+#[cycle(value)]
+fn write_members<'m>(
+    terms: &Terms<'m>,
+    alloc: Global,
+    out: &mut Bytes,
+    values: &[Val],
+    depth: u64,
+    parts: &'m [Part],
+    numbers: &[usize],
+) -> Result<(), Memory>
+    ensures written { OnOk result (out.new ≡ out.old ++ compact_text (object (members_at (part_told terms.now.decls.now terms.now.names.now depth parts.now values.now) (numbers_of terms.now.names.now parts.now numbers.now)))) }
+{
     out.push(b'{')?;
     let mut later = false;
-    'members: for (key, number) in order.iter() {
-        write_key(out, later, key.name)?;
+    'members: for number in numbers {
+        write_key(out, later, name_of(terms, parts, *number))?;
         write_part(terms, alloc, out, values, depth, parts, *number)?;
         later = true;
     }

@@ -1,7 +1,6 @@
 use Rattle.std.proofs.Common.{◌≡◌, ◌++◌, ◌∷◌, [], false, map, drop, List, ℕ}
 use Rattle.serde_json.specs.View.{items_of}
 use Rattle.serde_json.specs.Written.{items_text, members_text}
-use Rattle.pads_json.specs.declared.order.Key.{Key}
 use Rattle.pads_json.specs.Members.{members_at, numbers_of, part_told}
 use Rattle.pads_json.specs.Values.{Shown, shown}
 use Rattle.pads_json.proofs.value.+value.Given as goal
@@ -14,7 +13,7 @@ invariant-write_elements-elements l =
     l.out ++ items_text l.later (items_of (told (drop l.element-index values))) ≡ (l.fn.out ++ 91 ∷ []) ++ items_text false (items_of (told values))
 
 -- what is written already, then the rest, is the whole
-abbrev pub invariant-write_parts-members : goal.invariant-write_parts-members
-invariant-write_parts-members l =
-    let members = λ (entries : List (Key × ℕ)). members_at (part_told l.terms.decls.now l.terms.names.now l.depth l.parts l.values) (numbers_of entries) in
-    l.out ++ members_text l.later (members l.key-iterator) ≡ (l.fn.out ++ 123 ∷ []) ++ members_text false (members l.initial.key-iterator)
+abbrev pub invariant-write_members-members : goal.invariant-write_members-members
+invariant-write_members-members l =
+    let members = λ (numbers : List ℕ). members_at (part_told l.terms.decls.now l.terms.names.now l.depth l.parts l.values) (numbers_of l.terms.names.now l.parts numbers) in
+    l.out ++ members_text l.later (members (drop l.number-index l.numbers)) ≡ (l.fn.out ++ 123 ∷ []) ++ members_text false (members l.numbers)
