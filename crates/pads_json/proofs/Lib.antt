@@ -3,6 +3,7 @@ pub mod Keys
 pub mod Layers
 pub mod Members
 pub mod NodeSteps
+pub mod Quiet
 pub mod Rising
 pub mod Texts
 pub mod Written

@@ -1,7 +1,8 @@
 -- Texts between quotes, one byte or code point after another.
-use Rattle.std.proofs.Common.{◌≡◌, ◌∙◌, sym, ap, ap₂, refl, ℕ, zero, suc, ◌<◌, ◌≤◌, ◌+◌, ◌/◌, ◌%◌, true, ltb-true, List, [], ◌∷◌, ◌++◌, length, take, get_or, encode_utf8, encode_utf8_all, arith}
+use Rattle.std.proofs.Common.{◌≡◌, ◌∙◌, sym, ap, ap₂, refl, ℕ, zero, suc, ◌<◌, ◌≤◌, ◌+◌, ◌-◌, ◌/◌, ◌%◌, Bool, true, false, ◌&&◌, ltb-true, List, [], ◌∷◌, ◌++◌, length, take, drop, get_or, encode_utf8, encode_utf8_all, arith}
 use Rattle.std.proofs.lemmas.Bool.{eqb-false, le-ltb, lt-ltb, not-true, and_parts}
-use Rattle.std.proofs.lemmas.List.{append-nil, append_assoc}
+use Rattle.std.proofs.lemmas.List.{append-nil, append_assoc, take-append-drop, drop-drop, drop-take}
+use Rattle.std.proofs.lemmas.List.Folds.{list_all-append}
 use Rattle.std.proofs.lemmas.Str.{encode_ascii}
 use Rattle.std.specs.List.{list_all}
 use lib.Utf8.{encode}
@@ -91,3 +92,33 @@ point_next points front done i next d is_next h so_far =
         ∙ ap (λ rest. escape (encode_utf8 x) ++ rest) (one points i (omega (arith, h)))
         ∙ sym (append_assoc (escape (encode_utf8 x)) (escaped_points (take i points)) (escape (encode_utf8 (get_or points i d))))
         ∙ ap (λ front. front ++ escape (encode_utf8 (get_or points i d))) (sym (escaped_append (encode_utf8 x) (encode_utf8_all (take i points))))
+
+-- ---- runs of code points
+
+module _ (test : ℕ → Bool) where
+  all-dropped : (xs : List ℕ) (i : ℕ) → list_all test xs ≡ true → list_all test (drop i xs) ≡ true
+  all-dropped xs zero h = h
+  all-dropped [] (suc i) h = refl
+  all-dropped (x ∷ xs) (suc i) h = all-dropped xs i (and_parts (test x) (list_all test xs) h).1
+
+  all-split : (xs : List ℕ) (i : ℕ) → list_all test xs ≡ (list_all test (take i xs) && list_all test (drop i xs))
+  all-split xs i = ap (list_all test) (sym (take-append-drop i xs)) ∙ list_all-append test (take i xs) (drop i xs)
+
+  -- what is tested twice changes nothing
+  once : (front more back : Bool) → (front ≡ true → more ≡ true) → (front && (more && back)) ≡ (front && back)
+  once false more back h = refl
+  once true more back h = rw (h refl) refl
+
+  -- two runs of one length, which may share elements, cover all
+  pub by_ends : (xs : List ℕ) (count : ℕ) → count ≤ length xs → length xs ≤ count + count
+      → (list_all test (take count xs) && list_all test (drop (length xs - count) xs)) ≡ list_all test xs
+  by_ends xs count fits covers =
+      let start = length xs - count in
+      let shared = count - start in
+      let whole : start + shared ≡ count = omega (arith, fits, covers) in
+      let back : drop shared (drop start xs) ≡ drop count xs = drop-drop shared start xs ∙ ap (λ (n : ℕ). drop n xs) whole in
+      let twice : drop start (take count xs) ≡ take shared (drop start xs) = ap (λ (n : ℕ). drop start (take n xs)) (sym whole) ∙ drop-take start shared xs in
+      ap (λ (b : Bool). list_all test (take count xs) && b) (all-split (drop start xs) shared ∙ ap (λ (rest : List ℕ). list_all test (take shared (drop start xs)) && list_all test rest) back)
+      ∙ once (list_all test (take count xs)) (list_all test (take shared (drop start xs))) (list_all test (drop count xs))
+      (λ h. ap (list_all test) (sym twice) ∙ all-dropped (take count xs) start h)
+      ∙ sym (all-split xs count)

@@ -1,6 +1,7 @@
 -- The faults of a record: all nodes with a cause of their own, a node before its kids and kids in order,
 -- each with its place, its cause and its extent. A kid that its node's term doesn't give has no entry.
-use Rattle.std.specs.Prelude.{ℕ, ◌+◌, List, [], ◌∷◌, ◌++◌, map, Bool, true, false, codes, flat_map, Option, Some, None}
+use Rattle.std.specs.Prelude.{ℕ, ◌+◌, List, [], ◌∷◌, ◌++◌, map, Bool, true, false, ◌&&◌, codes, flat_map, Option, Some, None, is_none}
+use Rattle.std.specs.List.{list_all}
 use Rattle.serde_json.specs.Data.{Data, number, unsigned, string, array, object, item, no_items, member, no_members}
 use Rattle.json.specs.Print.{escape}
 use Rattle.serde_json.specs.Written.{compact_text}
@@ -83,3 +84,10 @@ has_nothing (Some cause) kids = false
 
 abbrev pub is_bare_node : Pd → Bool
 is_bare_node pd = has_nothing (out-Pd pd).cause (out-Pd pd).kids
+
+-- whether neither a node nor any below it has a cause
+abbrev pub quiet_step : Pd-F Bool → Bool
+quiet_step node = is_none node.cause && list_all (λ quiet. quiet) node.kids
+
+unfoldable pub is_quiet : Pd → Bool
+is_quiet = fold-Pd Bool quiet_step

@@ -1,7 +1,8 @@
 ghost use Rattle.std.specs.Prelude.{◌≡◌, ◌++◌, codes, OnOk};
+ghost use Rattle.std.specs.List.{list_all};
 ghost use Rattle.std.specs.Option.{option_copied, option_map};
 ghost use Rattle.pads_value.specs.declared.descriptor.Pd.{out-Pd};
-ghost use Rattle.pads_json.specs.Faults.{own_fault as own_fault_of, faults as faults_of, kids_told, kid_told, is_bare_node, listed, fault_head, fault_tail};
+ghost use Rattle.pads_json.specs.Faults.{own_fault as own_fault_of, faults as faults_of, kids_told, kid_told, is_bare_node, is_quiet as is_quiet_of, listed, fault_head, fault_tail};
 ghost use Rattle.pads_forms.specs.Forms.{form_seen};
 ghost use Rattle.pads_forms.specs.Slots.{slot_seen};
 ghost use Rattle.pads_json.specs.Places.{place_text, steps};
@@ -59,6 +60,28 @@ fn write_own(out: &mut Bytes, place: &Place, pd: &Pd) -> Result<(), Memory>
             write_fault_tail(out, cause, pd.span)
         }
     }
+}
+
+/// Whether neither a node nor any below it has a cause, as in most rows: nothing is told of them.
+#[tactic(auto, using(crate::proofs::Quiet::quiet_out))]
+#[cycle(quiet)]
+pub(crate) fn is_quiet(pd: &Pd) -> bool
+    ensures quiet { result ≡ is_quiet_of pd.now }
+{
+    pd.cause.is_none() && are_quiet(pd.kids.as_slice())
+}
+
+/// The same of some nodes.
+#[cycle(quiet)]
+fn are_quiet(kids: &[Pd]) -> bool
+    ensures quiet { result ≡ list_all is_quiet_of kids.now }
+{
+    'kids: for i in 0..kids.len() {
+        if !is_bare(&kids[i]) && !is_quiet(&kids[i]) {
+            return false;
+        }
+    }
+    true
 }
 
 /// Writes the faults of a node and of the nodes below it.

@@ -6,7 +6,7 @@ ghost use Rattle.serde_json.specs.Written.{compact_text, items_text};
 ghost use Rattle.pads_json.specs.Faults.{listed};
 ghost use Rattle.pads_json.specs.Lines.{class_name as class_name_of, body_of, extra_fault, body_faults, row_faults, head_text, counts_text, row_data, line_told, row_line};
 
-use crate::faults::{write_faults, write_own_at_point};
+use crate::faults::{is_quiet, write_faults, write_own_at_point};
 use crate::number::{write_count, write_span};
 use crate::place::Place;
 use crate::value::write_value;
@@ -70,7 +70,7 @@ fn write_body_faults<'m>(
 }
 
 /// Writes all faults of a row, each with a comma behind it.
-#[tactic(auto, using(crate::proofs::Written::listed_append))]
+#[tactic(auto, using(crate::proofs::Written::listed_append, crate::proofs::Quiet::quiet_row))]
 fn write_row_faults<'m>(
     terms: &Terms<'m>,
     out: &mut Bytes,
@@ -79,6 +79,9 @@ fn write_row_faults<'m>(
 ) -> Result<(), Memory>
     ensures faults { OnOk result (out.new ≡ out.old ++ listed (row_faults terms.now.decls.now terms.now.names.now body.now row.now.value row.now.pd)) }
 {
+    if is_quiet(&row.pd) {
+        return Ok(());
+    }
     write_own_at_point(out, &row.pd)?;
     write_body_faults(terms, out, row.pd.kids.as_slice(), &row.value, body)
 }

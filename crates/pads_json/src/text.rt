@@ -1,4 +1,4 @@
-ghost use Rattle.std.specs.Prelude.{◌≡◌, ◌<◌, ◌++◌, encode_utf8, encode_utf8_all, OnOk};
+ghost use Rattle.std.specs.Prelude.{◌≡◌, ◌+◌, ◌<◌, ◌≤◌, ◌++◌, length, encode_utf8, encode_utf8_all, OnOk};
 ghost use Rattle.std.specs.Char.{digit_char};
 ghost use Rattle.std.specs.List.{list_all};
 ghost use Rattle.json.specs.Print.{escape_letter, escape_byte, escape, quoted};
@@ -15,8 +15,9 @@ fn stands(point: u8) -> bool
 }
 
 /// Whether each code point stands as itself. It looks at all of them, so that it looks at several at once.
+#[inline(always)]
 #[tactic(auto, using(std::proofs::lemmas::List::Folds::list_all_more))]
-fn all_stand(points: &[u8]) -> bool
+fn run_stands(points: &[u8]) -> bool
     ensures all { result ≡ list_all stands_of points.now }
 {
     let mut all = true;
@@ -24,6 +25,35 @@ fn all_stand(points: &[u8]) -> bool
         all = all & stands(*point);
     }
     all
+}
+
+/// The same by the first and the last ones, so many of each, which may share some.
+#[inline(always)]
+fn ends_stand(points: &[u8], count: usize) -> bool
+    requires covered { (count ≤ length points.now) × (length points.now ≤ count + count) }
+    ensures all { result ≡ list_all stands_of points.now }
+{
+    let first = run_stands(&points[..count]);
+    let last = run_stands(&points[points.len() - count..]);
+    first & last
+}
+
+/// The same. Where there are few, it looks at runs of a fixed length, which cost no loop.
+#[inline(always)]
+fn all_stand(points: &[u8]) -> bool
+    ensures all { result ≡ list_all stands_of points.now }
+{
+    let count = points.len();
+    if count < 4 || 32 < count {
+        return run_stands(points);
+    }
+    if count <= 8 {
+        return ends_stand(points, 4);
+    }
+    if count <= 16 {
+        return ends_stand(points, 8);
+    }
+    ends_stand(points, 16)
 }
 
 /// The letter of a byte's short escape; 0 where it has none.
@@ -79,6 +109,7 @@ fn write_point(out: &mut Bytes, point: u8) -> Result<(), Memory>
 }
 
 /// Writes a text, of which some bytes need an escape.
+#[inline(never)]
 fn write_each_byte(out: &mut Bytes, text: &[u8]) -> Result<(), Memory>
     ensures written { OnOk result (out.new ≡ out.old ++ escape text.now) }
 {
@@ -89,6 +120,7 @@ fn write_each_byte(out: &mut Bytes, text: &[u8]) -> Result<(), Memory>
 }
 
 /// Writes a text of code points 00 to FF, of which some don't stand as they are.
+#[inline(never)]
 fn write_each_point(out: &mut Bytes, points: &[u8]) -> Result<(), Memory>
     ensures written { OnOk result (out.new ≡ out.old ++ escaped_points points.now) }
 {
@@ -110,6 +142,7 @@ pub(crate) fn write_text(out: &mut Bytes, text: &[u8]) -> Result<(), Memory>
 }
 
 /// Writes a text of code points 00 to FF as it stands between quotes.
+#[inline(always)]
 #[tactic(auto, using(crate::proofs::Texts::points_stand))]
 pub(crate) fn write_points(out: &mut Bytes, points: &[u8]) -> Result<(), Memory>
     ensures written { OnOk result (out.new ≡ out.old ++ escaped_points points.now) }
