@@ -1,5 +1,5 @@
 -- The term to which steps lead, one step after another.
-use Rattle.std.proofs.Common.{◌≡◌, sym, ap, List, ◌∷◌, Option, None}
+use Rattle.std.proofs.Common.{◌≡◌, sym, ap, List, ◌∷◌, None}
 use Rattle.std.specs.Prelude.{option_and_then}
 use Rattle.pads_calc.specs.declared.decl.Decl.{Decl}
 use Rattle.pads_forms.specs.Forms.{Form}
