@@ -11,10 +11,12 @@ use Rattle.pads_image.specs.declared.op.Op.{Op}
 use Rattle.pads_image.specs.declared.op.Op.TheVariants as op
 use Rattle.pads_image.specs.Answers.{HaltsWith, Reaches}
 use Rattle.pads_image.specs.States.{Node, State, entries}
-use Rattle.pads_image.specs.Steps.{Step, Goes, Stuck, back_to, began, does_there, is_first, mark_at, shut_step, step, with_own, with_reading}
+use Rattle.pads_image.specs.Steps.{Step, Goes, Halts, Stuck, back_to, began, does_there, is_first, mark_at, shut_step, step, with_own, with_reading}
 use Rattle.law_images.proofs.Reaching.{before, here, to-same}
+use Rattle.pads_machine.specs.declared.step.Next.{Next}
+use Rattle.pads_machine.specs.declared.step.Next.TheVariants as next
 use Rattle.pads_machine.specs.Idle.{Idles}
-use Rattle.pads_machine.specs.Ran.{GoesWithin, Leads}
+use Rattle.pads_machine.specs.Ran.{Advances, GoesWithin, Leads, Tells}
 use Rattle.pads_machine.specs.Shown.{has_own}
 use Rattle.pads_machine.proofs.Endings.{turn-goes}
 use Rattle.pads_machine.proofs.Halts.{fits-first, moved}
@@ -23,6 +25,10 @@ use Rattle.pads_machine.proofs.Idling.{To, Walks, along, by, idling, join, once}
 within-if : (most : ℕ) (b : Bool) (t : State) → b ≡ true → entries t ≤ most → GoesWithin most (cond b (Goes t) Stuck)
 within-if most true t is fits = fits
 within-if most false t is fits = absurd cc
+
+no-halt : (b : Bool) (t : State) → b ≡ true → cond b (Goes t) Stuck ≡ Halts → ⊥
+no-halt true t is halts = absurd cc
+no-halt false t is halts = absurd cc
 
 -- the array ends over stacks that have less
 pub shut-within : (origin to place most : ℕ) (s : State) (n : Node) (nodes : List Node) → s.nodes ≡ n ∷ nodes → n.base ≡ length s.bindings → entries s ≤ most
@@ -85,7 +91,13 @@ module _ (code : List Op) (of_entries : List Entry) (subject : Subject) (most : 
         ∙ ap (λ (first : Bool). taken false first stays r) later
         ∙ ap (λ (stays : Bool). taken false false stays r) (eq-eqb r.place s.last.place place)
 
-    pub stall-leads : (u : State) (r : Reading) → 0 < s.depth → Idles code of_entries s.depth number
+    never-halts : shut_step subject.origin (record s { at_ = to; nodes = has_own (Some cause.ArrayStall) s.nodes }) (has_own (Some cause.ArrayStall) s.nodes) ≡ Halts
+        → n.base ≡ length s.bindings → ⊥
+    never-halts told base =
+        let own = λ (nodes : List Node). shut_step subject.origin (record s { at_ = to; nodes = has_own (Some cause.ArrayStall) nodes }) (has_own (Some cause.ArrayStall) nodes) in
+        no-halt (nat_eq (length s.bindings) n.base) _ (eq-eqb (length s.bindings) n.base (sym base)) (sym (ap own nodes_are) ∙ told)
+
+    stall-leads : (u : State) (r : Reading) → 0 < s.depth → Idles code of_entries s.depth number
         → shut_step subject.origin (record s { at_ = to; nodes = has_own (Some cause.ArrayStall) s.nodes }) (has_own (Some cause.ArrayStall) s.nodes) ≡ Goes u
         → HaltsWith code of_entries subject most s r → Leads code of_entries subject most s u
     stall-leads u r deep idles goes halts =
@@ -106,3 +118,11 @@ module _ (code : List Op) (of_entries : List Entry) (subject : Subject) (most : 
           goes = begins;
           more = fitting walk.steps begun u r walk.walk (moved code of_entries subject most s begun r begins halts);
         }
+
+    -- where the array's end has been done, as is told
+    pub stall-advances : (next : Next) (t u : State) (r : Reading) → 0 < s.depth → Idles code of_entries s.depth number
+        → Tells next (shut_step subject.origin (record s { at_ = to; nodes = has_own (Some cause.ArrayStall) s.nodes }) (has_own (Some cause.ArrayStall) s.nodes)) t u
+        → n.base ≡ length s.bindings → HaltsWith code of_entries subject most s r → Advances code of_entries subject most next s u
+    stall-advances next.Goes t u r deep idles told base halts = stall-leads u r deep idles told halts
+    stall-advances next.Searches t u r deep idles told base halts = stall-leads u r deep idles told halts
+    stall-advances next.Halts t u r deep idles told base halts = absurd (never-halts told.0 base)

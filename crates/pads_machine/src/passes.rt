@@ -228,8 +228,7 @@ impl State {
             Op::Turn(_) => {
                 if self.is_standing() {
                     if let Some(end) = self.stalls_at(program) {
-                        self.pass_turn(program, end);
-                        return Ok(Next::Goes);
+                        return self.pass_turn(alloc, program, end);
                     }
                 }
             }

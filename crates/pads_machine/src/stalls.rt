@@ -1,19 +1,20 @@
 //! Turns that are sure to be undone: the array has an element, and the next one is a call that takes no byte.
-ghost use Rattle.std.specs.Prelude.{◌≡◌, ℕ, [], ◌+◌, ◌<◌, ◌≤◌, ◌^◌, IfSome, IsTrue, List, None, Some, length, slice_get};
+ghost use Rattle.std.specs.Prelude.{◌≡◌, ℕ, [], ◌+◌, ◌<◌, ◌≤◌, ◌^◌, IfOk, IfSome, IsTrue, List, OnOk, None, Some, length, slice_get};
 ghost use Rattle.pads_calc.specs.declared.decl.Decl.{Decl};
 ghost use Rattle.pads_image.specs.Code.{IsCodeOf};
 ghost use Rattle.pads_image.specs.declared.op.Op.TheVariants as instruction;
 ghost use Rattle.pads_machine.specs.Held.{Held, Placed, Roomy};
 ghost use Rattle.pads_machine.specs.Idle.{Holds, Idles, IsArrayOf, IsStalled, IsStanding};
-ghost use Rattle.pads_machine.specs.Ran.{Halting, Leads};
+ghost use Rattle.pads_machine.specs.Ran.{Advances, Halting};
 ghost use Rattle.pads_machine.specs.Shown.{shown};
 ghost use Rattle.pads_steps.specs.Records.{subject_of};
 
 use crate::misses::entry_at;
 use crate::state::State;
-use crate::step::{Program, at};
+use crate::step::{Next, Program, at};
 use pads_image::{Entry, Op};
-use pads_value::Cause;
+use pads_value::{Cause, Memory};
+use std::alloc::Global;
 
 /// Whether an array of any size begins at an address.
 fn has_no_size(code: &[Op], address: usize) -> bool
@@ -197,20 +198,29 @@ impl State {
     /// Ends the latest array, over the steps that would begin a turn, read its element and undo it.
     #[cold]
     #[inline(never)]
-    pub(crate) fn pass_turn(&mut self, program: &Program, to: u32)
+    pub(crate) fn pass_turn(
+        &mut self,
+        alloc: Global,
+        program: &Program,
+        to: u32,
+    ) -> Result<Next, Memory>
         requires there { (first : ℕ) × (slice_get program.now.code.now self.old.address ≡ Some (instruction.Turn first)) }
         requires stalled { IsStalled program.now.code.now program.now.entries.now to self.old }
         requires halts { (steps : ℕ) × Halting program.now.code.now program.now.entries.now (subject_of program.now.record) self.old.room steps (shown self.old) }
         requires placed { Placed (length program.now.record.bytes.now) self.old }
         requires roomy { Roomy self.old.room self.old }
         requires held { Held self.old }
-        ensures leads { Leads program.now.code.now program.now.entries.now (subject_of program.now.record) self.old.room (shown self.old) (shown self.new) }
-        ensures placed { Placed (length program.now.record.bytes.now) self.new }
-        ensures held { Held self.new }
+        ensures advance { IfOk result (λ next. Advances program.now.code.now program.now.entries.now (subject_of program.now.record) self.old.room next (shown self.old) (shown self.new)) }
+        ensures placed { OnOk result (Placed (length program.now.record.bytes.now) self.new) }
+        ensures held { OnOk result (Held self.new) }
         ensures roomy { Roomy self.old.room self.new }
     {
+        let Some(shut) = at(program.code, to as usize) else {
+            unreachable!()
+        };
         let place = self.last.place;
         self.undo(Cause::ArrayStall, place, to);
-        self.shut(program.record.origin);
+        let next = self.step(alloc, program, shut)?;
+        Ok(next)
     }
 }
