@@ -151,7 +151,7 @@ module _ (code : List Op) (of_entries : List Entry) (subject : Subject) where
 
     turns-later : (last : Reading) (value : Val) (pd : Pd)
         → step of_entries subject code (inside (first + 3) last (opened None (value ∷ []) (pd ∷ [])) s.marks)
-            ≡ Goes (inside (first + 4) last (opened None (value ∷ []) (pd ∷ [])) (mark_at last.place ∷ s.marks))
+        ≡ Goes (inside (first + 4) last (opened None (value ∷ []) (pd ∷ [])) (mark_at last.place ∷ s.marks))
     turns-later last value pd =
         let further : first + 3 + 1 ≡ first + 4 = omega arith in
         by (inside (first + 3) last (opened None (value ∷ []) (pd ∷ [])) s.marks) _ (op.Turn (first + 4)) h.2.turn
@@ -160,7 +160,7 @@ module _ (code : List Op) (of_entries : List Entry) (subject : Subject) where
     -- it ends, and so does the call
     shuts : (own : Option Cause) (values : List Val) (pds : List Pd) (last : Reading)
         → step of_entries subject code (inside (first + 6) last (opened own values pds) s.marks)
-            ≡ Goes (inside (first + 7) (array subject.origin own values pds begin last.place) s.nodes s.marks)
+        ≡ Goes (inside (first + 7) (array subject.origin own values pds begin last.place) s.nodes s.marks)
     shuts own values pds last =
         let further : first + 6 + 1 ≡ first + 7 = omega arith in
         by (inside (first + 6) last (opened own values pds) s.marks) _ op.Shut h.2.shut
@@ -216,7 +216,7 @@ module _ (code : List Op) (of_entries : List Entry) (subject : Subject) where
 
     elems : (r : Reading) (values : List Val) (pds : List Pd) (fell : Bool) → is_fail_class (out-Pd r.pd).class && nat_eq r.place (began subject.origin r) ≡ fell
         → step of_entries subject code (inside (first + 5) r (opened None values pds) turned)
-            ≡ taken fell (not (nat_eq (length values) 0) && nat_eq r.place begin) r values pds
+        ≡ taken fell (not (nat_eq (length values) 0) && nat_eq r.place begin) r values pds
     elems r values pds fell is =
         ap (λ o. does_there of_entries subject o (inside (first + 5) r (opened None values pds) turned)) h.2.elem
         ∙ ap (λ (fell : Bool). taken fell (not (nat_eq (length values) 0) && nat_eq r.place begin) r values pds) is
@@ -259,14 +259,14 @@ module _ (code : List Op) (of_entries : List Entry) (subject : Subject) where
     module _ (each : (nodes : List Node) (last : Reading) → last.place ≡ begin → floor_of nodes ≤ length s.bindings → Idling (inside (first + 4) last nodes turned)) where
       kept : (r : Reading) → r.place ≡ begin → is_fail_class (out-Pd r.pd).class ≡ false
           → step of_entries subject code (inside (first + 5) r (opened None [] []) turned)
-              ≡ Goes (inside (first + 1) (unit_of subject.origin begin) (opened None (r.value ∷ []) (r.pd ∷ [])) s.marks)
+          ≡ Goes (inside (first + 1) (unit_of subject.origin begin) (opened None (r.value ∷ []) (r.pd ∷ [])) s.marks)
       kept r place class_is =
           elems r [] [] false (stands r class_is)
           ∙ ap (λ p. Goes (inside (first + 1) (unit_of subject.origin p) (opened None (r.value ∷ []) (r.pd ∷ [])) s.marks)) place
 
       stalls : (r : Reading) (value : Val) (pd : Pd) → r.place ≡ begin → is_fail_class (out-Pd r.pd).class ≡ false
           → step of_entries subject code (inside (first + 5) r (opened None (value ∷ []) (pd ∷ [])) turned)
-              ≡ Goes (inside (first + 6) (back_to begin r) (opened (Some cause.ArrayStall) (value ∷ []) (pd ∷ [])) s.marks)
+          ≡ Goes (inside (first + 6) (back_to begin r) (opened (Some cause.ArrayStall) (value ∷ []) (pd ∷ [])) s.marks)
       stalls r value pd place class_is =
           elems r (value ∷ []) (pd ∷ []) false (stands r class_is)
           ∙ ap (λ (stall : Bool). taken false stall r (value ∷ []) (pd ∷ [])) (eq-eqb r.place begin place)

@@ -74,7 +74,11 @@ impl Node {
         self.pds.reserve(1)?;
         let place = last.place;
         let unit = Reading::leaf(alloc, origin, Val::Unit, place, place);
-        let Reading { value, pd, place: _ } = mem::replace(last, unit);
+        let Reading {
+            value,
+            pd,
+            place: _,
+        } = mem::replace(last, unit);
         match name {
             None => self.values.push_reserved(value),
             Some(name) => {
