@@ -1,6 +1,7 @@
 pub mod Answered
 pub mod Bound
 pub mod Branches
+pub mod Continuing
 pub mod Endings
 pub mod Halts
 pub mod Homes

@@ -46,7 +46,7 @@ above-zero (suc k) more = (k, refl)
 
 module _ (code : List Op) (of_entries : List Entry) (subject : Subject) (most : ℕ) where
   -- steps of a run that halts are within its room
-  fitting : (n : ℕ) (s u : State) (r : Reading) → Walks code of_entries subject n s u → HaltsWith code of_entries subject most s r → Reaches code of_entries subject most s u
+  pub fitting : (n : ℕ) (s u : State) (r : Reading) → Walks code of_entries subject n s u → HaltsWith code of_entries subject most s r → Reaches code of_entries subject most s u
   fitting zero s u r walk h = to-same code of_entries subject most s s u walk (here code of_entries subject most s)
   fitting (suc n) s u r walk h =
       before code of_entries subject most s walk.0 u (fits-first code of_entries subject most h.reached.steps s h.end h.reached.run h.within) walk.1

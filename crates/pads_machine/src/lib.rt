@@ -2,6 +2,7 @@
 #![tactic(auto)]
 
 mod arrays;
+mod between;
 mod bindings;
 mod choices;
 mod literals;

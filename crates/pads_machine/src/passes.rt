@@ -225,6 +225,14 @@ impl State {
                     return Ok(Next::Goes);
                 }
             }
+            Op::Full(None, _, _) => {
+                if let Some(edge) = self.more_at(program) {
+                    if let Some(reading) = self.separator_at(alloc, program, edge) {
+                        self.pass_separator(program, edge, reading);
+                        return Ok(Next::Goes);
+                    }
+                }
+            }
             Op::Turn(_) => {
                 if self.is_standing() {
                     if let Some(end) = self.stalls_at(program) {
