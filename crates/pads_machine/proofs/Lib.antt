@@ -14,3 +14,4 @@ pub mod Shows
 pub mod Taking
 pub mod Tops
 pub mod Undone
+pub mod Valued

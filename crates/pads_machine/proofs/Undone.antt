@@ -1,5 +1,5 @@
 -- A turn whose element takes no byte, where the array has one: its steps lead to the array's end.
-use Rattle.std.proofs.Common.{cond, ◌≡◌, ◌∙◌, sym, ap, refl, subst, arith, ℕ, zero, suc, ◌+◌, ◌<◌, ◌≤◌, Bool, true, false, not, ◌&&◌, if◌then◌else◌, nat_eq, eq-eqb, List, [], ◌∷◌, length, Some, slice_get}
+use Rattle.std.proofs.Common.{cond, ◌≡◌, ◌∙◌, sym, ap, refl, subst, arith, ℕ, zero, suc, ◌+◌, ◌≤◌, Bool, true, false, not, ◌&&◌, if◌then◌else◌, nat_eq, eq-eqb, List, ◌∷◌, length, Some, slice_get}
 use Rattle.pads_value.specs.declared.cause.Cause.TheVariants as cause
 use Rattle.pads_value.specs.declared.descriptor.Pd.{out-Pd}
 use Rattle.pads_calc.specs.declared.reading.Reading.{Reading}
@@ -10,17 +10,17 @@ use Rattle.pads_image.specs.declared.entry.Entry.{Entry}
 use Rattle.pads_image.specs.declared.op.Op.{Op}
 use Rattle.pads_image.specs.declared.op.Op.TheVariants as op
 use Rattle.pads_image.specs.Answers.{HaltsWith, Reaches}
-use Rattle.pads_image.specs.States.{Node, State, entries}
+use Rattle.pads_image.specs.States.{Mark, Node, State, entries, seen}
 use Rattle.pads_image.specs.Steps.{Step, Goes, Halts, Stuck, back_to, began, does_there, is_first, mark_at, shut_step, step, with_own, with_reading}
 use Rattle.law_images.proofs.Reaching.{before, here, to-same}
 use Rattle.pads_machine.specs.declared.step.Next.{Next}
 use Rattle.pads_machine.specs.declared.step.Next.TheVariants as next
-use Rattle.pads_machine.specs.Idle.{Idles}
+use Rattle.pads_machine.specs.Idle.{IdlesTo}
 use Rattle.pads_machine.specs.Ran.{Advances, GoesWithin, Leads, Tells}
 use Rattle.pads_machine.specs.Shown.{has_own}
 use Rattle.pads_machine.proofs.Endings.{turn-goes}
 use Rattle.pads_machine.proofs.Halts.{fits-first, moved}
-use Rattle.pads_machine.proofs.Idling.{To, Walks, along, by, idling, join, once}
+use Rattle.pads_machine.proofs.Idling.{To, Walks, along, by, idles-to, join, once}
 
 within-if : (most : ℕ) (b : Bool) (t : State) → b ≡ true → entries t ≤ most → GoesWithin most (cond b (Goes t) Stuck)
 within-if most true t is fits = fits
@@ -39,10 +39,10 @@ shut-within origin to place most s n nodes nodes_are alone fits =
     subst (λ (nodes : List Node). GoesWithin most (shut_step origin (ended nodes) (has_own (Some cause.ArrayStall) nodes))) (sym nodes_are)
     (within-if most (nat_eq (length s.bindings) n.base) _ (eq-eqb (length s.bindings) n.base (sym alone)) left)
 
--- a number that isn't 0
-above-zero : (n : ℕ) → 0 < n → (k : ℕ) × (n ≡ suc k)
-above-zero zero more = absurd (omega (arith, more))
-above-zero (suc k) more = (k, refl)
+-- what expressions see is neither among the nodes nor among the marks
+seen-there : (s : State) (address : ℕ) (nodes : List Node) (marks : List Mark) → seen s ≡ seen (record s { at_ = address; nodes = nodes; marks = marks })
+unfolding seen
+seen-there s address nodes marks = refl
 
 module _ (code : List Op) (of_entries : List Entry) (subject : Subject) (most : ℕ) where
   -- steps of a run that halts are within its room
@@ -56,8 +56,8 @@ module _ (code : List Op) (of_entries : List Entry) (subject : Subject) (most : 
   room-there s r h = fits-first code of_entries subject most h.reached.steps s h.end h.reached.run h.within
 
   module _ (s : State) (n : Node) (nodes : List Node) (nodes_are : s.nodes ≡ n ∷ nodes) (later : is_first n ≡ false) (alone : n.base ≤ length s.bindings)
-      (first number to again : ℕ) (turns : slice_get code s.at_ ≡ Some (op.Turn first)) (calls : slice_get code (s.at_ + 1) ≡ Some (op.Call number []))
-      (ends : slice_get code (s.at_ + 2) ≡ Some (op.Elem to again)) (shuts : slice_get code to ≡ Some op.Shut) where
+      (first behind to again : ℕ) (turns : slice_get code s.at_ ≡ Some (op.Turn first)) (element : IdlesTo code of_entries subject s.last.place (seen s) s.depth (s.at_ + 1) behind)
+      (ends : slice_get code behind ≡ Some (op.Elem to again)) (shuts : slice_get code to ≡ Some op.Shut) where
     abbrev begun : State
     begun = record s { at_ = s.at_ + 1; nodes = n ∷ nodes; marks = mark_at s.last.place ∷ s.marks }
 
@@ -69,7 +69,7 @@ module _ (code : List Op) (of_entries : List Entry) (subject : Subject) (most : 
 
     -- where the element has been read
     abbrev read : Reading → State
-    read r = record begun { at_ = s.at_ + 2; last = r }
+    read r = record begun { at_ = behind; last = r }
 
     -- where the array ends
     abbrev ended : ℕ → State
@@ -97,22 +97,19 @@ module _ (code : List Op) (of_entries : List Entry) (subject : Subject) (most : 
         let own = λ (nodes : List Node). shut_step subject.origin (record s { at_ = to; nodes = has_own (Some cause.ArrayStall) nodes }) (has_own (Some cause.ArrayStall) nodes) in
         no-halt (nat_eq (length s.bindings) n.base) _ (eq-eqb (length s.bindings) n.base (sym base)) (sym (ap own nodes_are) ∙ told)
 
-    stall-leads : (u : State) (r : Reading) → 0 < s.depth → Idles code of_entries s.depth number
+    stall-leads : (u : State) (r : Reading)
         → shut_step subject.origin (record s { at_ = to; nodes = has_own (Some cause.ArrayStall) s.nodes }) (has_own (Some cause.ArrayStall) s.nodes) ≡ Goes u
         → HaltsWith code of_entries subject most s r → Leads code of_entries subject most s u
-    stall-leads u r deep idles goes halts =
-        let depth = above-zero s.depth deep in
-        let idles_so : Idles code of_entries (suc depth.0) number = subst (λ d. Idles code of_entries d number) depth.1 idles in
-        let e = idling code of_entries subject depth.0 number idles_so begun calls depth.1 alone in
-        let further : s.at_ + 1 + 1 ≡ s.at_ + 2 = omega arith in
+    stall-leads u r goes halts =
+        let element_there = subst (λ env. IdlesTo code of_entries subject s.last.place env s.depth (s.at_ + 1) behind) (seen-there s (s.at_ + 1) (n ∷ nodes) (mark_at s.last.place ∷ s.marks)) element in
+        let e = idles-to code of_entries subject s.last.place s.depth begun (s.at_ + 1) behind refl element_there refl alone refl in
         let q = e.reading in
-        let elem : To code of_entries subject begun (read q) = subst (λ p. To code of_entries subject begun (record begun { at_ = p; last = q })) further e.walk in
         let z : State = record s { at_ = to; last = back_to s.last.place q; nodes = with_own (Some cause.ArrayStall) n ∷ nodes } in
         let own = λ (nodes : List Node). shut_step subject.origin (record s { at_ = to; nodes = has_own (Some cause.ArrayStall) nodes }) (has_own (Some cause.ArrayStall) nodes) in
         let shut : step of_entries subject code z ≡ Goes u = by code of_entries subject z u op.Shut shuts (sym (ap own nodes_are) ∙ goes) in
         let walk : To code of_entries subject begun u =
-        join code of_entries subject begun (read q) u elem
-        (along code of_entries subject (read q) z u (stalls q e.place e.class_is) (once code of_entries subject z u shut)) in
+        join code of_entries subject begun (read q) u e.walk
+        (along code of_entries subject (read q) z u (stalls q e.place (e.class_is refl)) (once code of_entries subject z u shut)) in
         record {
           next_ = begun;
           goes = begins;
@@ -120,9 +117,9 @@ module _ (code : List Op) (of_entries : List Entry) (subject : Subject) (most : 
         }
 
     -- where the array's end has been done, as is told
-    pub stall-advances : (next : Next) (t u : State) (r : Reading) → 0 < s.depth → Idles code of_entries s.depth number
+    pub stall-advances : (next : Next) (t u : State) (r : Reading)
         → Tells next (shut_step subject.origin (record s { at_ = to; nodes = has_own (Some cause.ArrayStall) s.nodes }) (has_own (Some cause.ArrayStall) s.nodes)) t u
         → n.base ≡ length s.bindings → HaltsWith code of_entries subject most s r → Advances code of_entries subject most next s u
-    stall-advances next.Goes t u r deep idles told base halts = stall-leads u r deep idles told halts
-    stall-advances next.Searches t u r deep idles told base halts = stall-leads u r deep idles told halts
-    stall-advances next.Halts t u r deep idles told base halts = absurd (never-halts told.0 base)
+    stall-advances next.Goes t u r told base halts = stall-leads u r told halts
+    stall-advances next.Searches t u r told base halts = stall-leads u r told halts
+    stall-advances next.Halts t u r told base halts = absurd (never-halts told.0 base)

@@ -3,7 +3,6 @@
 -- struct shows has each value at its home.
 use Rattle.std.specs.Prelude.{◌≡◌, ℕ, ◌-◌, List, [], ◌∷◌, ◌++◌, length, take, drop, map, reverse, Option, Some, None, slice_set}
 use Rattle.pads_value.specs.declared.cause.Cause.{Cause}
-use Rattle.pads_value.specs.declared.descriptor.Pd.{Pd}
 use Rattle.pads_value.specs.declared.value.Val.{Val}
 use Rattle.pads_value.specs.declared.value.Val.TheVariants as val
 use Rattle.pads_dispatch.specs.declared.base.Arg.{Arg}

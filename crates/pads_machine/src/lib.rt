@@ -5,6 +5,7 @@ mod arrays;
 mod between;
 mod bindings;
 mod choices;
+mod links;
 mod literals;
 mod machine;
 mod misses;

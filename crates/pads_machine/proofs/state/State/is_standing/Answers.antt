@@ -1,4 +1,4 @@
-use Rattle.std.proofs.Common.{arith, ◌≡◌, ◌<◌, length, eqb-true}
+use Rattle.std.proofs.Common.{arith, ◌<◌, eqb-true}
 use Rattle.pads_machine.proofs.state.State.is_standing.Goals as goal
 
 pub returns : goal.returns

@@ -1,11 +1,11 @@
-use Rattle.std.proofs.Common.{◌≡◌, ◌∙◌, ap, sym, subst, arith, ◌≤◌, false, nat_eq, length, Some}
+use Rattle.std.proofs.Common.{◌≡◌, ◌∙◌, ap, sym, subst, arith, ◌≤◌, false, nat_eq, length}
 use Rattle.std.proofs.lemmas.Bool.{ne_eqb}
 use Rattle.std.proofs.lemmas.List.{length-reverse}
 use Rattle.pads_steps.specs.Records.{subject_of}
 use Rattle.pads_image.specs.declared.op.Op.{Op}
 use Rattle.pads_image.specs.declared.op.Op.TheVariants as op
 use Rattle.pads_image.specs.States as states
-use Rattle.pads_image.specs.Steps.{Step, does, shut_step}
+use Rattle.pads_image.specs.Steps.{Step, does}
 use Rattle.pads_machine.specs.Ran.{GoesWithin, Tells}
 use Rattle.pads_machine.specs.Shown.{shown}
 use Rattle.pads_machine.proofs.Undone.{room-there, shut-within, stall-advances}
@@ -52,5 +52,5 @@ returns-clause-advance c =
     let done = ap (λ (o : Op). does entries subject o k) same ∙ ap (λ (t : states.State). does entries subject op.Shut t) c.undo.ensures.undo in
     let told = subst (λ (made : Step). Tells next made k u) done c.in_ok-next.ensures.step in
     stall-advances code entries subject m.room s (top_shown m n) (below_top m n) nodes_are (nodes-first m n false first) above
-    c.requires.there.0 stalled.call.0 c.args.to stalled.elem.0 c.requires.there.1 stalled.call.1 stalled.elem.1 stalled.shut
-    next k u c.requires.halts.1.0 stalled.deep stalled.call.2 told alone c.requires.halts.1.1
+    c.requires.there.0 stalled.behind c.args.to stalled.elem.0 c.requires.there.1 stalled.element stalled.elem.1 stalled.shut
+    next k u c.requires.halts.1.0 told alone c.requires.halts.1.1
