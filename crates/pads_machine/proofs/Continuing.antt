@@ -1,6 +1,6 @@
 -- Between two elements of an array: the steps that look for its terminator and for the end of the record, begin a turn
 -- and read its separator lead to the next element.
-use Rattle.std.proofs.Common.{◌≡◌, ◌∙◌, sym, ap, refl, subst, arith, ℕ, zero, suc, ◌+◌, ◌<◌, ◌≤◌, ◌⊎◌, inl, inr, ⊎_elim, Bool, true, false, if◌then◌else◌, nat_eq, eq-eqb, List, ◌∷◌, drop, length, Option, Some, None, slice_get}
+use Rattle.std.proofs.Common.{◌≡◌, ◌∙◌, sym, ap, refl, subst, arith, ℕ, zero, suc, ◌+◌, ◌≤◌, ⊎_elim, Bool, true, false, if◌then◌else◌, nat_eq, eq-eqb, List, ◌∷◌, drop, length, Some, None, slice_get}
 use Rattle.std.specs.List.{starts_with}
 use Rattle.pads_value.specs.declared.cause.Cause.TheVariants as cause
 use Rattle.pads_value.specs.declared.value.Val.TheVariants as val
@@ -13,14 +13,14 @@ use Rattle.pads_image.specs.declared.entry.Entry.{Entry}
 use Rattle.pads_image.specs.declared.op.Op.{Op}
 use Rattle.pads_image.specs.declared.op.Op.TheVariants as op
 use Rattle.pads_image.specs.Answers.{HaltsWith}
-use Rattle.pads_image.specs.States.{Mark, Node, State, entries}
-use Rattle.pads_image.specs.Steps.{Step, Goes, Stuck, back_to, does, does_there, is_first, mark_at, step, undone, with_own}
+use Rattle.pads_image.specs.States.{Mark, Node, State}
+use Rattle.pads_image.specs.Steps.{Step, Goes, Stuck, back_to, does, is_first, mark_at, step, undone, with_own}
 use Rattle.pads_steps.proofs.Searches.{absorbs}
 use Rattle.pads_machine.specs.Between.{IsEdge, IsMissed, IsSeparated, IsSeparator, IsUnmet}
 use Rattle.pads_machine.specs.Ran.{GoesWithin, Leads}
 use Rattle.pads_machine.proofs.Endings.{full-alone}
 use Rattle.pads_machine.proofs.Halts.{at-op, goes-within, moved}
-use Rattle.pads_machine.proofs.Idling.{To, Walks, along, by, join, once}
+use Rattle.pads_machine.proofs.Walking.{To, Walks, along, by, join, once}
 use Rattle.pads_machine.proofs.Undone.{fitting, room-there}
 
 module _ (code : List Op) (of_entries : List Entry) (subject : Subject) (most : ℕ) where

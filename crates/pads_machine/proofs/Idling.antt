@@ -11,7 +11,7 @@ use Rattle.pads_value.specs.declared.value.Val.TheVariants as val
 use Rattle.pads_value.specs.Header.{all_clean, class_of}
 use Rattle.pads_expr.specs.declared.expr.Expr.{Expr}
 use Rattle.pads_expr.specs.declared.expr.Expr.TheVariants as expr
-use Rattle.pads_expr.specs.Value.{Pairs}
+use Rattle.pads_expr.specs.Value.{Pairs, value}
 use Rattle.pads_expr.specs.Worth.{Answer, worth_or_none}
 use Rattle.pads_expr.proofs.Steps.{value-Num}
 use Rattle.pads_calc.specs.declared.reading.Reading.{Reading}
@@ -19,7 +19,7 @@ use Rattle.pads_dispatch.specs.declared.base.Arg.{Arg}
 use Rattle.pads_calc.specs.Arguments.{arg_told, arguments, bound_to, is_true}
 use Rattle.pads_calc.specs.Arrays.{below_size, is_fail_class, is_full, is_last, size_of_arg, soft}
 use Rattle.pads_calc.specs.Choices.{branch_of}
-use Rattle.pads_calc.specs.Leaves.{at_end, eor_of, lit_of, unit_of}
+use Rattle.pads_calc.specs.Leaves.{at_end, base_of, compute_node, compute_of, computed_told, eor_of, lit_of, unit_of}
 use Rattle.pads_calc.specs.Readings.{Subject, fails, is_ok, leaf, node}
 use Rattle.pads_calc.specs.Structs.{bind}
 use Rattle.pads_calc.specs.Wrappers.{absorb_of, constrained, guard_of}
@@ -32,7 +32,9 @@ use Rattle.pads_image.specs.Blocks.{bindings_of}
 use Rattle.pads_image.specs.States.{Caller, Mark, Node, State, floor_of, seen}
 use Rattle.pads_image.specs.Steps.{Step, Goes, Stuck, back_to, began, call_in, call_step, does, does_there, mark_at, size_step, step}
 use Rattle.law_images.proofs.Reaching.{bound-over, drop-over}
-use Rattle.pads_machine.specs.Idle.{Ends, HasTerminator, HasValues, Idles, IdlesTo, IsAround, IsArrayOf, IsBefore, IsBehind, IsBodyOf, IsGuarded, IsNamed, IsOptional, IsSize, IsStructOf, LacksSeparator, Links, ReadsCall, ReadsMarker}
+use Rattle.pads_machine.specs.Idle.{AreIdleParts, Ends, HasTerminator, HasValues, Idles, IdlesTo, IsAround, IsArrayOf, IsBefore, IsBehind, IsBodyOf, IsGuarded, IsIdlePart, IsKept, IsNamed, IsOptional, IsSize, IsStructOf, LacksSeparator, Links, ReadsCall, ReadsMarker}
+use Rattle.pads_machine.proofs.Seeking.{seeks-none}
+use Rattle.pads_machine.proofs.Walking as walks
 
 -- one link more
 pub link-idles : (code : List Op) (of_entries : List Entry) (subject : Subject) (place : ℕ) (wanted : Bool) (depth number : ℕ) (still : Bool) (inner : ℕ) → 0 < depth
@@ -78,36 +80,31 @@ bound-drops : (names : List ℕ) (values : List Arg) (env : Pairs) → drop (len
 bound-drops names values env =
     subst (λ (bound : Pairs). drop (length bound - length env) bound ≡ env) (sym (bound-over names values [] env)) (drop-over (bound_to names values []) env)
 
+-- a computed value takes no byte
+compute-place : (origin i : ℕ) (found : Option Val) → (compute_node origin i found).place ≡ i
+compute-place origin i None = refl
+compute-place origin i (Some value) = refl
+
 bound-more : (names : List ℕ) (values : List Arg) (env : Pairs) → length env ≤ length (bound_to names values env)
 bound-more names values env =
     omega (arith, ap (λ (bound : Pairs). length bound) (bound-over names values [] env), length-append (bound_to names values []) env)
 
--- steps from a state to a state, over stacks of any size
 module _ (code : List Op) (of_entries : List Entry) (subject : Subject) where
-  abbrev pub Walks : ℕ → State → State → Type 0
-  Walks zero s u = s ≡ u
-  Walks (suc n) s u = (t : State) × (step of_entries subject code s ≡ Goes t) × Walks n t u
+  -- steps lead from a state to a state
+  abbrev To : State → State → Type 0
+  To s u = walks.To code of_entries subject s u
 
-  pub record To (s u : State) : Type 0 where
-    pub steps : ℕ
-    pub walk : Walks steps s u
+  along : (s t u : State) → step of_entries subject code s ≡ Goes t → To t u → To s u
+  along s t u goes more = walks.along code of_entries subject s t u goes more
 
-  pub along : (s t u : State) → step of_entries subject code s ≡ Goes t → To t u → To s u
-  along s t u goes more = record { steps = suc more.steps; walk = (t, goes, more.walk) }
+  once : (s t : State) → step of_entries subject code s ≡ Goes t → To s t
+  once s t goes = walks.once code of_entries subject s t goes
 
-  pub once : (s t : State) → step of_entries subject code s ≡ Goes t → To s t
-  once s t goes = record { steps = suc zero; walk = (t, goes, refl) }
+  join : (s t u : State) → To s t → To t u → To s u
+  join s t u a b = walks.join code of_entries subject s t u a b
 
-  walks-join : (n : ℕ) (s t u : State) → Walks n s t → To t u → To s u
-  walks-join zero s t u a b = subst (λ (x : State). To x u) (sym a) b
-  walks-join (suc n) s t u a b = along s a.0 u a.1 (walks-join n a.0 t u a.2 b)
-
-  pub join : (s t u : State) → To s t → To t u → To s u
-  join s t u a b = walks-join a.steps s t u a.walk b
-
-  -- the instruction at an address
-  pub by : (s t : State) (instruction : Op) → slice_get code s.at_ ≡ Some instruction → does of_entries subject instruction s ≡ Goes t → step of_entries subject code s ≡ Goes t
-  by s t instruction there goes = ap (λ o. does_there of_entries subject o s) there ∙ goes
+  by : (s t : State) (instruction : Op) → slice_get code s.at_ ≡ Some instruction → does of_entries subject instruction s ≡ Goes t → step of_entries subject code s ≡ Goes t
+  by s t instruction there goes = walks.by code of_entries subject s t instruction there goes
 
   -- at a place
   module _ (spot : ℕ) where
@@ -596,78 +593,173 @@ module _ (code : List Op) (of_entries : List Entry) (subject : Subject) where
                 class_is = λ wanted. node-class subject.origin e.own (val.Array e.values) e.pds begin e.last.place;
               }
 
-      -- the declaration is a struct of one call
-      module _ (inner next : ℕ) (h : IsStructOf code first inner next) (each : IdlesAt false depth inner) where
-        abbrev at_call : State
-        at_call = inside (first + 1) s.last (opened None None [] []) s.marks
+      -- the declaration is a struct: among its parts, with bindings of its own
+      abbrev among : ℕ → Reading → Pairs → List Val → List Pd → State
+      among address last mine values pds = record s {
+        at_ = address;
+        last = last;
+        depth = depth;
+        bindings = mine ++ bound;
+        nodes = opened None None values pds;
+        callers = caller ∷ s.callers;
+      }
 
-        called : Idling false at_call h.behind
-        called = reads-call depth inner each at_call (first + 1) h.behind refl h.call refl (omega arith) at_spot
+      bind-own : (name : Option ℕ) (value : Val) (mine : Pairs) → bind name value (mine ++ bound) ≡ bind name value mine ++ bound
+      bind-own None value mine = refl
+      bind-own (Some name) value mine = refl
 
-        abbrev at_guard : State
-        at_guard = inside h.behind called.reading (opened None None [] []) s.marks
+      bind-more : (name : Option ℕ) (value : Val) (mine : Pairs) → length (bind name value mine) ≡ length mine + bindings_of name
+      bind-more None value mine = omega arith
+      bind-more (Some name) value mine = omega arith
 
-        guarded : Guarded at_guard h.kept
-        guarded = guards at_guard h.behind h.kept refl h.guarded
+      -- behind some of its parts no byte is taken, and so many are named
+      record Parted (address names : ℕ) : Type 0 where
+        pub last : Reading
+        pub mine : Pairs
+        pub values : List Val
+        pub pds : List Pd
+        pub place : last.place ≡ begin
+        pub bound_ : length mine ≡ names
+        pub walk : To (inside first s.last s.nodes s.marks) (among address last mine values pds)
 
-        abbrev r : Reading
-        r = guarded.reading
+      -- what was read without a byte is kept
+      keeps : (address names next : ℕ) (name : Option ℕ) (behind : ℕ) (last : Reading) (p : Parted address names) → last.place ≡ begin
+          → To (among address p.last p.mine p.values p.pds) (among behind last p.mine p.values p.pds) → IsKept code behind name next → Parted next (names + bindings_of name)
+      keeps address names next name behind last p place walk kept =
+          let a = inside first s.last s.nodes s.marks in
+          let t = among address p.last p.mine p.values p.pds in
+          let u = among behind last p.mine p.values p.pds in
+          let g = guards u behind kept.kept refl kept.guarded in
+          let r = g.reading in
+          let v = among kept.kept r p.mine p.values p.pds in
+          let mine = bind name r.value p.mine in
+          let w = among next (unit_of subject.origin r.place) mine (p.values ++ r.value ∷ []) (p.pds ++ r.pd ∷ []) in
+          let further : kept.kept + 1 ≡ next = sym kept.ends in
+          let part : step of_entries subject code v ≡ Goes w
+          = by v w (op.Part name) kept.part
+          (ap (λ (bindings : Pairs).
+          Goes (record v {
+            at_ = kept.kept + 1;
+            last = unit_of subject.origin r.place;
+            bindings = bindings;
+            nodes = opened None None (p.values ++ r.value ∷ []) (p.pds ++ r.pd ∷ []);
+          })) (bind-own name r.value p.mine)
+          ∙ ap (λ at_. Goes (among at_ (unit_of subject.origin r.place) mine (p.values ++ r.value ∷ []) (p.pds ++ r.pd ∷ []))) further) in
+          record {
+            last = unit_of subject.origin r.place;
+            mine = mine;
+            values = p.values ++ r.value ∷ [];
+            pds = p.pds ++ r.pd ∷ [];
+            place = g.place ∙ place;
+            bound_ = bind-more name r.value p.mine ∙ ap (λ k. k + bindings_of name) p.bound_;
+            walk = join a t w p.walk (join t u w walk (join u v w g.walk (once v w part)));
+          }
+
+      -- a base type that takes no byte, a computed value, or a literal that isn't found
+      reads-none : (address names next : ℕ) (name : Option ℕ) → Parted address names → IsIdlePart code subject spot address name next → Parted next (names + bindings_of name)
+      reads-none address names next name p (behind, inl base, kept) =
+          let t = among address p.last p.mine p.values p.pds in
+          let r = base_of subject base.0 (arguments base.1 (seen t)) p.last.place in
+          let u = among behind r p.mine p.values p.pds in
+          let here = p.place ∙ at_spot in
+          let stays : r.place ≡ begin = ap (λ i. (base_of subject base.0 (arguments base.1 (seen t)) i).place) here ∙ base.3 (seen t) ∙ sym at_spot in
+          let goes : step of_entries subject code t ≡ Goes u
+          = by t u (op.Base base.0 base.1) base.2 (ap (λ q. Goes (among q r p.mine p.values p.pds)) (sym base.4)) in
+          keeps address names next name behind r p stays (once t u goes) kept
+      reads-none address names next name p (behind, inr (inl computed), kept) =
+          let t = among address p.last p.mine p.values p.pds in
+          let found = worth_or_none (value computed.0 (seen t)) in
+          let r = compute_of subject.origin computed.1 found p.last.place in
+          let u = among behind r p.mine p.values p.pds in
+          let stays : r.place ≡ begin = compute-place subject.origin p.last.place (computed_told computed.1 found) ∙ p.place in
+          let goes : step of_entries subject code t ≡ Goes u
+          = by t u (op.Compute computed.0 computed.1) computed.2 (ap (λ q. Goes (among q r p.mine p.values p.pds)) (sym computed.3)) in
+          keeps address names next name behind r p stays (once t u goes) kept
+      reads-none address names next name p (behind, inr (inr literal), kept) =
+          let t = among address p.last p.mine p.values p.pds in
+          let f = seeks-none code of_entries subject spot t literal.0 (p.place ∙ at_spot) in
+          let r = fails subject.origin f.kept spot in
+          let walk = subst (λ q. To t (among q r p.mine p.values p.pds)) (sym literal.1) f.walk in
+          keeps address names next name behind r p (sym at_spot) walk kept
+
+      -- such parts, one behind another
+      more-parts : (from count names next more : ℕ) → AreIdleParts code subject spot from count next more → Parted from names → Parted next (names + more)
+      more-parts from zero names next more none p =
+          let same : names ≡ names + more = omega (arith, none.1) in
+          subst (λ names. Parted next names) same (subst (λ address. Parted address names) (sym none.0) p)
+      more-parts from (suc count) names next more parts p =
+          let before = more-parts from count names parts.0 parts.1 parts.3 p in
+          let same : names + parts.1 + bindings_of parts.2 ≡ names + more = omega (arith, parts.5) in
+          subst (λ names. Parted next names) same (reads-none parts.0 (names + parts.1) next parts.2 before parts.4)
+
+      module _ (inner next : ℕ) (h : IsStructOf code subject spot first inner next) (each : IdlesAt false depth inner) where
+        begun : Parted (first + 1) 0
+        begun =
+            let t = inside first s.last s.nodes s.marks in
+            let u = among (first + 1) s.last [] [] [] in record {
+              last = s.last;
+              mine = [];
+              values = [];
+              pds = [];
+              place = refl;
+              bound_ = refl;
+              walk = once t u (by t u op.Open h.begins refl);
+            }
+
+        ahead : Parted h.calls_at (0 + h.names_ahead)
+        ahead = more-parts (first + 1) h.ahead 0 h.calls_at h.names_ahead h.parts_ahead begun
+
+        -- the part that is a call
+        called : Parted h.kept (0 + h.names_ahead + bindings_of h.name)
+        called =
+            let p = ahead in
+            let t = among h.calls_at p.last p.mine p.values p.pds in
+            let above : length bound ≤ length (p.mine ++ bound) = omega (arith, length-append p.mine bound) in
+            let e = reads-call depth inner each t h.calls_at h.behind refl h.call refl above (p.place ∙ at_spot) in
+            keeps h.calls_at (0 + h.names_ahead) h.kept h.name h.behind e.reading p (e.place ∙ p.place) e.walk h.part
+
+        parted : Parted h.closes_at (0 + h.names_ahead + bindings_of h.name + h.names_more)
+        parted = more-parts h.kept h.more (0 + h.names_ahead + bindings_of h.name) h.closes_at h.names_more h.parts_more called
+
+        abbrev names : ℕ
+        names = h.names_ahead + bindings_of h.name + h.names_more
 
         -- what the struct reads as
         abbrev read : Reading
-        read = struct subject.origin (r.value ∷ []) (r.pd ∷ []) begin r.place
-
-        -- where its part is kept, with the names that there are then
-        abbrev held : Pairs → State
-        held bindings = record s {
-          at_ = h.kept + 1;
-          last = unit_of subject.origin r.place;
-          depth = depth;
-          bindings = bindings;
-          nodes = opened None None (r.value ∷ []) (r.pd ∷ []);
-          callers = caller ∷ s.callers;
-        }
-
-        begun : To (inside first s.last s.nodes s.marks) at_call
-        begun = let t = inside first s.last s.nodes s.marks in once t at_call (by t at_call op.Open h.begins refl)
-
-        keeps : To (inside h.kept r (opened None None [] []) s.marks) (held (bind h.name r.value bound))
-        keeps =
-            let t = inside h.kept r (opened None None [] []) s.marks in
-            let u = held (bind h.name r.value bound) in once t u (by t u (op.Part h.name) h.part refl)
+        read = struct subject.origin parted.values parted.pds begin parted.last.place
 
         abbrev closed : Bool → ℕ → Pairs → Step
         closed own address bindings = if own then Goes (record (inside address read s.nodes s.marks) { bindings = bindings }) else Stuck
 
-        own-bound : (name : Option ℕ) → nat_eq (length (bind name r.value bound)) (length bound + bindings_of name) ≡ true
-        own-bound None = eq-eqb (length bound) (length bound + 0) (omega arith)
-        own-bound (Some name) = eq-eqb (length ((name, r.value) ∷ bound)) (length bound + 1) (omega arith)
+        so-many : length (parted.mine ++ bound) ≡ length bound + names
+        so-many = omega (arith, length-append parted.mine bound, parted.bound_)
 
-        own-gone : (name : Option ℕ) → drop (bindings_of name) (bind name r.value bound) ≡ bound
-        own-gone None = refl
-        own-gone (Some name) = refl
+        own-gone : drop names (parted.mine ++ bound) ≡ bound
+        own-gone =
+            let count : length (parted.mine ++ bound) - length bound ≡ names = omega (arith, so-many) in
+            subst (λ k. drop k (parted.mine ++ bound) ≡ bound) count (drop-over parted.mine bound)
 
-        closes : To (held (bind h.name r.value bound)) (inside next read s.nodes s.marks)
+        closes : To (among h.closes_at parted.last parted.mine parted.values parted.pds) (inside next read s.nodes s.marks)
         closes =
-            let t = held (bind h.name r.value bound) in
+            let t = among h.closes_at parted.last parted.mine parted.values parted.pds in
             let u = inside next read s.nodes s.marks in
-            let further : h.kept + 1 + 1 ≡ next = omega (arith, h.ends) in
+            let further : h.closes_at + 1 ≡ next = sym h.ends in
             once t u
-            (by t u (op.Close (bindings_of h.name)) h.close
-            (ap (λ (own : Bool). closed own (h.kept + 1 + 1) (drop (bindings_of h.name) (bind h.name r.value bound))) (own-bound h.name)
-            ∙ ap (λ (bindings : Pairs). closed true (h.kept + 1 + 1) bindings) (own-gone h.name)
+            (by t u (op.Close names) h.close
+            (ap (λ (own : Bool). closed own (h.closes_at + 1) (drop names (parted.mine ++ bound)))
+            (eq-eqb (length (parted.mine ++ bound)) (length bound + names) so-many)
+            ∙ ap (λ (bindings : Pairs). closed true (h.closes_at + 1) bindings) own-gone
             ∙ ap (λ p. Goes (inside p read s.nodes s.marks)) further))
 
         struct-idles : Idling true (inside first s.last s.nodes s.marks) next
         struct-idles =
             let a = inside first s.last s.nodes s.marks in
-            let c = inside h.kept r (opened None None [] []) s.marks in
-            let d = held (bind h.name r.value bound) in
-            let e = inside next read s.nodes s.marks in record {
+            let b = among h.closes_at parted.last parted.mine parted.values parted.pds in
+            let c = inside next read s.nodes s.marks in record {
               reading = read;
-              place = guarded.place ∙ called.place;
-              walk = join a at_call e begun (join at_call at_guard e called.walk (join at_guard c e guarded.walk (join c d e keeps closes)));
-              class_is = λ wanted. node-class subject.origin None (val.Tuple (r.value ∷ [])) (r.pd ∷ []) begin r.place;
+              place = parted.place;
+              walk = join a b c parted.walk closes;
+              class_is = λ wanted. node-class subject.origin None (val.Tuple parted.values) parted.pds begin parted.last.place;
             }
 
       -- the declaration is an array, a struct or an optional call

@@ -20,13 +20,13 @@ use Rattle.pads_steps.specs.Searches.{StandsNowhere, stands_at}
 use Rattle.pads_steps.proofs.Searches.{misses-there}
 
 module _ (origin i : ℕ) (c : Cause) where
-  fails-bad : is_ok (fails origin c i) ≡ false
+  pub fails-bad : is_ok (fails origin c i) ≡ false
   fails-bad = simp out-roll-Pd
 
   pub fails-began : began origin (fails origin c i) ≡ i
   fails-began = let out : (out-Pd (fails origin c i).pd).span.begin ≡ origin + i = simp out-roll-Pd in omega (arith, out)
 
-  fails-absorbed : absorb_of (fails origin c i) ≡ fails origin c i
+  pub fails-absorbed : absorb_of (fails origin c i) ≡ fails origin c i
   fails-absorbed = ap (λ (b : Bool). record (fails origin c i) { value = if b then val.Unit else val.Missing }) fails-bad
 
 -- the last place of a search, and one before it

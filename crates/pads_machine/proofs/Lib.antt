@@ -10,8 +10,10 @@ pub mod Labels
 pub mod Leaps
 pub mod Nodes
 pub mod Passing
+pub mod Seeking
 pub mod Shows
 pub mod Taking
 pub mod Tops
 pub mod Undone
 pub mod Valued
+pub mod Walking

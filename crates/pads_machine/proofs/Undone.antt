@@ -20,7 +20,8 @@ use Rattle.pads_machine.specs.Ran.{Advances, GoesWithin, Leads, Tells}
 use Rattle.pads_machine.specs.Shown.{has_own}
 use Rattle.pads_machine.proofs.Endings.{turn-goes}
 use Rattle.pads_machine.proofs.Halts.{fits-first, moved}
-use Rattle.pads_machine.proofs.Idling.{To, Walks, along, by, idles-to, join, once}
+use Rattle.pads_machine.proofs.Idling.{idles-to}
+use Rattle.pads_machine.proofs.Walking.{To, Walks, along, by, join, once}
 
 within-if : (most : ℕ) (b : Bool) (t : State) → b ≡ true → entries t ≤ most → GoesWithin most (cond b (Goes t) Stuck)
 within-if most true t is fits = fits

@@ -1,6 +1,6 @@
 -- Between two elements of an array, by the code and the bytes: its terminator is missing, the record goes on, and its
 -- separator stands.
-use Rattle.std.specs.Prelude.{◌≡◌, ℕ, ◌+◌, ◌<◌, ◌⊎◌, true, false, nat_eq, List, drop, length, reverse, Some, None, slice_get}
+use Rattle.std.specs.Prelude.{◌≡◌, ℕ, ◌+◌, ◌<◌, ◌⊎◌, true, false, nat_eq, List, drop, length, reverse, Some, slice_get}
 use Rattle.std.specs.List.{starts_with}
 use Rattle.pads_calc.specs.declared.reading.Reading.{Reading}
 use Rattle.pads_calc.specs.Arrays.{is_full}

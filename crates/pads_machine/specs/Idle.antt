@@ -1,18 +1,22 @@
--- Calls that take no byte, by the code and the separators that aren't there: of arrays whose elements are such calls, of
--- structs of one, and of optional ones, down to the greatest depth.
-use Rattle.std.specs.Prelude.{◌≡◌, ℕ, zero, suc, ◌+◌, ◌<◌, ◌⊎◌, Bool, true, false, List, [], length, reverse, Option, Some, slice_get}
+-- Calls that take no byte, by the code and what stands at the place: of arrays whose elements are such calls, of structs
+-- of one beside parts that take none, and of optional ones, down to the greatest depth.
+use Rattle.std.specs.Prelude.{◌≡◌, ℕ, zero, suc, ◌+◌, ◌<◌, ◌≤◌, ◌⊎◌, Bool, true, false, List, [], length, reverse, Option, Some, slice_get}
 use Rattle.pads_expr.specs.declared.expr.Expr.{Expr}
 use Rattle.pads_expr.specs.Value.{Pairs}
 use Rattle.pads_dispatch.specs.declared.base.Arg.{Arg}
+use Rattle.pads_dispatch.specs.declared.base.Base.{Base}
+use Rattle.pads_calc.specs.declared.term.ComputedForm.{ComputedForm}
 use Rattle.pads_calc.specs.Arguments.{arguments}
 use Rattle.pads_calc.specs.Arrays.{size_at}
-use Rattle.pads_calc.specs.Leaves.{lit_of}
+use Rattle.pads_calc.specs.Leaves.{base_of, lit_of}
 use Rattle.pads_calc.specs.Readings.{Subject, is_ok}
+use Rattle.pads_calc.specs.Wrappers.{last_place}
 use Rattle.pads_image.specs.declared.entry.Entry.{Entry}
 use Rattle.pads_image.specs.declared.op.Op.{Op}
 use Rattle.pads_image.specs.declared.op.Op.TheVariants as op
 use Rattle.pads_image.specs.Blocks.{bindings_of}
 use Rattle.pads_image.specs.States.{seen}
+use Rattle.pads_steps.specs.Searches.{StandsNowhere}
 use Rattle.pads_machine.specs.declared.node.Node.{Node}
 use Rattle.pads_machine.specs.declared.state.State.{State}
 use Rattle.pads_machine.specs.Shown.{shown}
@@ -83,22 +87,74 @@ pub record IsArrayOf (code : List Op) (subject : Subject) (place first number ne
   pub shut : slice_get code (behind + 1) ≡ Some op.Shut
   pub ends : next ≡ behind + 2
 
--- from an address on to another one stands a struct of one such call of a declaration
-pub record IsStructOf (code : List Op) (first number next : ℕ) : Type 0 where
-  pub behind : ℕ
+-- from an address on to another one what was read is kept as a part of a struct, under a constraint or not
+pub record IsKept (code : List Op) (address : ℕ) (name : Option ℕ) (next : ℕ) : Type 0 where
   pub kept : ℕ
-  pub name : Option ℕ
-  pub begins : slice_get code first ≡ Some op.Open
-  pub call : ReadsCall code (first + 1) number behind
-  pub guarded : IsGuarded code behind kept
+  pub guarded : IsGuarded code address kept
   pub part : slice_get code kept ≡ Some (op.Part name)
-  pub close : slice_get code (kept + 1) ≡ Some (op.Close (bindings_of name))
-  pub ends : next ≡ kept + 2
+  pub ends : next ≡ kept + 1
+
+-- whatever names stand for, a base type takes no byte at a place
+abbrev pub IsIdleBase : Subject → ℕ → Base → List Expr → Type 0
+IsIdleBase subject place base args = (env : Pairs) → (base_of subject base (arguments args env) place).place ≡ place
+
+-- from an address on a literal is searched for that isn't found from a place on, and its value is dropped
+pub record SeeksNone (code : List Op) (subject : Subject) (place address : ℕ) : Type 0 where
+  pub literal : List ℕ
+  pub begins : slice_get code address ≡ Some op.ScanFrom
+  pub lit : slice_get code (address + 1) ≡ Some (op.Lit literal)
+  pub absorb : slice_get code (address + 2) ≡ Some op.Absorb
+  pub on : slice_get code (address + 3) ≡ Some (op.ScanOn (address + 1))
+  pub within : place ≤ last_place subject place
+  pub nowhere : StandsNowhere subject.bytes literal place (last_place subject place + 1)
+
+-- from an address on to another one a base type is read that takes no byte at a place, a value is computed, or such a
+-- literal is searched for
+abbrev pub ReadsNone : List Op → Subject → ℕ → ℕ → ℕ → Type 0
+ReadsNone code subject place address next =
+    ((base : Base) × (args : List Expr) × (slice_get code address ≡ Some (op.Base base args)) × IsIdleBase subject place base args × (next ≡ address + 1))
+    ⊎ ((e : Expr) × (form : ComputedForm) × (slice_get code address ≡ Some (op.Compute e form)) × (next ≡ address + 1))
+    ⊎ (SeeksNone code subject place address × (next ≡ address + 4))
+
+-- from an address on to another one stands such a part of a struct
+abbrev pub IsIdlePart : List Op → Subject → ℕ → ℕ → Option ℕ → ℕ → Type 0
+IsIdlePart code subject place address name next = (behind : ℕ) × ReadsNone code subject place address behind × IsKept code behind name next
+
+-- from an address on to another one stand so many such parts of a struct, and so many of them are named
+abbrev pub AreIdleParts : List Op → Subject → ℕ → ℕ → ℕ → ℕ → ℕ → Type 0
+AreIdleParts code subject place first zero next names = (next ≡ first) × (names ≡ 0)
+AreIdleParts code subject place first (suc count) next names =
+    (last : ℕ)
+    × (fewer : ℕ)
+    × (name : Option ℕ)
+    × AreIdleParts code subject place first count last fewer
+    × IsIdlePart code subject place last name next
+    × (names ≡ fewer + bindings_of name)
+
+-- from an address on to another one stands a struct: such parts, one part that is a call of a declaration or may be,
+-- and such parts again
+pub record IsStructOf (code : List Op) (subject : Subject) (place first number next : ℕ) : Type 0 where
+  pub ahead : ℕ
+  pub calls_at : ℕ
+  pub names_ahead : ℕ
+  pub behind : ℕ
+  pub name : Option ℕ
+  pub kept : ℕ
+  pub more : ℕ
+  pub closes_at : ℕ
+  pub names_more : ℕ
+  pub begins : slice_get code first ≡ Some op.Open
+  pub parts_ahead : AreIdleParts code subject place (first + 1) ahead calls_at names_ahead
+  pub call : ReadsCall code calls_at number behind
+  pub part : IsKept code behind name kept
+  pub parts_more : AreIdleParts code subject place kept more closes_at names_more
+  pub close : slice_get code closes_at ≡ Some (op.Close (names_ahead + bindings_of name + names_more))
+  pub ends : next ≡ closes_at + 1
 
 -- from an address on to another one stands an array or a struct of such calls of a declaration, or an optional one
 abbrev pub IsBodyOf : List Op → Subject → ℕ → ℕ → ℕ → ℕ → Type 0
 IsBodyOf code subject place first number next =
-    IsArrayOf code subject place first number next ⊎ IsStructOf code first number next ⊎ (IsOptional code first number × (next ≡ first + 6))
+    IsArrayOf code subject place first number next ⊎ IsStructOf code subject place first number next ⊎ (IsOptional code first number × (next ≡ first + 6))
 
 -- a declaration ends behind an address, where what was read is under a constraint or not
 abbrev pub Ends : List Op → ℕ → Type 0

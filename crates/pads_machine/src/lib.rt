@@ -10,6 +10,7 @@ mod literals;
 mod machine;
 mod misses;
 mod node;
+mod parts;
 mod passes;
 mod scans;
 mod searches;

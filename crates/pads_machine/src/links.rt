@@ -1,18 +1,19 @@
-//! Calls that take no byte, by the code and the separators that aren't there.
+//! Calls that take no byte, by the code and what stands at the place.
 ghost use Rattle.std.specs.Prelude.{◌≡◌, ℕ, [], pos, false, ◌+◌, ◌<◌, ◌≤◌, ◌≤ℤ◌, ◌⊎◌, ◌^◌, IfSome, IsTrue, List, Option, Some, slice_get};
 ghost use Rattle.pads_expr.specs.declared.expr.Expr.{Expr};
 ghost use Rattle.pads_calc.specs.Leaves.{lit_of};
 ghost use Rattle.pads_calc.specs.Readings.{is_ok};
-ghost use Rattle.pads_image.specs.Blocks.{bindings_of};
 ghost use Rattle.pads_image.specs.declared.op.Op.TheVariants as instruction;
-ghost use Rattle.pads_machine.specs.Idle.{Begins, Ends, HasTerminator, Idles, IsAround, IsArrayOf, IsBefore, IsBehind, IsBodyOf, IsGuarded, IsNamed, IsOptional, IsSize, IsStructOf, LacksSeparator, Links, ReadsCall, ReadsMarker};
+ghost use Rattle.pads_machine.specs.Idle.{Begins, Ends, HasTerminator, Idles, IsAround, IsArrayOf, IsBefore, IsBehind, IsBodyOf, IsNamed, IsOptional, IsSize, IsStructOf, LacksSeparator, Links, ReadsCall, ReadsMarker};
 ghost use Rattle.pads_steps.specs.Records.{subject_of};
 
 use crate::misses::entry_at;
+use crate::parts::{behind_guard, idle_parts, kept_at};
 use crate::step::{Program, at};
 use pads_expr::Expr;
 use pads_image::Op;
 use pads_steps::Record;
+use std::alloc::Global;
 
 /// Whether a number isn't below 0.
 fn is_count(count: &i128) -> bool
@@ -344,26 +345,6 @@ fn call_at(code: &[Op], address: usize) -> Option<Called>
     }
 }
 
-/// Whether what was read is under a constraint at an address.
-fn guards(code: &[Op], address: usize) -> bool
-    ensures guards { IsTrue result → (binder : ℕ) × (condition : Expr) × (slice_get code.now address ≡ Some (instruction.Guard binder condition)) }
-{
-    matches!(at(code, address), Some(Op::Guard(_, _)))
-}
-
-/// The address behind the constraint at an address, if there is one.
-fn behind_guard(code: &[Op], address: usize) -> usize
-    requires address { address < 2 ^ 34 }
-    ensures guarded { IsGuarded code.now address result }
-    ensures near { result ≤ address + 1 }
-{
-    if guards(code, address) {
-        address + 1
-    } else {
-        address
-    }
-}
-
 /// The array from an address on, of calls of a declaration. Its separator isn't there at a place.
 fn array_at(program: &Program, place: u64, first: usize) -> Option<Called>
     requires first { first < 2 ^ 32 }
@@ -396,69 +377,65 @@ fn opens(code: &[Op], address: usize) -> bool
     matches!(at(code, address), Some(Op::Open))
 }
 
-/// The name with which a part is kept at an address.
-fn kept_at(code: &[Op], address: usize) -> Option<Option<u16>>
-    ensures part { IfSome result (λ name. slice_get code.now address ≡ Some (instruction.Part name)) }
+/// Whether a struct ends at an address that has so many named parts.
+fn closes(code: &[Op], address: usize, names: usize) -> bool
+    ensures close { IsTrue result → slice_get code.now address ≡ Some (instruction.Close names) }
 {
     match at(code, address) {
-        Some(Op::Part(name)) => Some(*name),
-        _ => None,
-    }
-}
-
-/// Whether a struct ends at an address that has just the part of this name.
-fn closes(code: &[Op], address: usize, name: Option<u16>) -> bool
-    ensures close { IsTrue result → slice_get code.now address ≡ Some (instruction.Close (bindings_of name)) }
-{
-    match (at(code, address), name) {
-        (Some(Op::Close(0)), None) => true,
-        (Some(Op::Close(1)), Some(_)) => true,
+        Some(Op::Close(count)) => *count as usize == names,
         _ => false,
     }
 }
 
-/// The struct from an address on, of one call of a declaration.
-fn struct_at(code: &[Op], first: usize) -> Option<Called>
+/// The struct from an address on, of one call of a declaration beside parts that take no byte at a place.
+fn struct_at(alloc: Global, program: &Program, place: u64, first: usize) -> Option<Called>
     requires first { first < 2 ^ 32 }
-    ensures part { IfSome result (λ called. IsStructOf code.now first called.number called.next) }
+    ensures part { IfSome result (λ called. IsStructOf program.now.code.now (subject_of program.now.record) place first called.number called.next) }
     ensures near { IfSome result (λ called. called.next < 2 ^ 33) }
 {
+    let code = program.code;
     if !opens(code, first) {
         return None;
     }
-    let part = call_at(code, first + 1)?;
-    let kept = behind_guard(code, part.next);
-    let name = kept_at(code, kept)?;
-    if !closes(code, kept + 1, name) {
+    let ahead = idle_parts(alloc, program, place, first + 1);
+    let part = call_at(code, ahead.next)?;
+    let kept = kept_at(code, part.next)?;
+    let more = idle_parts(alloc, program, place, kept.next);
+    if !closes(code, more.next, ahead.names + kept.names() + more.names) {
         return None;
     }
     Some(Called {
         number: part.number,
-        next: kept + 2,
+        next: more.next + 1,
     })
 }
 
 /// The struct from an address on, of one call of a declaration, or the optional call.
-fn struct_or_optional_at(code: &[Op], first: usize) -> Option<Called>
+fn struct_or_optional_at(
+    alloc: Global,
+    program: &Program,
+    place: u64,
+    first: usize,
+) -> Option<Called>
     requires first { first < 2 ^ 32 }
-    ensures body { IfSome result (λ called. IsStructOf code.now first called.number called.next ⊎ (IsOptional code.now first called.number × (called.next ≡ first + 6))) }
+    ensures body { IfSome result (λ called. IsStructOf program.now.code.now (subject_of program.now.record) place first called.number called.next ⊎ (IsOptional program.now.code.now first called.number × (called.next ≡ first + 6))) }
     ensures near { IfSome result (λ called. called.next < 2 ^ 33) }
 {
-    match struct_at(code, first) {
+    match struct_at(alloc, program, place, first) {
         Some(called) => Some(called),
-        None => optional_at(code, first),
+        None => optional_at(program.code, first),
     }
 }
 
 /// The array, the struct or the optional call from an address on.
-fn body_at(program: &Program, place: u64, first: usize) -> Option<Called>
+fn body_at(alloc: Global, program: &Program, place: u64, first: usize) -> Option<Called>
     requires first { first < 2 ^ 32 }
     ensures body { IfSome result (λ called. IsBodyOf program.now.code.now (subject_of program.now.record) place first called.number called.next) }
     ensures near { IfSome result (λ called. called.next < 2 ^ 33) }
 {
     match array_at(program, place, first) {
         Some(called) => Some(called),
-        None => struct_or_optional_at(program.code, first),
+        None => struct_or_optional_at(alloc, program, place, first),
     }
 }
 
@@ -471,11 +448,11 @@ fn ends(code: &[Op], address: usize) -> bool
 }
 
 /// The declaration that is called in the array, the struct or the optional call of another one.
-fn around_at(program: &Program, place: u64, first: usize) -> Option<u16>
+fn around_at(alloc: Global, program: &Program, place: u64, first: usize) -> Option<u16>
     requires first { first < 2 ^ 32 }
     ensures around { IfSome result (λ inner. IsAround program.now.code.now (subject_of program.now.record) place first inner) }
 {
-    let body = body_at(program, place, first)?;
+    let body = body_at(alloc, program, place, first)?;
     if ends(program.code, body.next) {
         Some(body.number)
     } else {
@@ -504,12 +481,12 @@ pub(crate) struct Link {
 }
 
 /// The declaration that is called by a declaration.
-fn link_of(program: &Program, place: u64, link: Link) -> Option<Link>
+fn link_of(alloc: Global, program: &Program, place: u64, link: Link) -> Option<Link>
     ensures links { IfSome result (λ inner. Links program.now.code.now program.now.entries.now (subject_of program.now.record) place link.wanted link.number inner.wanted inner.number) }
 {
     let entry = entry_at(program.entries, link.number)?;
     let first = entry.first as usize;
-    if let Some(number) = around_at(program, place, first) {
+    if let Some(number) = around_at(alloc, program, place, first) {
         return Some(Link {
             number,
             wanted: false,
@@ -522,15 +499,54 @@ fn link_of(program: &Program, place: u64, link: Link) -> Option<Link>
     })
 }
 
+/// The first call in code, up to where its declaration ends.
+fn first_call(code: &[Op]) -> Option<u16> {
+    for op in code {
+        match op {
+            Op::Call(number, _) => return Some(*number),
+            Op::Return => return None,
+            _ => {}
+        }
+    }
+    None
+}
+
+/// The first call in the code of a declaration.
+fn first_call_of(program: &Program, number: u16) -> Option<u16> {
+    let entry = entry_at(program.entries, number)?;
+    let first = entry.first as usize;
+    if first < program.code.len() {
+        first_call(&program.code[first..])
+    } else {
+        None
+    }
+}
+
+/// Whether the first call of a declaration, and that of the called one, and so on, lead so deep: else no call is
+/// known to take no byte, and what stands at the place needn't be looked at.
+fn leads_down(program: &Program, depth: u8, number: u16) -> bool {
+    let mut number = number;
+    for _ in 0..depth {
+        let Some(inner) = first_call_of(program, number) else {
+            return false;
+        };
+        number = inner;
+    }
+    true
+}
+
 /// Whether a call of a declaration takes no byte at a place where calls may still be nested so deep, and doesn't
 /// fail if that is wanted.
-pub(crate) fn idles(program: &Program, place: u64, depth: u8, link: Link) -> bool
+pub(crate) fn idles(alloc: Global, program: &Program, place: u64, depth: u8, link: Link) -> bool
     ensures idles { IsTrue result → Idles program.now.code.now program.now.entries.now (subject_of program.now.record) place link.wanted depth link.number }
 {
+    if !leads_down(program, depth, link.number) {
+        return false;
+    }
     let mut link = link;
     let mut left = depth;
     'links: while left > 0 {
-        let Some(inner) = link_of(program, place, link) else {
+        let Some(inner) = link_of(alloc, program, place, link) else {
             return false;
         };
         link = inner;

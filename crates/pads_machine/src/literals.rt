@@ -28,17 +28,23 @@ fn literal(alloc: Global, e: &Expr) -> Result<Option<Arg>, Memory> {
     })
 }
 
-/// The argument of an instruction that reads a base type, where it is a literal.
-fn literal_of(alloc: Global, op: &Op) -> Result<Args, Memory> {
+/// The argument that a single expression stands for, where it is a literal.
+pub(crate) fn literal_in(alloc: Global, es: &[Expr]) -> Result<Args, Memory> {
     let mut args = Items::new(alloc);
-    if let Op::Base(_, es) = op {
-        if let [e] = es.as_slice() {
-            if let Some(arg) = literal(alloc, e)? {
-                args.push(arg)?;
-            }
+    if let [e] = es {
+        if let Some(arg) = literal(alloc, e)? {
+            args.push(arg)?;
         }
     }
     Ok(args)
+}
+
+/// The argument of an instruction that reads a base type, where it is a literal.
+fn literal_of(alloc: Global, op: &Op) -> Result<Args, Memory> {
+    match op {
+        Op::Base(_, es) => literal_in(alloc, es.as_slice()),
+        _ => Ok(Items::new(alloc)),
+    }
 }
 
 /// Whether two numbers are the same.
@@ -67,7 +73,7 @@ fn is_literal(e: &Expr, arg: &Arg) -> bool
 }
 
 /// Whether expressions are just these arguments: none, or one literal.
-fn are_literals(es: &[Expr], args: &[Arg]) -> bool
+pub(crate) fn are_literals(es: &[Expr], args: &[Arg]) -> bool
     ensures literals { IsTrue result → (env : Pairs) → arguments_of es.now env ≡ Some args.now }
 {
     match (es, args) {

@@ -108,7 +108,13 @@ impl State {
             number: self.next_call(program)?,
             wanted: true,
         };
-        if !idles(program, self.last.place, self.depth, link) {
+        if !idles(
+            *self.bindings.allocator(),
+            program,
+            self.last.place,
+            self.depth,
+            link,
+        ) {
             return None;
         }
         Some(self.address + 2)
@@ -124,7 +130,13 @@ impl State {
             number: called.number,
             wanted: false,
         };
-        if !idles(program, self.last.place, self.depth, link) {
+        if !idles(
+            *self.bindings.allocator(),
+            program,
+            self.last.place,
+            self.depth,
+            link,
+        ) {
             return None;
         }
         Some(called.next)

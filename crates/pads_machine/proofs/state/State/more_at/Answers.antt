@@ -1,4 +1,4 @@
-use Rattle.std.proofs.Common.{◌≡◌, ◌∙◌, ap, sym, arith, ◌<◌, ◌+◌, length, Some}
+use Rattle.std.proofs.Common.{◌≡◌, ◌∙◌, ap, sym, arith, ◌+◌, length}
 use Rattle.pads_calc.specs.Arrays.{is_full}
 use Rattle.pads_steps.specs.Records.{subject_of}
 use Rattle.pads_machine.specs.Between.{HasMore, IsEdge}

@@ -1,8 +1,7 @@
-use Rattle.std.proofs.Common.{◌≡◌, ◌∙◌, ap, refl, sym, subst, arith, ◌+◌, ◌<◌, ◌≤◌, false, nat_eq, List, length, map, reverse}
+use Rattle.std.proofs.Common.{◌≡◌, ◌∙◌, ap, refl, sym, subst, arith, ◌+◌, false, nat_eq, List, length, map, reverse}
 use Rattle.std.proofs.lemmas.Bool.{ne_eqb}
 use Rattle.std.proofs.lemmas.List.{length-map, length-reverse}
 use Rattle.pads_steps.specs.Records.{subject_of}
-use Rattle.pads_image.specs.States as states
 use Rattle.pads_machine.specs.declared.node.Mark.{Mark}
 use Rattle.pads_machine.specs.Ran.{Leads}
 use Rattle.pads_machine.specs.Shown.{mark_shown, shown}
