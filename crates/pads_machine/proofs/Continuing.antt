@@ -20,7 +20,7 @@ use Rattle.pads_machine.specs.Between.{IsEdge, IsMissed, IsSeparated, IsSeparato
 use Rattle.pads_machine.specs.Ran.{GoesWithin, Leads}
 use Rattle.pads_machine.proofs.Endings.{full-alone}
 use Rattle.pads_machine.proofs.Halts.{at-op, goes-within, moved}
-use Rattle.pads_machine.proofs.Walking.{To, Walks, along, by, join, once}
+use Rattle.pads_idle.proofs.Walking.{To, Walks, along, by, join, once}
 use Rattle.pads_machine.proofs.Undone.{fitting, room-there}
 
 module _ (code : List Op) (of_entries : List Entry) (subject : Subject) (most : ℕ) where

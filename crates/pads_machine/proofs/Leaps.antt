@@ -1,75 +1,20 @@
 -- A search of a literal where it doesn't stand: the steps that find so at each place lead to a place further on.
-use Rattle.std.proofs.Common.{◌≡◌, ◌∙◌, sym, ap, refl, arith, ℕ, zero, suc, ◌+◌, ◌-◌, ◌<◌, ◌≤◌, Bool, true, false, if◌then◌else◌, not, nat_lt, List, ◌∷◌, ⊎_elim, Some, slice_get}
-use Rattle.std.proofs.lemmas.Bool.{lt-ltb}
+use Rattle.std.proofs.Common.{◌≡◌, ◌∙◌, sym, ap, arith, ℕ, zero, suc, ◌+◌, ◌-◌, ◌<◌, ◌≤◌, false, List, ◌∷◌, ⊎_elim, Some, slice_get}
 use Rattle.pads_value.specs.declared.cause.Cause.{Cause}
 use Rattle.pads_value.specs.declared.cause.Cause.TheVariants as cause
-use Rattle.pads_value.specs.declared.descriptor.Pd.{out-Pd, out-roll-Pd}
-use Rattle.pads_value.specs.declared.value.Val.TheVariants as val
-use Rattle.pads_value.specs.Header.{with_cause}
 use Rattle.pads_calc.specs.declared.reading.Reading.{Reading}
-use Rattle.pads_calc.specs.Readings.{Subject, blame, fails, is_ok}
-use Rattle.pads_calc.specs.Wrappers.{absorb_of, last_place}
+use Rattle.pads_calc.specs.Readings.{Subject, fails}
+use Rattle.pads_calc.specs.Wrappers.{last_place}
 use Rattle.pads_image.specs.declared.entry.Entry.{Entry}
 use Rattle.pads_image.specs.declared.op.Op.{Op}
 use Rattle.pads_image.specs.declared.op.Op.TheVariants as op
 use Rattle.pads_image.specs.Answers.{Reaches}
 use Rattle.pads_image.specs.States.{Mark, State, entries}
-use Rattle.pads_image.specs.Steps.{Goes, back_to, began, cause_or, does_there, is_last_place, scan_step, step}
+use Rattle.pads_image.specs.Steps.{Goes, back_to, does_there, is_last_place, scan_step, step}
 use Rattle.pads_machine.specs.Ran.{IsSearch}
 use Rattle.pads_steps.specs.Searches.{StandsNowhere, stands_at}
 use Rattle.pads_steps.proofs.Searches.{misses-there}
-
-module _ (origin i : ℕ) (c : Cause) where
-  pub fails-bad : is_ok (fails origin c i) ≡ false
-  fails-bad = simp out-roll-Pd
-
-  pub fails-began : began origin (fails origin c i) ≡ i
-  fails-began = let out : (out-Pd (fails origin c i).pd).span.begin ≡ origin + i = simp out-roll-Pd in omega (arith, out)
-
-  pub fails-absorbed : absorb_of (fails origin c i) ≡ fails origin c i
-  fails-absorbed = ap (λ (b : Bool). record (fails origin c i) { value = if b then val.Unit else val.Missing }) fails-bad
-
--- the last place of a search, and one before it
-not-before : (last j : ℕ) → last ≤ j → not (nat_lt j last) ≡ true
-not-before last j over = let past : nat_lt j last ≡ false = grind (arith, over) in rw past refl
-
-module _ (subject : Subject) (i j : ℕ) where
-  pub ends-there : last_place subject i ≤ j → is_last_place subject i j ≡ true
-  ends-there over = not-before (last_place subject i) j over
-
-  pub goes-there : j < last_place subject i → is_last_place subject i j ≡ false
-  goes-there more = let inside : nat_lt j (last_place subject i) ≡ true = lt-ltb j (last_place subject i) more in rw inside refl
-
--- a search that goes on
-pub scan-on : (subject : Subject) (to : ℕ) (s : State) (m : Mark) (marks : List Mark) → is_ok s.last ≡ false → is_last_place subject m.place (began subject.origin s.last) ≡ false
-    → scan_step subject to s (m ∷ marks)
-    ≡ Goes (record s { at_ = to; last = back_to (began subject.origin s.last + 1) s.last; marks = (record m { cause = Some (cause_or m.cause (blame s.last)) }) ∷ marks })
-scan-on subject to s m marks bad more =
-    let at_ = began subject.origin s.last in
-    let kept = cause_or m.cause (blame s.last) in
-    let on = Goes (record s { at_ = to; last = back_to (at_ + 1) s.last; marks = (record m { cause = Some kept }) ∷ marks }) in
-    let end = Goes (record s { at_ = s.at_ + 1; last = fails subject.origin kept m.place; marks = marks }) in
-    let found = Goes (record s {
-      at_ = s.at_ + 1;
-      last = if nat_lt m.place at_ then record s.last { pd = with_cause cause.Skipped (subject.origin + m.place) s.last.pd } else s.last;
-      marks = marks;
-    }) in
-    ap (λ (b : Bool). if b then found else if is_last_place subject m.place at_ then end else on) bad ∙ ap (λ (b : Bool). if b then end else on) more
-
--- and one that ends
-pub scan-ends : (subject : Subject) (to : ℕ) (s : State) (m : Mark) (marks : List Mark) → is_ok s.last ≡ false → is_last_place subject m.place (began subject.origin s.last) ≡ true
-    → scan_step subject to s (m ∷ marks) ≡ Goes (record s { at_ = s.at_ + 1; last = fails subject.origin (cause_or m.cause (blame s.last)) m.place; marks = marks })
-scan-ends subject to s m marks bad over =
-    let at_ = began subject.origin s.last in
-    let kept = cause_or m.cause (blame s.last) in
-    let on = Goes (record s { at_ = to; last = back_to (at_ + 1) s.last; marks = (record m { cause = Some kept }) ∷ marks }) in
-    let end = Goes (record s { at_ = s.at_ + 1; last = fails subject.origin kept m.place; marks = marks }) in
-    let found = Goes (record s {
-      at_ = s.at_ + 1;
-      last = if nat_lt m.place at_ then record s.last { pd = with_cause cause.Skipped (subject.origin + m.place) s.last.pd } else s.last;
-      marks = marks;
-    }) in
-    ap (λ (b : Bool). if b then found else if is_last_place subject m.place at_ then end else on) bad ∙ ap (λ (b : Bool). if b then end else on) over
+use Rattle.pads_idle.proofs.Scanning.{fails-absorbed, fails-bad, fails-began, goes-there, scan-on}
 
 module _ (code : List Op) (of_entries : List Entry) (subject : Subject) (most : ℕ) (literal : List ℕ) (place : ℕ) (c : Cause) (rest : List Mark) where
   -- the search goes on at a state

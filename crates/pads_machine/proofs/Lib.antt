@@ -5,15 +5,11 @@ pub mod Continuing
 pub mod Endings
 pub mod Halts
 pub mod Homes
-pub mod Idling
 pub mod Labels
 pub mod Leaps
 pub mod Nodes
 pub mod Passing
-pub mod Seeking
 pub mod Shows
 pub mod Taking
 pub mod Tops
 pub mod Undone
-pub mod Valued
-pub mod Walking

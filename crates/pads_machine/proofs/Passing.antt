@@ -24,7 +24,7 @@ use Rattle.pads_machine.specs.declared.step.Next.{Next}
 use Rattle.pads_machine.specs.declared.step.Next.TheVariants as next
 use Rattle.pads_machine.specs.Ran.{Advances, GoesWithin, IsLiteralPart, Leads, Tells}
 use Rattle.pads_machine.proofs.Halts.{at-op, no-more}
-use Rattle.pads_machine.proofs.Leaps.{fails-began}
+use Rattle.pads_idle.proofs.Scanning.{fails-began}
 
 -- a search that finds something where it began
 pub scan-finds : (subject : Subject) (to : ℕ) (s : State) (m : Mark) (marks : List Mark) → is_ok s.last ≡ true → began subject.origin s.last ≡ m.place

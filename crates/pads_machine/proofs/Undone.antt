@@ -15,13 +15,13 @@ use Rattle.pads_image.specs.Steps.{Step, Goes, Halts, Stuck, back_to, began, doe
 use Rattle.law_images.proofs.Reaching.{before, here, to-same}
 use Rattle.pads_machine.specs.declared.step.Next.{Next}
 use Rattle.pads_machine.specs.declared.step.Next.TheVariants as next
-use Rattle.pads_machine.specs.Idle.{IdlesTo}
+use Rattle.pads_idle.specs.Idle.{IdlesTo}
 use Rattle.pads_machine.specs.Ran.{Advances, GoesWithin, Leads, Tells}
 use Rattle.pads_machine.specs.Shown.{has_own}
 use Rattle.pads_machine.proofs.Endings.{turn-goes}
 use Rattle.pads_machine.proofs.Halts.{fits-first, moved}
-use Rattle.pads_machine.proofs.Idling.{idles-to}
-use Rattle.pads_machine.proofs.Walking.{To, Walks, along, by, join, once}
+use Rattle.pads_idle.proofs.Idling.{idles-to}
+use Rattle.pads_idle.proofs.Walking.{To, Walks, along, by, join, once}
 
 within-if : (most : ℕ) (b : Bool) (t : State) → b ≡ true → entries t ≤ most → GoesWithin most (cond b (Goes t) Stuck)
 within-if most true t is fits = fits

@@ -1,7 +1,7 @@
 pub mod Between
 pub mod Held
-pub mod Idle
 pub mod Missing
 pub mod Ran
 pub mod Searched
 pub mod Shown
+pub mod Stalled

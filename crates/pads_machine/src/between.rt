@@ -10,10 +10,9 @@ ghost use Rattle.pads_machine.specs.Shown.{shown};
 ghost use Rattle.pads_steps.specs.Records.{subject_of};
 
 use crate::node::Mark;
-use crate::scans::absorbs;
 use crate::state::State;
-use crate::step::{Program, at};
 use pads_calc::Reading;
+use pads_idle::{Program, absorbs, at};
 use pads_image::Op;
 use pads_steps::{Record, is_full};
 use std::alloc::Global;

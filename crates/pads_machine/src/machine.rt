@@ -8,8 +8,8 @@ ghost use Rattle.pads_machine.specs.Ran.{Halting};
 ghost use Rattle.pads_value.specs.Cuts.{cut_of_frame};
 
 use crate::state::State;
-use crate::step::Program;
 use pads_calc::Reading;
+use pads_idle::Program;
 use pads_image::{Entry, Image};
 use pads_steps::{Record, row_over, row_without};
 use pads_value::{Frame, Memory, Row};

@@ -1,6 +1,5 @@
 //! Branches that can't be clean: a declaration is called that begins with a literal, and it is missing.
 ghost use Rattle.std.specs.Prelude.{◌≡◌, ℕ, ◌+◌, ◌<◌, ◌≤◌, ◌^◌, IfSome, IsTrue, List, Some, drop, length, slice_get};
-ghost use Rattle.std.specs.Option.{option_copied};
 ghost use Rattle.pads_calc.specs.declared.decl.Decl.{Decl};
 ghost use Rattle.pads_expr.specs.declared.expr.Expr.{Expr};
 ghost use Rattle.pads_image.specs.Beginnings.{begins_with};
@@ -13,8 +12,8 @@ ghost use Rattle.pads_machine.specs.Shown.{shown};
 ghost use Rattle.pads_steps.specs.Records.{subject_of};
 
 use crate::state::State;
-use crate::step::{Program, at};
 use pads_calc::Reading;
+use pads_idle::{Program, at, entry_at};
 use pads_image::{Entry, Op};
 use pads_value::Val;
 use std::alloc::Global;
@@ -44,13 +43,6 @@ fn beginning_from(code: &[Op], address: u32) -> Option<&[u8]>
     } else {
         None
     }
-}
-
-/// The entry of a declaration.
-pub(crate) fn entry_at(entries: &[Entry], number: u16) -> Option<&Entry>
-    ensures entry { option_copied result ≡ slice_get entries.now number }
-{
-    entries.get(usize::from(number))
 }
 
 /// The literal that a declaration's code begins with.

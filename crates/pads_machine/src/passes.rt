@@ -11,11 +11,11 @@ ghost use Rattle.pads_machine.specs.Ran.{Advances, GoesWithin, Halting, IsLitera
 ghost use Rattle.pads_machine.specs.Shown.{shown};
 ghost use Rattle.pads_steps.specs.Records.{subject_of};
 
-use crate::scans::{absorbs, searches};
 use crate::state::State;
-use crate::step::{Next, Program, at};
+use crate::step::Next;
 use pads_calc::{Base, Reading};
 use pads_expr::Expr;
+use pads_idle::{Program, absorbs, at, searches};
 use pads_image::Op;
 use pads_value::Memory;
 use std::alloc::Global;

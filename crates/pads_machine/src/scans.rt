@@ -13,29 +13,13 @@ ghost use Rattle.pads_steps.specs.Records.{subject_of};
 use crate::node::Mark;
 use crate::searches::Past;
 use crate::state::State;
-use crate::step::{Next, Program, at};
+use crate::step::Next;
 use pads_calc::Reading;
+use pads_idle::{Program, absorbs, at, searches};
 use pads_image::Op;
 use pads_steps::Record;
 use pads_value::Cause;
 use std::alloc::Global;
-
-/// Whether a search goes on at an address, told by the instruction at another.
-pub(crate) fn searches(code: &[Op], address: usize, to: usize) -> bool
-    ensures searches { IsTrue result → slice_get code.now address ≡ Some (instruction.ScanOn to) }
-{
-    match at(code, address) {
-        Some(Op::ScanOn(found)) => *found as usize == to,
-        _ => false,
-    }
-}
-
-/// Whether a value is dropped at an address.
-pub(crate) fn absorbs(code: &[Op], address: usize) -> bool
-    ensures absorbs { IsTrue result → slice_get code.now address ≡ Some instruction.Absorb }
-{
-    matches!(at(code, address), Some(Op::Absorb))
-}
 
 /// The literal that is searched for from an address on, whether its value is kept or not.
 fn sought(code: &[Op], address: usize) -> Option<&[u8]>

@@ -7,7 +7,7 @@ ghost use Rattle.pads_image.specs.declared.op.Op.TheVariants as instruction;
 ghost use Rattle.pads_machine.specs.Searched.{Lacks, Remembered};
 ghost use Rattle.pads_steps.specs.Searches.{StandsNowhere};
 
-use crate::step::Program;
+use pads_idle::Program;
 use pads_steps::Record;
 use std::alloc::Global;
 

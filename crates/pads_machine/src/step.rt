@@ -1,6 +1,5 @@
 //! Instructions, one after another.
-ghost use Rattle.std.specs.Prelude.{◌≡◌, ℕ, ◌<◌, ◌≤◌, ◌^◌, true, List, [], length, slice_get, IfOk, OnOk};
-ghost use Rattle.std.specs.Option.{option_copied};
+ghost use Rattle.std.specs.Prelude.{◌≡◌, ℕ, ◌<◌, ◌≤◌, ◌^◌, true, List, [], length, IfOk, OnOk};
 ghost use Rattle.std.specs.List.{list_all};
 ghost use Rattle.pads_calc.specs.declared.decl.Decl.{Decl};
 ghost use Rattle.pads_calc.specs.declared.reading.Reading.{Reading};
@@ -25,6 +24,7 @@ use crate::searches::Past;
 use crate::state::State;
 use pads_calc::{Base, ComputedForm, Reading};
 use pads_expr::Expr;
+use pads_idle::{Program, at};
 use pads_image::{Entry, Op};
 use pads_steps::{Record, arguments_in, guarded_in};
 use pads_value::{Cause, Memory, Val};
@@ -37,21 +37,6 @@ pub(crate) enum Next {
     /// It goes on with a search, one byte further.
     Searches,
     Halts,
-}
-
-/// What runs: the instructions and the declarations of an image, over a record.
-#[derive(Clone, Copy)]
-pub(crate) struct Program<'a> {
-    pub(crate) code: &'a [Op],
-    pub(crate) entries: &'a [Entry],
-    pub(crate) record: Record<'a>,
-}
-
-/// The instruction at an address.
-pub(crate) fn at(code: &[Op], address: usize) -> Option<&Op>
-    ensures op { option_copied result ≡ slice_get code.now address }
-{
-    code.get(address)
 }
 
 impl State {

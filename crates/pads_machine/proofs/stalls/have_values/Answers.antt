@@ -1,5 +1,5 @@
 use Rattle.std.proofs.Common.{refl, reverse, arith, ◌<◌, length}
-use Rattle.pads_machine.proofs.Valued.{one-more}
+use Rattle.pads_idle.proofs.Valued.{one-more}
 use Rattle.pads_machine.proofs.stalls.have_values.Goals as goal
 
 pub arguments-preserved : goal.arguments-preserved

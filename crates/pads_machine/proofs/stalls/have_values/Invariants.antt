@@ -1,5 +1,5 @@
 use Rattle.std.proofs.Common.{length, reverse}
-use Rattle.pads_machine.specs.Idle.{HasValues}
+use Rattle.pads_idle.specs.Idle.{HasValues}
 use Rattle.pads_machine.proofs.stalls.have_values.Given as goal
 
 abbrev pub invariant-arguments : goal.invariant-arguments

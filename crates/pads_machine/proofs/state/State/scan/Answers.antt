@@ -8,7 +8,7 @@ use Rattle.pads_steps.specs.Records.{subject_of}
 use Rattle.pads_machine.specs.declared.node.Mark.{Mark}
 use Rattle.pads_machine.specs.Shown.{mark_shown, shown}
 use Rattle.pads_machine.proofs.Homes.{reverse-push}
-use Rattle.pads_machine.proofs.Leaps.{ends-there, goes-there, scan-ends, scan-on}
+use Rattle.pads_idle.proofs.Scanning.{ends-there, goes-there, scan-ends, scan-on}
 use Rattle.pads_machine.proofs.Tops.{marks-are, rest-there}
 use Rattle.pads_machine.proofs.state.State.scan.Goals as goal
 

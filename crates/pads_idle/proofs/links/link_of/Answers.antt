@@ -1,5 +1,5 @@
 use Rattle.std.proofs.Common.{inl, inr, refl, sym}
-use Rattle.pads_machine.proofs.links.link_of.Goals as goal
+use Rattle.pads_idle.proofs.links.link_of.Goals as goal
 
 pub returns-in-Some : goal.returns-in-Some
 returns-in-Some c = record { links = (c.in_ok-entry.entry.now, sym c.in_ok-entry.ensures.entry, inl (c.in-Some.ensures.around, refl)) }

@@ -6,13 +6,13 @@ ghost use Rattle.pads_calc.specs.Leaves.{base_of};
 ghost use Rattle.pads_calc.specs.Wrappers.{last_place};
 ghost use Rattle.pads_image.specs.Blocks.{bindings_of};
 ghost use Rattle.pads_image.specs.declared.op.Op.TheVariants as instruction;
-ghost use Rattle.pads_machine.specs.Idle.{AreIdleParts, IsGuarded, IsIdleBase, IsIdlePart, IsKept, ReadsNone, SeeksNone};
+ghost use Rattle.pads_idle.specs.Idle.{AreIdleParts, IsGuarded, IsIdleBase, IsIdlePart, IsKept, ReadsNone, SeeksNone};
 ghost use Rattle.pads_steps.specs.Records.{subject_of};
 ghost use Rattle.pads_steps.specs.Searches.{StandsNowhere};
 
 use crate::literals::{are_literals, literal_in};
-use crate::scans::{absorbs, searches};
-use crate::step::{Program, at};
+use crate::lookups::{absorbs, at, searches};
+use crate::program::Program;
 use pads_dispatch::{Args, Base, labels_fit};
 use pads_expr::Expr;
 use pads_image::Op;

@@ -1,7 +1,7 @@
 use Rattle.std.proofs.Common.{arith}
 use Rattle.pads_steps.specs.Records.{subject_of}
-use Rattle.pads_machine.proofs.Idling.{lit-lacks}
-use Rattle.pads_machine.proofs.links.lacks.Goals as goal
+use Rattle.pads_idle.proofs.Idling.{lit-lacks}
+use Rattle.pads_idle.proofs.links.lacks.Goals as goal
 
 pub returns-in-None : goal.returns-in-None
 returns-in-None c = record {

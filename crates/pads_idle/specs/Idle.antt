@@ -1,6 +1,6 @@
 -- Calls that take no byte, by the code and what stands at the place: of arrays whose elements are such calls, of structs
 -- of one beside parts that take none, and of optional ones, down to the greatest depth.
-use Rattle.std.specs.Prelude.{◌≡◌, ℕ, zero, suc, ◌+◌, ◌<◌, ◌≤◌, ◌⊎◌, Bool, true, false, List, [], length, reverse, Option, Some, slice_get}
+use Rattle.std.specs.Prelude.{◌≡◌, ℕ, zero, suc, ◌+◌, ◌≤◌, ◌⊎◌, Bool, true, false, List, [], Option, Some, slice_get}
 use Rattle.pads_expr.specs.declared.expr.Expr.{Expr}
 use Rattle.pads_expr.specs.Value.{Pairs}
 use Rattle.pads_dispatch.specs.declared.base.Arg.{Arg}
@@ -15,11 +15,7 @@ use Rattle.pads_image.specs.declared.entry.Entry.{Entry}
 use Rattle.pads_image.specs.declared.op.Op.{Op}
 use Rattle.pads_image.specs.declared.op.Op.TheVariants as op
 use Rattle.pads_image.specs.Blocks.{bindings_of}
-use Rattle.pads_image.specs.States.{seen}
 use Rattle.pads_steps.specs.Searches.{StandsNowhere}
-use Rattle.pads_machine.specs.declared.node.Node.{Node}
-use Rattle.pads_machine.specs.declared.state.State.{State}
-use Rattle.pads_machine.specs.Shown.{shown}
 
 -- whatever names stand for, there is a size or none is asked for
 abbrev pub IsSize : Option Expr → Type 0
@@ -198,18 +194,3 @@ IdlesTo code of_entries subject place env depth address next =
     × Idles code of_entries subject place true depth number
     × (next ≡ address + 1))
     ⊎ ((number : ℕ) × IsOptional code address number × Idles code of_entries subject place false depth number × (next ≡ address + 6))
-
--- the latest array has an element, and no binding of its own
-pub record IsStanding (m : State) : Type 0 where
-  pub node : Node
-  pub latest : slice_get (reverse m.nodes.items) 0 ≡ Some node
-  pub later : 0 < length node.values.items
-  pub alone : node.base ≡ length m.bindings.items
-
--- such an array goes on with an element that takes no byte at this place, and where it is undone it ends at an address
-pub record IsStalled (code : List Op) (of_entries : List Entry) (subject : Subject) (to : ℕ) (m : State) : Type 0 where
-  pub standing : IsStanding m
-  pub behind : ℕ
-  pub element : IdlesTo code of_entries subject m.last.place (seen (shown m)) m.depth (m.address + 1) behind
-  pub elem : (again : ℕ) × (slice_get code behind ≡ Some (op.Elem to again))
-  pub shut : slice_get code to ≡ Some op.Shut

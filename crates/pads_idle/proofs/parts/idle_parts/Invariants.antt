@@ -1,7 +1,7 @@
 use Rattle.std.proofs.Common.{◌+◌, ◌*◌, ◌≤◌}
 use Rattle.pads_steps.specs.Records.{subject_of}
-use Rattle.pads_machine.specs.Idle.{AreIdleParts}
-use Rattle.pads_machine.proofs.parts.idle_parts.Given as goal
+use Rattle.pads_idle.specs.Idle.{AreIdleParts}
+use Rattle.pads_idle.proofs.parts.idle_parts.Given as goal
 
 abbrev pub invariant-loop-count : goal.invariant-loop-count
 invariant-loop-count l =

@@ -32,9 +32,9 @@ use Rattle.pads_image.specs.Blocks.{bindings_of}
 use Rattle.pads_image.specs.States.{Caller, Mark, Node, State, floor_of, seen}
 use Rattle.pads_image.specs.Steps.{Step, Goes, Stuck, back_to, began, call_in, call_step, does, does_there, mark_at, size_step, step}
 use Rattle.law_images.proofs.Reaching.{bound-over, drop-over}
-use Rattle.pads_machine.specs.Idle.{AreIdleParts, Ends, HasTerminator, HasValues, Idles, IdlesTo, IsAround, IsArrayOf, IsBefore, IsBehind, IsBodyOf, IsGuarded, IsIdlePart, IsKept, IsNamed, IsOptional, IsSize, IsStructOf, LacksSeparator, Links, ReadsCall, ReadsMarker}
-use Rattle.pads_machine.proofs.Seeking.{seeks-none}
-use Rattle.pads_machine.proofs.Walking as walks
+use Rattle.pads_idle.specs.Idle.{AreIdleParts, Ends, HasTerminator, HasValues, Idles, IdlesTo, IsAround, IsArrayOf, IsBefore, IsBehind, IsBodyOf, IsGuarded, IsIdlePart, IsKept, IsNamed, IsOptional, IsSize, IsStructOf, LacksSeparator, Links, ReadsCall, ReadsMarker}
+use Rattle.pads_idle.proofs.Seeking.{seeks-none}
+use Rattle.pads_idle.proofs.Walking as walks
 
 -- one link more
 pub link-idles : (code : List Op) (of_entries : List Entry) (subject : Subject) (place : ℕ) (wanted : Bool) (depth number : ℕ) (still : Bool) (inner : ℕ) → 0 < depth

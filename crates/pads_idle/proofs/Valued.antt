@@ -5,7 +5,7 @@ use Rattle.pads_expr.specs.declared.expr.Expr.{Expr}
 use Rattle.pads_expr.specs.Value.{Pairs}
 use Rattle.pads_dispatch.specs.declared.base.Arg.{Arg}
 use Rattle.pads_calc.specs.Arguments.{and_more, argument, arguments}
-use Rattle.pads_machine.specs.Idle.{HasValues}
+use Rattle.pads_idle.specs.Idle.{HasValues}
 
 pub one-more : (rest : List Expr) (e : Expr) (env : Pairs) → 0 < length rest → e ≡ get_or rest 0 e → (arg : Arg) × (argument e env ≡ Some arg)
     → HasValues (take (length rest - 1) (drop 1 rest)) env → HasValues rest env

@@ -5,7 +5,7 @@ use Rattle.pads_expr.specs.Worth.{Answer, worth_or_none}
 use Rattle.pads_expr.proofs.Steps.{value-Num, value-Text}
 use Rattle.pads_dispatch.specs.declared.base.Arg.TheVariants as arg
 use Rattle.pads_calc.specs.Arguments.{arg_told, argument}
-use Rattle.pads_machine.proofs.literals.is_literal.Goals as goal
+use Rattle.pads_idle.proofs.literals.is_literal.Goals as goal
 
 pub returns-in-Num-Num : goal.returns-in-Num-Num
 returns-in-Num-Num c = record {

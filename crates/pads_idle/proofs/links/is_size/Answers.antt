@@ -1,8 +1,8 @@
 use Rattle.std.proofs.Common.{sym, subst, Some}
 use Rattle.pads_expr.specs.declared.expr.Expr.{Expr}
-use Rattle.pads_machine.specs.Idle.{IsSize}
-use Rattle.pads_machine.proofs.Idling.{number-size}
-use Rattle.pads_machine.proofs.links.is_size.Goals as goal
+use Rattle.pads_idle.specs.Idle.{IsSize}
+use Rattle.pads_idle.proofs.Idling.{number-size}
+use Rattle.pads_idle.proofs.links.is_size.Goals as goal
 
 pub returns-in-Num : goal.returns-in-Num
 returns-in-Num c = record {

@@ -12,9 +12,9 @@ use Rattle.pads_image.specs.States.{Mark, State}
 use Rattle.pads_image.specs.Steps.{Goes, back_to, cause_or, is_last_place, step}
 use Rattle.pads_steps.specs.Searches.{StandsNowhere, stands_at}
 use Rattle.pads_steps.proofs.Searches.{misses-there}
-use Rattle.pads_machine.specs.Idle.{SeeksNone}
-use Rattle.pads_machine.proofs.Leaps.{ends-there, fails-absorbed, fails-bad, fails-began, goes-there, scan-ends, scan-on}
-use Rattle.pads_machine.proofs.Walking.{To, along, by, join, once}
+use Rattle.pads_idle.specs.Idle.{SeeksNone}
+use Rattle.pads_idle.proofs.Scanning.{ends-there, fails-absorbed, fails-bad, fails-began, goes-there, scan-ends, scan-on}
+use Rattle.pads_idle.proofs.Walking.{To, along, by, join, once}
 
 module _ (code : List Op) (of_entries : List Entry) (subject : Subject) (place : ℕ) (s : State) (h : SeeksNone code subject place s.at_) where
   -- steps lead behind the search, with a reading that failed where it began

@@ -1,6 +1,6 @@
 use Rattle.pads_steps.specs.Records.{subject_of}
-use Rattle.pads_machine.proofs.Idling.{link-idles}
-use Rattle.pads_machine.proofs.links.idles.Goals as goal
+use Rattle.pads_idle.proofs.Idling.{link-idles}
+use Rattle.pads_idle.proofs.links.idles.Goals as goal
 
 pub links-preserved : goal.links-preserved
 links-preserved c = λ idles.

@@ -1,6 +1,6 @@
 use Rattle.pads_steps.specs.Records.{subject_of}
-use Rattle.pads_machine.specs.Idle.{Idles}
-use Rattle.pads_machine.proofs.links.idles.Given as goal
+use Rattle.pads_idle.specs.Idle.{Idles}
+use Rattle.pads_idle.proofs.links.idles.Given as goal
 
 abbrev pub invariant-links : goal.invariant-links
 invariant-links l =

@@ -4,12 +4,12 @@ ghost use Rattle.pads_expr.specs.declared.expr.Expr.{Expr};
 ghost use Rattle.pads_calc.specs.Leaves.{lit_of};
 ghost use Rattle.pads_calc.specs.Readings.{is_ok};
 ghost use Rattle.pads_image.specs.declared.op.Op.TheVariants as instruction;
-ghost use Rattle.pads_machine.specs.Idle.{Begins, Ends, HasTerminator, Idles, IsAround, IsArrayOf, IsBefore, IsBehind, IsBodyOf, IsNamed, IsOptional, IsSize, IsStructOf, LacksSeparator, Links, ReadsCall, ReadsMarker};
+ghost use Rattle.pads_idle.specs.Idle.{Begins, Ends, HasTerminator, Idles, IsAround, IsArrayOf, IsBefore, IsBehind, IsBodyOf, IsNamed, IsOptional, IsSize, IsStructOf, LacksSeparator, Links, ReadsCall, ReadsMarker};
 ghost use Rattle.pads_steps.specs.Records.{subject_of};
 
-use crate::misses::entry_at;
+use crate::lookups::{at, entry_at, shuts};
 use crate::parts::{behind_guard, idle_parts, kept_at};
-use crate::step::{Program, at};
+use crate::program::Program;
 use pads_expr::Expr;
 use pads_image::Op;
 use pads_steps::Record;
@@ -128,13 +128,6 @@ fn ends_turn(code: &[Op], address: usize, to: usize, again: usize) -> bool
         Some(Op::Elem(end, next)) => *end as usize == to && *next as usize == again,
         _ => false,
     }
-}
-
-/// Whether an array ends at an address.
-pub(crate) fn shuts(code: &[Op], address: usize) -> bool
-    ensures shut { IsTrue result → slice_get code.now address ≡ Some instruction.Shut }
-{
-    matches!(at(code, address), Some(Op::Shut))
 }
 
 /// Whether a declaration ends at an address.
@@ -279,9 +272,11 @@ fn has_turns(code: &[Op], first: usize, edge: usize, element: usize, behind: usi
 
 /// A declaration that is called, and the address behind what it is called in.
 #[derive(Clone, Copy)]
-pub(crate) struct Called {
-    pub(crate) number: u16,
-    pub(crate) next: usize,
+pub struct Called {
+    /// The declaration, by its number.
+    pub number: u16,
+    /// The address.
+    pub next: usize,
 }
 
 /// Whether a branch ends at an address, and goes on at another one where it is clean.
@@ -315,8 +310,8 @@ fn is_optional(code: &[Op], address: usize) -> bool
         && tries(code, address + 4, address + 6)
 }
 
-/// The optional call from an address on.
-pub(crate) fn optional_at(code: &[Op], address: usize) -> Option<Called>
+/// The optional call from an address on. None where no such call is seen there.
+pub fn optional_at(code: &[Op], address: usize) -> Option<Called>
     requires address { address < 2 ^ 33 }
     ensures optional { IfSome result (λ called. IsOptional code.now address called.number × (called.next ≡ address + 6)) }
 {
@@ -473,11 +468,13 @@ fn named_at(code: &[Op], first: usize) -> Option<u16>
     }
 }
 
-/// A declaration that is called, and whether it is still to be seen that the first call doesn't fail.
+/// A declaration that is called, and what is to be seen of the call.
 #[derive(Clone, Copy)]
-pub(crate) struct Link {
-    pub(crate) number: u16,
-    pub(crate) wanted: bool,
+pub struct Link {
+    /// The declaration, by its number.
+    pub number: u16,
+    /// Whether it is still to be seen that the call doesn't fail.
+    pub wanted: bool,
 }
 
 /// The declaration that is called by a declaration.
@@ -535,9 +532,9 @@ fn leads_down(program: &Program, depth: u8, number: u16) -> bool {
     true
 }
 
-/// Whether a call of a declaration takes no byte at a place where calls may still be nested so deep, and doesn't
-/// fail if that is wanted.
-pub(crate) fn idles(alloc: Global, program: &Program, place: u64, depth: u8, link: Link) -> bool
+/// Whether a call of a declaration is known to take no byte at a place, an offset in the record, where calls may
+/// still be nested so deep, and not to fail if that is wanted. For want of memory it isn't known.
+pub fn idles(alloc: Global, program: &Program, place: u64, depth: u8, link: Link) -> bool
     ensures idles { IsTrue result → Idles program.now.code.now program.now.entries.now (subject_of program.now.record) place link.wanted depth link.number }
 {
     if !leads_down(program, depth, link.number) {

@@ -1,0 +1,5 @@
+pub mod Idling
+pub mod Scanning
+pub mod Seeking
+pub mod Valued
+pub mod Walking

@@ -1,0 +1,13 @@
+//! Calls of declarations that are known to take no byte at a place, by the code of an image and what stands there.
+#![tactic(auto)]
+
+mod links;
+mod literals;
+mod lookups;
+mod parts;
+mod program;
+
+pub use links::{Called, Link, idles, optional_at};
+pub use literals::{are_literals, literal_in};
+pub use lookups::{absorbs, at, entry_at, searches, shuts};
+pub use program::Program;
