@@ -9,5 +9,5 @@ mod program;
 
 pub use links::{Called, Link, idles, optional_at};
 pub use literals::{are_literals, literal_in};
-pub use lookups::{absorbs, at, entry_at, searches, shuts};
+pub use lookups::{absorbs, at, begins_search, entry_at, marks, part_at, searches, shuts, stands};
 pub use program::Program;

@@ -7,7 +7,7 @@ ghost use Rattle.pads_image.specs.declared.op.Op.TheVariants as instruction;
 ghost use Rattle.pads_idle.specs.Idle.{Begins, Ends, HasTerminator, Idles, IsAround, IsArrayOf, IsBefore, IsBehind, IsBodyOf, IsNamed, IsOptional, IsSize, IsStructOf, LacksSeparator, Links, ReadsCall, ReadsMarker};
 ghost use Rattle.pads_steps.specs.Records.{subject_of};
 
-use crate::lookups::{at, entry_at, shuts};
+use crate::lookups::{absorbs, at, entry_at, marks, shuts, stands};
 use crate::parts::{behind_guard, idle_parts, kept_at};
 use crate::program::Program;
 use pads_expr::Expr;
@@ -51,13 +51,6 @@ fn has_full(code: &[Op], address: usize, to: usize) -> bool
         Some(Op::Full(_, _, end)) => *end as usize == to,
         _ => false,
     }
-}
-
-/// Whether a place is noted at an address.
-fn marks(code: &[Op], address: usize) -> bool
-    ensures mark { IsTrue result → slice_get code.now address ≡ Some instruction.Mark }
-{
-    matches!(at(code, address), Some(Op::Mark))
 }
 
 /// Whether a literal or the record's end is read at an address.
@@ -190,27 +183,17 @@ fn lacks(from: &Record, literal: &[u8], place: u64) -> bool
     if from.bytes.len() as u64 <= place {
         return false;
     }
-    match from.first_place(literal, place, place) {
-        Some(_) => false,
-        None => true,
-    }
+    !stands(from, literal, place)
 }
 
 /// Whether a literal is read at an address that doesn't stand at a place.
-fn misses(program: &Program, address: usize, place: u64) -> bool
+fn lacks_at(program: &Program, address: usize, place: u64) -> bool
     ensures missing { IsTrue result → (literal : List ℕ) × (slice_get program.now.code.now address ≡ Some (instruction.Lit literal)) × (is_ok (lit_of (subject_of program.now.record) literal place) ≡ false) }
 {
     match at(program.code, address) {
         Some(Op::Lit(literal)) => lacks(&program.record, literal.as_slice(), place),
         _ => false,
     }
-}
-
-/// Whether a value is dropped at an address.
-fn absorbs(code: &[Op], address: usize) -> bool
-    ensures absorb { IsTrue result → slice_get code.now address ≡ Some instruction.Absorb }
-{
-    matches!(at(code, address), Some(Op::Absorb))
 }
 
 /// Whether an array ends at another address where its separator, looked for at an address, isn't there.
@@ -228,7 +211,7 @@ fn lacks_separator(program: &Program, place: u64, address: usize, to: usize) -> 
     requires address { address < 2 ^ 33 }
     ensures lacks { IsTrue result → LacksSeparator program.now.code.now (subject_of program.now.record) place address to }
 {
-    misses(program, address, place)
+    lacks_at(program, address, place)
         && absorbs(program.code, address + 1)
         && separates(program.code, address + 2, to)
 }

@@ -1,7 +1,8 @@
 //! Arguments of base types that stand in the code as literals.
-ghost use Rattle.std.specs.Prelude.{◌≡◌, IsTrue, Some};
+ghost use Rattle.std.specs.Prelude.{◌≡◌, IfOk, IsTrue, Some};
 ghost use Rattle.pads_calc.specs.Arguments.{argument as argument_of, arguments as arguments_of};
 ghost use Rattle.pads_expr.specs.Value.{Pairs};
+ghost use Rattle.pads_idle.specs.LiteralArgs.{literal_arg, literal_args};
 
 use pads_dispatch::{Arg, Args};
 use pads_expr::Expr;
@@ -9,7 +10,9 @@ use pads_value::{Items, Memory};
 use std::alloc::Global;
 
 /// The argument that a literal stands for.
-fn literal(alloc: Global, e: &Expr) -> Result<Option<Arg>, Memory> {
+fn literal(alloc: Global, e: &Expr) -> Result<Option<Arg>, Memory>
+    ensures literal { IfOk result (λ found. found ≡ literal_arg e.now) }
+{
     Ok(match e {
         Expr::Num(number) => Some(Arg::Num(*number)),
         Expr::Text(text) => Some(Arg::Text(Items::from_slice(alloc, text.as_slice())?)),
@@ -18,7 +21,9 @@ fn literal(alloc: Global, e: &Expr) -> Result<Option<Arg>, Memory> {
 }
 
 /// The argument that a single expression stands for, where it is a literal.
-pub fn literal_in(alloc: Global, es: &[Expr]) -> Result<Args, Memory> {
+pub fn literal_in(alloc: Global, es: &[Expr]) -> Result<Args, Memory>
+    ensures literals { IfOk result (λ args. args ≡ literal_args es.now) }
+{
     let mut args = Items::new(alloc);
     if let [e] = es {
         if let Some(arg) = literal(alloc, e)? {

@@ -11,7 +11,7 @@ ghost use Rattle.pads_steps.specs.Records.{subject_of};
 ghost use Rattle.pads_steps.specs.Searches.{StandsNowhere};
 
 use crate::literals::{are_literals, literal_in};
-use crate::lookups::{absorbs, at, searches};
+use crate::lookups::{absorbs, at, begins_search, part_at, searches};
 use crate::program::Program;
 use pads_dispatch::{Args, Base, labels_fit};
 use pads_expr::Expr;
@@ -69,16 +69,6 @@ pub(crate) fn behind_guard(code: &[Op], address: usize) -> usize
     }
 }
 
-/// The name with which a part is kept at an address.
-fn name_at(code: &[Op], address: usize) -> Option<Option<u16>>
-    ensures part { IfSome result (λ name. slice_get code.now address ≡ Some (instruction.Part name)) }
-{
-    match at(code, address) {
-        Some(Op::Part(name)) => Some(*name),
-        _ => None,
-    }
-}
-
 /// How what was read is kept from an address on.
 pub(crate) fn kept_at(code: &[Op], address: usize) -> Option<Kept>
     requires address { address < 2 ^ 34 }
@@ -86,7 +76,7 @@ pub(crate) fn kept_at(code: &[Op], address: usize) -> Option<Kept>
     ensures near { IfSome result (λ kept. kept.next ≤ address + 2) }
 {
     let part = behind_guard(code, address);
-    let name = name_at(code, part)?;
+    let name = part_at(code, part)?;
     Some(Kept {
         name,
         next: part + 1,
@@ -121,13 +111,6 @@ fn is_idle_base(alloc: Global, from: &Record, base: &Base, es: &[Expr], place: u
             && takes_none(alloc, from, base, &args, place),
         Err(_) => false,
     }
-}
-
-/// Whether a search begins at an address.
-fn begins_search(code: &[Op], address: usize) -> bool
-    ensures begins { IsTrue result → slice_get code.now address ≡ Some instruction.ScanFrom }
-{
-    matches!(at(code, address), Some(Op::ScanFrom))
 }
 
 /// Whether a literal isn't found from a place on.

@@ -42,7 +42,7 @@ pub record HasMore (code : List Op) (subject : Subject) (edge : ℕ) (m : State)
   pub node : Node
   pub latest : slice_get (reverse m.nodes.items) 0 ≡ Some node
   pub later : 0 < length node.values.items
-  pub lacks : is_full node.size (length node.values.items) ≡ false
+  pub unfilled : is_full node.size (length node.values.items) ≡ false
   pub on : at_end subject.bytes m.last.place ≡ false
   pub goes_on : IsEdge code subject (m.address + 1) m.last.place edge
 

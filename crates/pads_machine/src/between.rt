@@ -1,7 +1,6 @@
 //! Between two elements of an array: it has more where its terminator is missing, the record goes on, and its
 //! separator stands here. What looks for these is done at once.
-ghost use Rattle.std.specs.Prelude.{◌≡◌, ℕ, ◌+◌, ◌<◌, ◌≤◌, ◌^◌, None, Some, IfSome, IsTrue, drop, length, nat_eq, slice_get};
-ghost use Rattle.std.specs.List.{starts_with};
+ghost use Rattle.std.specs.Prelude.{◌≡◌, ℕ, ◌+◌, ◌<◌, ◌≤◌, ◌^◌, None, Some, IfSome, IsTrue, length, slice_get};
 ghost use Rattle.pads_image.specs.declared.op.Op.TheVariants as instruction;
 ghost use Rattle.pads_machine.specs.Between.{HasMore, IsEdge, IsMissed, IsSeparated, IsSeparator, IsUnmet};
 ghost use Rattle.pads_machine.specs.Held.{Held, Placed, Roomy};
@@ -12,18 +11,10 @@ ghost use Rattle.pads_steps.specs.Records.{subject_of};
 use crate::node::Mark;
 use crate::state::State;
 use pads_calc::Reading;
-use pads_idle::{Program, absorbs, at};
+use pads_idle::{Program, absorbs, at, marks, stands};
 use pads_image::Op;
 use pads_steps::{Record, is_full};
 use std::alloc::Global;
-
-/// Whether a literal stands at a place.
-fn stands(from: &Record, literal: &[u8], place: u64) -> bool
-    requires place { place ≤ length from.now.bytes.now }
-    ensures stands { result ≡ starts_with nat_eq (drop place from.now.bytes.now) literal.now }
-{
-    from.bytes[place as usize..].starts_with(literal)
-}
 
 /// Whether what an instruction looks for is known to be missing at a place.
 fn misses(from: &Record, op: &Op, place: u64) -> bool
@@ -35,13 +26,6 @@ fn misses(from: &Record, op: &Op, place: u64) -> bool
         Op::Lit(literal) => !stands(from, literal.as_slice(), place),
         _ => false,
     }
-}
-
-/// Whether a place is noted at an address.
-fn notes(code: &[Op], address: usize) -> bool
-    ensures notes { IsTrue result → slice_get code.now address ≡ Some instruction.Mark }
-{
-    matches!(at(code, address), Some(Op::Mark))
 }
 
 /// Whether an array ends at an address where its terminator was read before.
@@ -81,7 +65,7 @@ fn misses_stop(program: &Program, address: usize, place: u64) -> bool
     let Some(op) = at(program.code, address + 1) else {
         return false;
     };
-    notes(program.code, address)
+    marks(program.code, address)
         && stops(program.code, address + 2)
         && misses(&program.record, op, place)
 }
@@ -93,7 +77,7 @@ fn edge_from(program: &Program, address: usize, place: u64) -> Option<usize>
     ensures edge { IfSome result (λ edge. IsEdge program.now.code.now (subject_of program.now.record) address place edge) }
     ensures near { IfSome result (λ edge. edge ≤ address + 3) }
 {
-    if !notes(program.code, address) {
+    if !marks(program.code, address) {
         return Some(address);
     }
     if misses_stop(program, address, place) {

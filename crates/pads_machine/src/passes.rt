@@ -15,34 +15,17 @@ use crate::state::State;
 use crate::step::Next;
 use pads_calc::{Base, Reading};
 use pads_expr::Expr;
-use pads_idle::{Program, absorbs, at, searches};
+use pads_idle::{Program, absorbs, at, begins_search, part_at, searches};
 use pads_image::Op;
 use pads_value::Memory;
 use std::alloc::Global;
-
-/// Whether a search begins at an address.
-fn begins(code: &[Op], address: usize) -> bool
-    ensures begins { IsTrue result → slice_get code.now address ≡ Some instruction.ScanFrom }
-{
-    matches!(at(code, address), Some(Op::ScanFrom))
-}
-
-/// The name of the part that is kept at an address, if one is kept there.
-fn part_at(code: &[Op], address: usize) -> Option<Option<u16>>
-    ensures part { IfSome result (λ name. slice_get code.now address ≡ Some (instruction.Part name)) }
-{
-    match at(code, address) {
-        Some(Op::Part(name)) => Some(*name),
-        _ => None,
-    }
-}
 
 /// The literal that is a part of a struct from an address on, without a name and dropped as it is found.
 fn literal_part(code: &[Op], address: usize) -> Option<&[u8]>
     requires { address < 2 ^ 32 }
     ensures part { IfSome result (λ literal. IsLiteralPart code.now address literal.now) }
 {
-    if !begins(code, address) {
+    if !begins_search(code, address) {
         return None;
     }
     let Some(Op::Lit(literal)) = at(code, address + 1) else {

@@ -1,6 +1,5 @@
 //! Searches, one byte after another, or to where a literal stands.
-ghost use Rattle.std.specs.Prelude.{◌≡◌, ◌≤◌, ◌<◌, ◌^◌, ◌∷◌, ℕ, List, length, slice_get, Some, IsTrue, IfSome};
-ghost use Rattle.pads_image.specs.declared.op.Op.TheVariants as instruction;
+ghost use Rattle.std.specs.Prelude.{◌≡◌, ◌≤◌, ◌<◌, ◌^◌, ◌∷◌, ℕ, List, length, Some, IsTrue, IfSome};
 ghost use Rattle.pads_image.specs.Answers.{Reaches};
 ghost use Rattle.pads_image.specs.States.{entries};
 ghost use Rattle.pads_image.specs.Steps.{cause_or, scan_step};

@@ -18,7 +18,7 @@ returns-clause-more c =
       node = n;
       latest = c.node-node.ensures.node;
       later = omega (arith, c.if-count-eq0.false, size);
-      lacks = ap (λ count. is_full n.size count) (sym size) ∙ sym c.is_full.ensures.full ∙ c.if-is_full.false;
+      unfilled = ap (λ count. is_full n.size count) (sym size) ∙ sym c.is_full.ensures.full ∙ c.if-is_full.false;
       on = sym c.is_end.ensures.end ∙ c.if-is_end.false;
       goes_on = is;
     })
