@@ -1,27 +1,13 @@
-//! Tries each row of `descriptions.txt`: a verdict, a colon and a description. What a row says was worked out by
-//! hand. Prints each row whose description gets another verdict, and how many rows there are.
+//! Compares the verdicts on the descriptions of two tables with what they say, which was worked out by hand:
+//! `descriptions.txt` has descriptions as they are written, `limits.txt` says how long ones are made, at the limits.
 #![tactic(auto)]
 
-use std::alloc::Global;
-use std::{fs, io};
-use test_rows::{Tally, Trouble, is_note, verdict_on};
+mod descriptions;
+mod limits;
 
-/// The verdict on the description of a row where it isn't the row's; nothing where it is.
-fn tried(alloc: Global, row: &str) -> Result<String, Trouble> {
-    let Some((verdict, rest)) = row.split_once(':') else {
-        return Err(Trouble::Row("no colon"));
-    };
-    let text = rest.strip_prefix(' ').unwrap_or(rest);
-    verdict_on(alloc, text.as_bytes(), verdict)
-}
+use std::io;
 
 fn main(rt: HostRuntime) -> io::Result<()> {
-    let table = fs::read_to_string(&rt, "descriptions.txt")?;
-    let mut tally = Tally::new();
-    for line in table.lines() {
-        if !is_note(line) {
-            tally.count(&rt, line, tried(rt.alloc(), line))?;
-        }
-    }
-    tally.print(&rt, "descriptions.txt")
+    descriptions::compare(&rt)?;
+    limits::compare(&rt)
 }

@@ -1,8 +1,6 @@
-//! Tries each row of `limits.txt`: a verdict, and below it how a description is made that gets it, which is as long
-//! or holds as much as one may, or is one past that. The image of an accepted one has at most 1,048,576 instructions,
-//! but where the verdict says otherwise. What a row says was worked out by hand. Prints each row whose description
-//! gets another verdict, and how many rows there are.
-#![tactic(auto)]
+//! The rows of `limits.txt`: a verdict, and below it how a description is made that gets it, which is as long or holds
+//! as much as one may, or is one past that. The image of an accepted one has at most 1,048,576 instructions, but where
+//! the verdict says otherwise.
 
 use pads_code::Coding;
 use pads_compile::image_length;
@@ -72,14 +70,15 @@ fn tried(alloc: Global, verdict: &str, parts: &[&str]) -> Result<String, Trouble
     verdict_on(alloc, text.as_slice(), verdict)
 }
 
-fn main(rt: HostRuntime) -> io::Result<()> {
-    let table = fs::read_to_string(&rt, "limits.txt")?;
+/// Tries each row. Prints each whose description gets another verdict, and how many rows there are.
+pub(crate) fn compare(rt: &HostRuntime) -> io::Result<()> {
+    let table = fs::read_to_string(rt, "limits.txt")?;
     let mut tally = Tally::new();
     for block in table.split("\n\n") {
         let lines = lines_of(rt.alloc(), block)?;
         if let [verdict, parts @ ..] = lines.as_slice() {
-            tally.count(&rt, block, tried(rt.alloc(), verdict, parts))?;
+            tally.count(rt, block, tried(rt.alloc(), verdict, parts))?;
         }
     }
-    tally.print(&rt, "limits.txt")
+    tally.print(rt, "limits.txt")
 }
