@@ -1,18 +1,18 @@
 -- The chunks of a list, all of one size but the last, are pieces of it.
-use Rattle.std.proofs.Common.{◌≡◌, ℕ, zero, suc, ◌+◌, ◌-◌, ◌*◌, ◌/◌, ◌%◌, ◌<◌, ◌≤◌, min, List, [], ◌∷◌, ◌++◌, length, get_or, take, drop, refl, sym, ap, ◌∙◌, append_assoc, append-nil, length-take, length-drop, arith}
+use Rattle.std.proofs.Common.{◌≡◌, ℕ, zero, suc, ◌+◌, ◌-◌, ◌*◌, ◌/◌, ◌%◌, ◌<◌, ◌≤◌, min, List, [], ◌∷◌, ◌++◌, length, get_or, take, drop, refl, sym, subst, ap, ◌∙◌, append_assoc, append-nil, length-take, length-drop, arith}
 use Rattle.std.proofs.lemmas.List.{drop-drop, length-take-le, take-append-drop}
 use Rattle.std.proofs.lemmas.List.Elements.{All-cons, All-nil}
 use Rattle.std.proofs.lemmas.Nat.{div-add-mod'}
-use Rattle.std.proofs.Math.Nat.{mod-lt, lt_of_mul-lt-mul_right}
+use Rattle.std.proofs.Math.Nat.{mod-lt, mul-le-mul_right, lt_of_mul-lt-mul_right}
 use Rattle.std.specs.Prelude.{All, IfOk, Result, Ok, Err, flat_map}
 use Rattle.std.specs.Int.{div_ceil}
-use Rattle.std.specs.Fork.{AcceptsChunks, GivesChunk, GivesChunks}
 use denote.Ref.{Bor}
 use denote.Param.Members.{Shared}
-use Rattle.pads_drive.specs.Pieces.{Gives, GivesEach, GivesPieces, TakesPieces}
+use Rattle.pads_drive.specs.Handing.{AreInOrder}
+use Rattle.pads_drive.specs.Pieces.{Gives, GivesEach, GivesPieces}
 
 -- what stands before a chunk, the chunk and what stands behind it
-three-parts : {A : Type 0} (size start : ℕ) (items piece : List A) → piece ≡ take size (drop start items) → take start items ++ piece ++ drop size (drop start items) ≡ items
+pub three-parts : {A : Type 0} (size start : ℕ) (items piece : List A) → piece ≡ take size (drop start items) → take start items ++ piece ++ drop size (drop start items) ≡ items
 three-parts size start items piece is =
     append_assoc (take start items) piece (drop size (drop start items))
     ∙ ap (λ part. take start items ++ (part ++ drop size (drop start items))) is
@@ -20,7 +20,7 @@ three-parts size start items piece is =
     ∙ take-append-drop start items
 
 -- so many chunks of a size are as many as a list of so many items has
-record Counted (size items count : ℕ) : Type 0 where
+pub record Counted (size items count : ℕ) : Type 0 where
   pub enough : items ≤ count * size
   pub least : count * size < items + size
 
@@ -58,12 +58,20 @@ counted-parts size items whole (suc rest) parts less =
     let product : suc whole * size ≡ whole * size + size = grind arith in
     rw count (record { enough = omega arith; least = omega arith })
 
-counted-division : (size items : ℕ) → 0 < size → Counted size items (items / size + min 1 (items % size))
+pub counted-division : (size items : ℕ) → 0 < size → Counted size items (items / size + min 1 (items % size))
 counted-division size items some = counted-parts size items (items / size) (items % size) (div-add-mod' items size) (mod-lt items some)
 
-some-size : (size items most : ℕ) → 0 < items → items ≤ size * most → 0 < size
+pub some-size : (size items most : ℕ) → 0 < items → items ≤ size * most → 0 < size
 some-size zero items most some enough = let none : 0 * most ≡ 0 = grind arith in absurd (omega arith)
 some-size (suc size) items most some enough = omega arith
+
+-- a chunk of a number has an item
+pub counted-inside : (size items count number : ℕ) → Counted size items count → number < count → number * size < items
+counted-inside size items count number c within =
+    let least = c.least in
+    let below = mul-le-mul_right {m = suc number} {n = count} size (omega (arith, within)) in
+    let product : suc number * size ≡ number * size + size = grind arith in
+    omega arith
 
 -- chunks that are so large that so many are enough are at most so many
 few-chunks : (size items count most : ℕ) → items ≤ size * most → Counted size items count → count ≤ most
@@ -75,55 +83,22 @@ few-chunks size items count most enough counted =
     omega arith
 
 module _ {F A R : Type 0} (calls : Shared F (ℕ × (Bor (List A) × Unit {0})) R) (f : F) where
-  -- a chunk is a piece
-  pub accepts-chunks : (size : ℕ) (items : List A) → TakesPieces calls f items → AcceptsChunks calls f size items
-  accepts-chunks size items takes start piece chunk =
-      let place : length (take start items) ≡ start = length-take start items ∙ (let b = chunk.in_bounds in omega arith) in
-      let taken = takes (take start items) (drop size (drop start items)) piece (three-parts size start items piece.now chunk.value) chunk.nonempty in
-      rw place at taken
-
-  chunk-given : (size : ℕ) (items : List A) (n : ℕ) (r : R) → GivesChunk calls f size items n r → Gives calls f (0 + n * size) (take size (drop (n * size) items)) r
-  chunk-given size items n r chunk = record {
-    piece = chunk.argument;
-    piece_is = chunk.argument_is.value;
-    call = let here : 0 + n * size ≡ n * size = omega arith in rw here chunk.call;
-  }
-
-  -- each result is of the chunk of its number, from a place on
-  abbrev AreGiven : ℕ → ℕ → List A → List R → Type 0
-  AreGiven size place items results =
-      (n : ℕ) (d : R) → n < length results → Gives calls f (place + n * size) (take size (drop (n * size) items)) (get_or results n d)
-
   -- as many chunks as there are results
   abbrev chunks : ℕ → List A → List R → List (List A)
   chunks size items [] = []
   chunks size items (r ∷ results) = take size items ∷ chunks size (drop size items) results
 
-  next-given : (size place : ℕ) (items : List A) (r : R) (results : List R) → AreGiven size place items (r ∷ results) → AreGiven size (place + size) (drop size items) results
-  next-given size place items r results given n d within =
-      let one = given (suc n) d (omega arith) in
-      let before : place + suc n * size ≡ place + size + n * size = grind arith in
-      let product : suc n * size ≡ size + n * size = grind arith in
-      let behind : drop (suc n * size) items ≡ drop (n * size) (drop size items) = ap (λ m. drop m items) product ∙ sym (drop-drop (n * size) size items) in
-      rw (before, behind) at one
-
-  first-given : (size place : ℕ) (items : List A) (r : R) (results : List R) → AreGiven size place items (r ∷ results) → Gives calls f place (take size items) r
-  first-given size place items r results given =
-      let one = given 0 r (omega arith) in
-      let none : 0 * size ≡ 0 = grind arith in
-      let here : place + 0 ≡ place = omega arith in
-      rw (none, here) at one
-
-  each-given : (size place : ℕ) (items : List A) (results : List R) → Counted size (length items) (length results) → AreGiven size place items results
-      → GivesEach calls f place (chunks size items results) results
-  each-given size place items [] counted given = tt
-  each-given size place items (r ∷ []) counted given = (first-given size place items r [] given, tt)
-  each-given size place items (r ∷ next ∷ results) counted given =
-      let more = counted-two size (length items) (length results) counted in
-      let long : length (take size items) ≡ size = length-take-le size items (omega arith) in
-      let rest = each-given size (place + size) (drop size items) (next ∷ results) (dropped size items (suc (length results)) counted)
-      (next-given size place items r (next ∷ results) given) in
-      (first-given size place items r (next ∷ results) given, rw long rest)
+  each-given : (size number : ℕ) (items rest : List A) (results : List R) → rest ≡ drop (number * size) items → Counted size (length rest) (length results)
+      → AreInOrder calls f size items number results → GivesEach calls f (number * size) (chunks size rest results) results
+  each-given size number items rest [] is counted order = tt
+  each-given size number items rest (r ∷ []) is counted order = (rw is order.0, tt)
+  each-given size number items rest (r ∷ next ∷ results) is counted order =
+      let more = counted-two size (length rest) (length results) counted in
+      let long : length (take size rest) ≡ size = length-take-le size rest (omega arith) in
+      let product : suc number * size ≡ number * size + size = grind arith in
+      let behind : drop size rest ≡ drop (suc number * size) items = ap (λ l. drop size l) is ∙ drop-drop size (number * size) items ∙ ap (λ m. drop m items) (sym product) in
+      let after = each-given size (suc number) items (drop size rest) (next ∷ results) behind (dropped size rest (suc (length results)) counted) order.1 in
+      (rw is order.0, rw (long, sym product) after)
 
   together : (size : ℕ) (items : List A) (results : List R) → Counted size (length items) (length results) → flat_map (λ piece. piece) (chunks size items results) ≡ items
   together size [] [] counted = refl
@@ -144,13 +119,14 @@ module _ {F A R : Type 0} (calls : Shared F (ℕ × (Bor (List A) × Unit {0})) 
   length-chunks size items [] = refl
   length-chunks size items (r ∷ results) = ap (λ n. suc n) (length-chunks size (drop size items) results)
 
-  -- a list in chunks that are large enough for at most so many
-  pub gives-chunks : (most size : ℕ) (items : List A) (results : List R) → 0 < length items → 0 < most → size ≡ div_ceil (length items) most
-      → length results ≡ length items / size + min 1 (length items % size) → GivesChunks calls f size items results → GivesPieces calls f most items results
-  gives-chunks most size items results item job is count given =
+  -- a list in chunks that are large enough for at most so many, and what is given of them in their order
+  pub gives-in-order : (most size : ℕ) (items : List A) (results : List R) → 0 < length items → 0 < most → size ≡ div_ceil (length items) most
+      → length results ≡ div_ceil (length items) size → AreInOrder calls f size items 0 results → GivesPieces calls f most items results
+  gives-in-order most size items results item job is count order =
       let enough : length items ≤ size * most = rw is (counted-division most (length items) job).enough in
       let size_some = some-size size (length items) most item enough in
       let counted : Counted size (length items) (length results) = rw count (counted-division size (length items) size_some) in
+      let none : 0 * size ≡ 0 = grind arith in
       record {
         pieces = chunks size items results;
         whole = record {
@@ -158,8 +134,15 @@ module _ {F A R : Type 0} (calls : Shared F (ℕ × (Bor (List A) × Unit {0})) 
           some = some size items results size_some counted;
           few = rw (length-chunks size items results) (few-chunks size (length items) (length results) most enough counted);
         };
-        each = each-given size 0 items results counted (λ n d within. chunk-given size items n (get_or results n d) (given n d within).1);
+        each = subst (λ place. GivesEach calls f place (chunks size items results) results) none
+            (each-given size 0 items items results (ap (λ place. drop place items) (sym none)) counted order);
       }
+
+  pub gives-if-in-order : {E : Type 0} (most size : ℕ) (items : List A) (outcome : Result (List R) E) → 0 < length items → 0 < most → size ≡ div_ceil (length items) most
+      → IfOk outcome (λ results. length results ≡ div_ceil (length items) size) → IfOk outcome (AreInOrder calls f size items 0)
+      → IfOk outcome (λ results. GivesPieces calls f most items results)
+  gives-if-in-order most size items (Ok results) item job is count order = gives-in-order most size items results item job is count order
+  gives-if-in-order most size items (Err e) item job is count order = tt
 
   -- a list that is one piece
   pub gives-one : (most : ℕ) (items : List A) (results : List R) → 0 < length items → 0 < most → (x : R) × (results ≡ x ∷ []) × Gives calls f 0 items x → GivesPieces calls f most items results

@@ -6,6 +6,7 @@ pub mod Chunks
 pub mod Driven
 pub mod Growing
 pub mod Halting
+pub mod HandedOut
 pub mod Outputs
 pub mod Progress
 pub mod ReadSteps

@@ -4,6 +4,7 @@ pub mod Drives
 pub mod Driving
 pub mod Ends
 pub mod Halting
+pub mod Handing
 pub mod LittleAhead
 pub mod Moments
 pub mod Outputs

@@ -14,6 +14,7 @@ mod flush;
 mod gate;
 mod gather;
 mod given;
+mod handing;
 mod input;
 mod laws;
 mod limit;

@@ -1,10 +1,13 @@
-ghost use Rattle.std.specs.Prelude.{◌≡◌, ◌<◌, ◌≤◌, [], ◌∷◌, length, IfOk};
+ghost use Rattle.std.specs.Prelude.{◌≡◌, ◌*◌, ◌<◌, ◌≤◌, [], ◌∷◌, length, IfOk};
 ghost use Rattle.pads_drive.specs.Pieces.{Gives, GivesPieces, TakesPieces};
 
+use crate::handing::handed;
 use pads_value::{Items, Memory};
 use std::alloc::Global;
-use std::thread;
 use std::thread::Threads;
+
+/// How many pieces there are for each worker.
+const PIECES_EACH: usize = 8;
 
 /// What a function gives of a list that is one piece.
 fn of_one<T, X: Drop, F: Fn(usize, &[T]) -> X>(
@@ -23,9 +26,9 @@ fn of_one<T, X: Drop, F: Fn(usize, &[T]) -> X>(
 
 /// What a function gives of each piece of a list, in their order.
 ///
-/// The list is divided into at most so many pieces that follow one another, and the function is called
-/// with each piece and the number of items before it, by a worker where one can be had. A list that is
-/// one piece takes no worker.
+/// The list is divided into pieces that follow one another, at most eight for each of so many workers, and the
+/// function is called with each piece and the number of items before it. A worker takes the next piece each
+/// time it is free, so that none waits for one that is held up. One worker does it in this thread, in one piece.
 pub fn in_pieces<R: Threads + Sync, T: Sync, X: Send + Drop, F: Fn(usize, &[T]) -> X + Sync>(
     rt: &R,
     alloc: Global,
@@ -35,15 +38,15 @@ pub fn in_pieces<R: Threads + Sync, T: Sync, X: Send + Drop, F: Fn(usize, &[T]) 
 ) -> Result<Items<X>, Memory>
     requires jobs { 0 < jobs }
     requires takes { TakesPieces F.Fn f.now items.now }
-    ensures pieces { IfOk result (λ results. GivesPieces F.Fn f.now jobs items.now results) }
+    ensures pieces { IfOk result (λ results. GivesPieces F.Fn f.now (jobs * 8) items.now results) }
 {
     if items.is_empty() {
         return Ok(Items::new(alloc));
     }
-    let size = items.len().div_ceil(jobs as usize);
-    if size == items.len() {
+    if jobs == 1 || items.len() == 1 {
         return of_one(alloc, items, f);
     }
-    let results = thread::map_chunks(rt, alloc, items, size, f)?;
-    Ok(Items::from_vec(results))
+    let size = items.len().div_ceil(jobs as usize * PIECES_EACH);
+    let count = items.len().div_ceil(size);
+    handed(rt, alloc, items, size, count, count.min(jobs as usize), f)
 }

@@ -17,7 +17,7 @@ mod tell;
 mod term_text;
 mod trouble;
 
-use crate::meeting::workers_meet;
+use crate::meeting::{others_go_on, workers_meet};
 use std::io;
 
 fn main(rt: HostRuntime) -> io::Result<()> {
@@ -27,7 +27,11 @@ fn main(rt: HostRuntime) -> io::Result<()> {
     table::compare(&rt, "masks.txt")?;
     table::compare(&rt, "inputs.txt")?;
     match workers_meet(&rt, rt.alloc()) {
-        Ok(true) => println!(&rt; "meeting: three workers of a batch meet"),
-        _ => println!(&rt; "meeting: three workers of a batch don't meet"),
+        Ok(true) => println!(&rt; "meeting: three workers of a batch meet")?,
+        _ => println!(&rt; "meeting: three workers of a batch don't meet")?,
+    }
+    match others_go_on(&rt, rt.alloc()) {
+        Ok(true) => println!(&rt; "delay: the other worker of a batch goes on"),
+        _ => println!(&rt; "delay: the other worker of a batch doesn't go on"),
     }
 }
