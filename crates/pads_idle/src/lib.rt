@@ -7,7 +7,8 @@ mod lookups;
 mod parts;
 mod program;
 
-pub use links::{Called, Link, idles, optional_at};
+pub use links::{Called, Link, ends, idles, optional_at};
 pub use literals::{are_literals, literal_in};
 pub use lookups::{absorbs, at, begins_search, entry_at, marks, part_at, searches, shuts, stands};
+pub use parts::behind_guard;
 pub use program::Program;

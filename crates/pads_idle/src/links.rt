@@ -418,7 +418,7 @@ fn body_at(alloc: Global, program: &Program, place: u64, first: usize) -> Option
 }
 
 /// Whether a declaration ends from an address on.
-fn ends(code: &[Op], address: usize) -> bool
+pub fn ends(code: &[Op], address: usize) -> bool
     requires address { address < 2 ^ 34 }
     ensures ends { IsTrue result → Ends code.now address }
 {

@@ -57,7 +57,7 @@ fn guards(code: &[Op], address: usize) -> bool
 }
 
 /// The address behind the constraint at an address, if there is one.
-pub(crate) fn behind_guard(code: &[Op], address: usize) -> usize
+pub fn behind_guard(code: &[Op], address: usize) -> usize
     requires address { address < 2 ^ 35 }
     ensures guarded { IsGuarded code.now address result }
     ensures near { result ≤ address + 1 }

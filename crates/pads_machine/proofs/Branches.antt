@@ -34,7 +34,7 @@ module _ (code : List Op) (of_entries : List Entry) (subject : Subject) (most : 
       (fits-first code of_entries subject most m s h.end h.run h.within, run.1, run.2, refit more n one.0 run.1 u r run.3 one.2)
 
   -- steps, and one more
-  behind-them : (n : ℕ) (s e u : State) → Runs code of_entries subject most n s e → entries e ≤ most → step of_entries subject code e ≡ Goes u → Leads code of_entries subject most s u
+  pub behind-them : (n : ℕ) (s e u : State) → Runs code of_entries subject most n s e → entries e ≤ most → step of_entries subject code e ≡ Goes u → Leads code of_entries subject most s u
   behind-them zero s e u run fits goes = record {
     next_ = u;
     goes = subst (λ (x : State). step of_entries subject code x ≡ Goes u) (sym run) goes;

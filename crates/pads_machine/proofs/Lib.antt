@@ -2,6 +2,7 @@ pub mod Answered
 pub mod Bound
 pub mod Branches
 pub mod Continuing
+pub mod Dooming
 pub mod Endings
 pub mod Halts
 pub mod Homes
@@ -11,5 +12,6 @@ pub mod Nodes
 pub mod Passing
 pub mod Shows
 pub mod Taking
+pub mod TermsThere
 pub mod Tops
 pub mod Undone

@@ -9,12 +9,13 @@ use Rattle.pads_calc.specs.Arrays.{is_full}
 use Rattle.pads_image.specs.States as states
 use Rattle.pads_image.specs.States.{seen}
 use Rattle.pads_image.specs.Steps.{is_first}
+use Rattle.pads_machine.specs.declared.node.Caller.{Caller}
 use Rattle.pads_machine.specs.declared.node.Mark.{Mark}
 use Rattle.pads_machine.specs.declared.node.Node.{Node}
 use Rattle.pads_machine.specs.declared.state.State.{State}
 use Rattle.pads_machine.specs.Held.{AreWithin, Placed}
 use Rattle.pads_machine.specs.Ran.{StaysPlaced}
-use Rattle.pads_machine.specs.Shown.{IsSearching, above, below, mark_shown, node_shown, nodes_shown, shown}
+use Rattle.pads_machine.specs.Shown.{IsSearching, above, below, caller_shown, mark_shown, node_shown, nodes_shown, shown}
 use Rattle.pads_machine.proofs.Halts.{some-below}
 use Rattle.pads_machine.proofs.Homes.{back-length}
 
@@ -32,6 +33,10 @@ rest-there xs ys n x there size rest =
 module _ (m : State) where
   pub marks-are : (mark : Mark) → slice_get (reverse m.marks.items) 0 ≡ Some mark → (shown m).marks ≡ mark_shown mark ∷ map mark_shown (drop 1 (reverse m.marks.items))
   marks-are mark there = ap (λ (marks : List Mark). map mark_shown marks) (first-there (reverse m.marks.items) mark there)
+
+  pub callers-are : (caller : Caller) → slice_get (reverse m.callers.items) 0 ≡ Some caller
+      → (shown m).callers ≡ caller_shown caller ∷ map caller_shown (drop 1 (reverse m.callers.items))
+  callers-are caller there = ap (λ (callers : List Caller). map caller_shown callers) (first-there (reverse m.callers.items) caller there)
 
   abbrev pub below_top : Node → List states.Node
   below_top n = nodes_shown (drop 1 (reverse m.nodes.items)) (below n.base (reverse m.homes.items)) (below n.base (reverse m.bindings.items))

@@ -1,4 +1,5 @@
 pub mod Between
+pub mod Doomed
 pub mod Held
 pub mod Missing
 pub mod Ran

@@ -5,6 +5,7 @@ mod arrays;
 mod between;
 mod bindings;
 mod choices;
+mod doomed;
 mod literals;
 mod machine;
 mod misses;

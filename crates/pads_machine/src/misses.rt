@@ -67,7 +67,7 @@ fn is_missing(program: &Program, alloc: Global, number: u16, place: u64) -> bool
 }
 
 /// Whether a branch ends at an address.
-fn tries(code: &[Op], address: usize) -> bool
+pub(crate) fn tries(code: &[Op], address: usize) -> bool
     ensures tries { IsTrue result → IsTry code.now address }
 {
     matches!(at(code, address), Some(Op::Try(_, _)))

@@ -207,6 +207,10 @@ impl State {
                     self.pass_branch(alloc, program, *number);
                     return Ok(Next::Goes);
                 }
+                if let Some(names) = self.doomed_names(program) {
+                    self.pass_struct(alloc, program, names);
+                    return Ok(Next::Goes);
+                }
             }
             Op::Full(None, _, _) => {
                 if let Some(edge) = self.more_at(program) {

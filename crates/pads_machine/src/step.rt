@@ -198,7 +198,7 @@ impl State {
     }
 
     /// Ends a declaration: the run halts, or goes on behind the call.
-    fn end(&mut self) -> Next
+    pub(crate) fn end(&mut self) -> Next
         requires within { GoesWithin self.old.room (return_step (shown self.old) (shown self.old).callers) }
         requires roomy { Roomy self.old.room self.old }
         requires held { Held self.old }
