@@ -4,7 +4,7 @@ ghost use Rattle.pads_value.specs.declared.row.Row.{Row};
 ghost use Rattle.pads_value.specs.Cuts.{Cut, cut_of_kept};
 ghost use Rattle.pads_batch.specs.Reading.{AreRows, IsAnswer, IsRead, IsWhole, StandsForThem, rows_of};
 
-use pads_drive::{Gate, in_pieces};
+use pads_drive::{Gate, in_pieces, pieces_for};
 use pads_image::Image;
 use pads_machine::Machine;
 use pads_value::{Items, Kept, Memory, Rows};
@@ -99,7 +99,7 @@ fn read_shared<R: Threads + Sync, C: Reads, G: Gate + Sync>(
         requires { first_no + before + length piece.now < 2 ^ 64 }
         ensures { IfOk result (AreRows (C.is_row reader.entry.now) (first_no + before) (map cut_of_kept piece.entry.now)) }
     { reader.read_piece(alloc, first_no + before as u64, piece, gate) };
-    let parts = in_pieces(rt, alloc, frames, jobs, &read)?;
+    let parts = in_pieces(rt, alloc, frames, pieces_for(jobs), jobs, &read)?;
     put_together(alloc, parts)
 }
 

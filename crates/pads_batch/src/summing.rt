@@ -7,7 +7,7 @@ ghost use Rattle.pads_batch.specs.Reading.{IsAnswer, IsRead, StandsForThem, rows
 ghost use Rattle.pads_batch.specs.Summing.{AreSums, IsSum, IsSummed, Sums, SumsRows, Takes};
 
 use pads_accum::{Chunk, Limit, Summary};
-use pads_drive::{Gate, in_pieces};
+use pads_drive::{Gate, in_pieces, pieces_for};
 use pads_image::Image;
 use pads_machine::Machine;
 use pads_value::{Items, Kept, Memory, Refusal, Row};
@@ -159,7 +159,7 @@ fn sum_shared<R: Threads + Sync, C: SumsUp, S: Blanks + Sync, G: Gate + Sync>(
     let Ok(blank) = summary.blank() else {
         return Err(Refusal::Memory);
     };
-    let Ok(parts) = in_pieces(rt, alloc, frames, jobs, &sum) else {
+    let Ok(parts) = in_pieces(rt, alloc, frames, pieces_for(jobs), jobs, &sum) else {
         return Err(Refusal::Memory);
     };
     merge_parts(blank, parts)

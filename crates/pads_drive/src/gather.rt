@@ -9,7 +9,7 @@ use crate::gate::Gate;
 use crate::given::{Given, give_piece};
 use crate::limit::Limit;
 use crate::output::Output;
-use crate::pieces::in_pieces;
+use crate::pieces::{in_pieces, pieces_for};
 use pads_value::{Items, Kept, Refusal};
 use std::alloc::Global;
 use std::thread::Threads;
@@ -95,7 +95,7 @@ pub(crate) fn give_batch<R: Threads + Sync, C: Command, G: Gate + Sync>(
         requires { number + before + length piece.now < 2 ^ 64 }
         ensures { IsGiven (C.work command.entry.now) (C.share_of command.entry.now) (rows_of (C.work command.entry.now) (number + before) (map cut_of_kept piece.entry.now)) result }
     { give_piece(command, alloc, number + before as u64, piece, gate) };
-    let Ok(parts) = in_pieces(rt, alloc, frames, jobs, &give) else {
+    let Ok(parts) = in_pieces(rt, alloc, frames, pieces_for(jobs), jobs, &give) else {
         return Err(Refusal::Memory);
     };
     gather(command, alloc, parts, tally)

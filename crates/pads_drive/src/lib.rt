@@ -32,5 +32,5 @@ pub use input::drive;
 pub use laws::{frames_lie_close_behind, reading_is_little_ahead};
 pub use limit::Limit;
 pub use output::Output;
-pub use pieces::in_pieces;
+pub use pieces::{in_pieces, pieces_for};
 pub use stop::Stop;
