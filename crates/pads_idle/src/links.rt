@@ -1,5 +1,5 @@
 //! Calls that take no byte, by the code and what stands at the place.
-ghost use Rattle.std.specs.Prelude.{◌≡◌, ℕ, [], pos, false, ◌+◌, ◌<◌, ◌≤◌, ◌≤ℤ◌, ◌⊎◌, ◌^◌, IfSome, IsTrue, List, Option, Some, slice_get};
+ghost use Rattle.std.specs.Prelude.{◌≡◌, ℕ, [], pos, false, ◌+◌, ◌<◌, ◌≤◌, ◌≤ℤ◌, ◌⊎◌, ◌^◌, IfSome, IsSome, IsTrue, List, Option, Some, slice_get};
 ghost use Rattle.pads_expr.specs.declared.expr.Expr.{Expr};
 ghost use Rattle.pads_calc.specs.Leaves.{lit_of};
 ghost use Rattle.pads_calc.specs.Readings.{is_ok};
@@ -93,6 +93,7 @@ fn has_turn(code: &[Op], address: usize, to: usize) -> bool
 /// The declaration that is called at an address.
 fn called_at(code: &[Op], address: usize) -> Option<u16>
     ensures called { IfSome result (λ number. (args : List Expr) × (slice_get code.now address ≡ Some (instruction.Call number args))) }
+    ensures seen { (number : ℕ) → (args : List Expr) → slice_get code.now address ≡ Some (instruction.Call number args) → IsSome result }
 {
     match at(code, address) {
         Some(Op::Call(number, _)) => Some(*number),
@@ -126,6 +127,7 @@ fn ends_turn(code: &[Op], address: usize, to: usize, again: usize) -> bool
 /// Whether a declaration ends at an address.
 fn returns(code: &[Op], address: usize) -> bool
     ensures ends { IsTrue result → slice_get code.now address ≡ Some instruction.Return }
+    ensures seen { slice_get code.now address ≡ Some instruction.Return → IsTrue result }
 {
     matches!(at(code, address), Some(Op::Return))
 }
@@ -265,6 +267,7 @@ pub struct Called {
 /// Whether a branch ends at an address, and goes on at another one where it is clean.
 fn tries(code: &[Op], address: usize, to: usize) -> bool
     ensures tries { IsTrue result → (branch : ℕ) × (slice_get code.now address ≡ Some (instruction.Try branch to)) }
+    ensures seen { (branch : ℕ) → slice_get code.now address ≡ Some (instruction.Try branch to) → IsTrue result }
 {
     match at(code, address) {
         Some(Op::Try(_, end)) => *end as usize == to,
@@ -275,6 +278,7 @@ fn tries(code: &[Op], address: usize, to: usize) -> bool
 /// Whether nothing is read at an address.
 fn reads_nothing(code: &[Op], address: usize) -> bool
     ensures nothing { IsTrue result → slice_get code.now address ≡ Some instruction.Unit }
+    ensures seen { slice_get code.now address ≡ Some instruction.Unit → IsTrue result }
 {
     matches!(at(code, address), Some(Op::Unit))
 }
@@ -286,6 +290,7 @@ fn is_optional(code: &[Op], address: usize) -> bool
     ensures there { IsTrue result → (branch : ℕ) × (slice_get code.now (address + 2) ≡ Some (instruction.Try branch (address + 6))) }
     ensures nothing { IsTrue result → slice_get code.now (address + 3) ≡ Some instruction.Unit }
     ensures missing { IsTrue result → (branch : ℕ) × (slice_get code.now (address + 4) ≡ Some (instruction.Try branch (address + 6))) }
+    ensures seen { (number : ℕ) → IsOptional code.now address number → IsTrue result }
 {
     marks(code, address)
         && tries(code, address + 2, address + 6)
@@ -293,10 +298,11 @@ fn is_optional(code: &[Op], address: usize) -> bool
         && tries(code, address + 4, address + 6)
 }
 
-/// The optional call from an address on. None where no such call is seen there.
+/// The optional call from an address on. None where no such call stands there.
 pub fn optional_at(code: &[Op], address: usize) -> Option<Called>
     requires address { address < 2 ^ 33 }
     ensures optional { IfSome result (λ called. IsOptional code.now address called.number × (called.next ≡ address + 6)) }
+    ensures seen { (number : ℕ) → IsOptional code.now address number → IsSome result }
 {
     if !is_optional(code, address) {
         return None;
@@ -421,6 +427,7 @@ fn body_at(alloc: Global, program: &Program, place: u64, first: usize) -> Option
 pub fn ends(code: &[Op], address: usize) -> bool
     requires address { address < 2 ^ 34 }
     ensures ends { IsTrue result → Ends code.now address }
+    ensures seen { Ends code.now address → IsTrue result }
 {
     returns(code, behind_guard(code, address))
 }

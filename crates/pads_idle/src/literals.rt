@@ -1,5 +1,5 @@
 //! Arguments of base types that stand in the code as literals.
-ghost use Rattle.std.specs.Prelude.{◌≡◌, IfOk, IsTrue, Some};
+ghost use Rattle.std.specs.Prelude.{◌≡◌, IfOk, IsTrue, Some, length};
 ghost use Rattle.pads_calc.specs.Arguments.{argument as argument_of, arguments as arguments_of};
 ghost use Rattle.pads_expr.specs.Value.{Pairs};
 ghost use Rattle.pads_idle.specs.LiteralArgs.{literal_arg, literal_args};
@@ -36,6 +36,7 @@ pub fn literal_in(alloc: Global, es: &[Expr]) -> Result<Args, Memory>
 /// Whether two numbers are the same.
 fn is_number(number: &i128, other: &i128) -> bool
     ensures same { IsTrue result → number.now ≡ other.now }
+    ensures seen { number.now ≡ other.now → IsTrue result }
 {
     *number == *other
 }
@@ -43,6 +44,7 @@ fn is_number(number: &i128, other: &i128) -> bool
 /// Whether two texts are the same.
 fn is_text(text: &[u8], other: &[u8]) -> bool
     ensures same { IsTrue result → text.now ≡ other.now }
+    ensures seen { text.now ≡ other.now → IsTrue result }
 {
     text == other
 }
@@ -50,6 +52,7 @@ fn is_text(text: &[u8], other: &[u8]) -> bool
 /// Whether an expression is a literal that stands for an argument.
 fn is_literal(e: &Expr, arg: &Arg) -> bool
     ensures literal { IsTrue result → (env : Pairs) → argument_of e.now env ≡ Some arg.now }
+    ensures seen { literal_arg e.now ≡ Some arg.now → IsTrue result }
 {
     match (e, arg) {
         (Expr::Num(number), Arg::Num(kept)) => is_number(number, kept),
@@ -61,6 +64,7 @@ fn is_literal(e: &Expr, arg: &Arg) -> bool
 /// Whether expressions are just these arguments: none, or one literal.
 pub fn are_literals(es: &[Expr], args: &[Arg]) -> bool
     ensures literals { IsTrue result → (env : Pairs) → arguments_of es.now env ≡ Some args.now }
+    ensures seen { args.now ≡ literal_args es.now → length args.now ≡ length es.now → IsTrue result }
 {
     match (es, args) {
         ([], []) => true,

@@ -1,5 +1,5 @@
 //! What stands at an address of the code, at a number of the entries, and at a place of a record.
-ghost use Rattle.std.specs.Prelude.{◌≡◌, ◌≤◌, IfSome, IsTrue, Some, drop, length, nat_eq, slice_get};
+ghost use Rattle.std.specs.Prelude.{◌≡◌, ℕ, ◌≤◌, IfSome, IsTrue, Option, Some, drop, length, nat_eq, slice_get};
 ghost use Rattle.std.specs.List.{starts_with};
 ghost use Rattle.std.specs.Option.{option_copied};
 ghost use Rattle.pads_image.specs.declared.op.Op.TheVariants as instruction;
@@ -24,6 +24,7 @@ pub fn entry_at(entries: &[Entry], number: u16) -> Option<&Entry>
 /// The name with which a part of a struct is kept at an address. None where no part is kept there.
 pub fn part_at(code: &[Op], address: usize) -> Option<Option<u16>>
     ensures part { IfSome result (λ name. slice_get code.now address ≡ Some (instruction.Part name)) }
+    ensures seen { (name : Option ℕ) → slice_get code.now address ≡ Some (instruction.Part name) → result ≡ Some name }
 {
     match at(code, address) {
         Some(Op::Part(name)) => Some(*name),
@@ -34,6 +35,7 @@ pub fn part_at(code: &[Op], address: usize) -> Option<Option<u16>>
 /// Whether a place is noted at an address.
 pub fn marks(code: &[Op], address: usize) -> bool
     ensures mark { IsTrue result → slice_get code.now address ≡ Some instruction.Mark }
+    ensures seen { slice_get code.now address ≡ Some instruction.Mark → IsTrue result }
 {
     matches!(at(code, address), Some(Op::Mark))
 }
@@ -41,6 +43,7 @@ pub fn marks(code: &[Op], address: usize) -> bool
 /// Whether a search begins at an address.
 pub fn begins_search(code: &[Op], address: usize) -> bool
     ensures begins { IsTrue result → slice_get code.now address ≡ Some instruction.ScanFrom }
+    ensures seen { slice_get code.now address ≡ Some instruction.ScanFrom → IsTrue result }
 {
     matches!(at(code, address), Some(Op::ScanFrom))
 }
@@ -48,6 +51,7 @@ pub fn begins_search(code: &[Op], address: usize) -> bool
 /// Whether a search goes on at an address, told by the instruction at another.
 pub fn searches(code: &[Op], address: usize, to: usize) -> bool
     ensures searches { IsTrue result → slice_get code.now address ≡ Some (instruction.ScanOn to) }
+    ensures seen { slice_get code.now address ≡ Some (instruction.ScanOn to) → IsTrue result }
 {
     match at(code, address) {
         Some(Op::ScanOn(found)) => *found as usize == to,
@@ -58,6 +62,7 @@ pub fn searches(code: &[Op], address: usize, to: usize) -> bool
 /// Whether a value is dropped at an address.
 pub fn absorbs(code: &[Op], address: usize) -> bool
     ensures absorbs { IsTrue result → slice_get code.now address ≡ Some instruction.Absorb }
+    ensures seen { slice_get code.now address ≡ Some instruction.Absorb → IsTrue result }
 {
     matches!(at(code, address), Some(Op::Absorb))
 }
@@ -65,6 +70,7 @@ pub fn absorbs(code: &[Op], address: usize) -> bool
 /// Whether an array ends at an address.
 pub fn shuts(code: &[Op], address: usize) -> bool
     ensures shut { IsTrue result → slice_get code.now address ≡ Some instruction.Shut }
+    ensures seen { slice_get code.now address ≡ Some instruction.Shut → IsTrue result }
 {
     matches!(at(code, address), Some(Op::Shut))
 }

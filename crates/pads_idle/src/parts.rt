@@ -52,14 +52,16 @@ impl Kept {
 /// Whether what was read is under a constraint at an address.
 fn guards(code: &[Op], address: usize) -> bool
     ensures guards { IsTrue result → (binder : ℕ) × (condition : Expr) × (slice_get code.now address ≡ Some (instruction.Guard binder condition)) }
+    ensures seen { (binder : ℕ) → (condition : Expr) → slice_get code.now address ≡ Some (instruction.Guard binder condition) → IsTrue result }
 {
     matches!(at(code, address), Some(Op::Guard(_, _)))
 }
 
-/// The address behind the constraint at an address, if there is one.
+/// The address behind the constraint at an address, if there is one. Else the address itself.
 pub fn behind_guard(code: &[Op], address: usize) -> usize
     requires address { address < 2 ^ 35 }
     ensures guarded { IsGuarded code.now address result }
+    ensures seen { (binder : ℕ) → (condition : Expr) → slice_get code.now address ≡ Some (instruction.Guard binder condition) → result ≡ address + 1 }
     ensures near { result ≤ address + 1 }
 {
     if guards(code, address) {

@@ -7,20 +7,16 @@ use Rattle.pads_dispatch.specs.declared.base.Arg.TheVariants as arg
 use Rattle.pads_calc.specs.Arguments.{arg_told, argument}
 use Rattle.pads_idle.proofs.literals.is_literal.Goals as goal
 
-pub returns-in-Num-Num : goal.returns-in-Num-Num
-returns-in-Num-Num c = record {
-  literal = λ is (env : Pairs).
-      ap (λ (e : Expr). argument e env) c.in-Num-Num.is-0
-      ∙ ap (λ (a : Answer). arg_told (worth_or_none a)) (value-Num _ env)
-      ∙ ap (λ n. Some (arg.Num n)) (c.is_number.ensures.same is)
-      ∙ sym (ap Some c.in-Num-Num.is-1);
-}
+pub returns-in-Num-Num-clause-literal : goal.returns-in-Num-Num-clause-literal
+returns-in-Num-Num-clause-literal c = λ is (env : Pairs).
+    ap (λ (e : Expr). argument e env) c.in-Num-Num.is-0
+    ∙ ap (λ (a : Answer). arg_told (worth_or_none a)) (value-Num _ env)
+    ∙ ap (λ n. Some (arg.Num n)) (c.is_number.ensures.same is)
+    ∙ sym (ap Some c.in-Num-Num.is-1)
 
-pub returns-in-Text-Text : goal.returns-in-Text-Text
-returns-in-Text-Text c = record {
-  literal = λ is (env : Pairs).
-      ap (λ (e : Expr). argument e env) c.in-Text-Text.is-0
-      ∙ ap (λ (a : Answer). arg_told (worth_or_none a)) (value-Text _ env)
-      ∙ ap (λ text. Some (arg.Text text)) (sym c.as_slice.ensures.items ∙ c.is_text.ensures.same is ∙ c.as_slice-in-Text-Text.ensures.items)
-      ∙ sym (ap Some c.in-Text-Text.is-1);
-}
+pub returns-in-Text-Text-clause-literal : goal.returns-in-Text-Text-clause-literal
+returns-in-Text-Text-clause-literal c = λ is (env : Pairs).
+    ap (λ (e : Expr). argument e env) c.in-Text-Text.is-0
+    ∙ ap (λ (a : Answer). arg_told (worth_or_none a)) (value-Text _ env)
+    ∙ ap (λ text. Some (arg.Text text)) (sym c.as_slice.ensures.items ∙ c.is_text.ensures.same is ∙ c.as_slice-in-Text-Text.ensures.items)
+    ∙ sym (ap Some c.in-Text-Text.is-1)
