@@ -11,4 +11,5 @@ mod tests;
 
 pub use entry::{Entries, Entry};
 pub use image::Image;
+pub use need::needs_inside;
 pub use op::{Op, Ops, Target, Targets};

@@ -133,8 +133,9 @@ fn needs_over(
     Ok(needs)
 }
 
-/// What each declaration needs inside the declaration of a record.
-fn needs(alloc: Global, code: &[Op], entries: &[Entry]) -> Result<Items<u64>, Memory>
+/// How many entries the stacks need for each declaration, where calls may be nested in it as deep as in the
+/// declaration of a record.
+pub fn needs_inside(alloc: Global, code: &[Op], entries: &[Entry]) -> Result<Items<u64>, Memory>
     requires short { nat_le (length code.now) longest ≡ true }
     requires few { list_all (λ entry. few entry.params) entries.now ≡ true }
     ensures needs { IfOk result (λ needs. needs ≡ needs_of code.now (arities_of entries.now) inside) }
@@ -168,6 +169,6 @@ pub(crate) fn stack_need(
     requires few { list_all (λ entry. few entry.params) entries.now ≡ true }
     ensures need { IfOk result (λ need. need ≡ need_by (needs_of code.now (arities_of entries.now) inside) shape.now) }
 {
-    let table = needs(alloc, code, entries)?;
+    let table = needs_inside(alloc, code, entries)?;
     Ok(need_of(&table, shape))
 }

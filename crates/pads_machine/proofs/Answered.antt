@@ -18,6 +18,7 @@ use Rattle.pads_image.specs.Reads.{bodies_of}
 use Rattle.pads_image.specs.Skeletons.{kept_in}
 use Rattle.pads_image.specs.Validity.{is_valid, arities_of, begin_at, keep_of, longest, params_of, variables_stand}
 use Rattle.pads_image.specs.Variables.{later_params, next_params}
+use Rattle.pads_machine.specs.Known.{AreCounted}
 use Rattle.pads_machine.specs.Ran.{Halting, labels_stand}
 use Rattle.law_images.proofs.Answering.{answers}
 use Rattle.pads_machine.proofs.Labels.{labels-code}
@@ -46,6 +47,11 @@ module _ (code : List Op) (entries : List Entry) (shape : Shape) (valid : is_val
   labels-there =
       labels-code (arities_of entries) (later_params (params_of entries)) (next_params (params_of entries)) code
       (and_parts (fits && begun && keeping) bound before-count).1
+
+  pub are-counted : AreCounted code entries
+  are-counted =
+      let all = and_parts (fits && begun && keeping && bound) counted (and_parts (fits && begun && keeping && bound && counted) (shape_there (length entries) shape) valid).0 in
+      ((and_parts fits begun (and_parts (fits && begun) keeping (and_parts (fits && begun && keeping) bound all.0).0).0).0, all.1)
 
   pub code-short : length code < 2 ^ 32
   code-short =

@@ -421,6 +421,7 @@ pub told-goes : (next : Next) (made : Step) (k e u : State) → Tells next made 
 told-goes next.Goes made k e u told is = let both = sym told ∙ is in cc
 told-goes next.Searches made k e u told is = let both = sym told ∙ is in cc
 told-goes next.Halts made k e u told is = let never = sym told.0 ∙ is in absurd cc
+told-goes (next.Asks call) made k e u told is = absurd told
 
 pub goes-same : (t u : State) → Goes t ≡ Goes u → t ≡ u
 goes-same t u same = cc

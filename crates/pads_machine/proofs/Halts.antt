@@ -1,6 +1,7 @@
 -- A run that halts: what its first step is.
-use Rattle.std.proofs.Common.{◌≡◌, ◌∙◌, sym, ap, refl, subst, arith, ℕ, zero, suc, ◌<◌, ◌≤◌, List, [], ◌∷◌, length, ◌⊎◌, inl, inr, ⊎_elim, Some, None, slice_get}
-use Rattle.std.proofs.lemmas.Bool.{cases_lt}
+use Rattle.std.proofs.Common.{◌≡◌, ◌∙◌, sym, ap, refl, subst, arith, ℕ, zero, suc, ◌+◌, ◌<◌, ◌≤◌, Bool, true, false, List, [], ◌∷◌, length, ◌⊎◌, inl, inr, ⊎_elim, Some, None, slice_get}
+use Rattle.std.proofs.lemmas.Bool.{cases_lt, ne_eqb}
+use Rattle.std.specs.Bool.{◌==◌}
 use Rattle.pads_calc.specs.declared.reading.Reading.{Reading}
 use Rattle.pads_calc.specs.Readings.{Subject}
 use Rattle.pads_image.specs.declared.entry.Entry.{Entry}
@@ -9,6 +10,23 @@ use Rattle.pads_image.specs.Answers.{Runs, Reaches, HaltsWith}
 use Rattle.pads_image.specs.States.{State, entries}
 use Rattle.pads_image.specs.Steps.{Step, Goes, Halts, Stuck, does, does_there, step}
 use Rattle.pads_machine.specs.Ran.{GoesWithin, Halting}
+
+-- a step more may be asking
+abbrev pub may_ask : Bool → ℕ
+may_ask true = 1
+may_ask false = 0
+
+pub asks-once : (asking : Bool) → may_ask asking ≤ 1
+asks-once true = omega arith
+asks-once false = omega arith
+
+-- nothing is asked as long as that is so
+pub quiet-then : (quiet : ℕ) → 0 < quiet → may_ask (quiet == 0) ≡ 0
+quiet-then quiet some = ap (λ (b : Bool). may_ask b) (ne_eqb quiet 0 (λ none. absurd (omega (arith, none, some))))
+
+-- where fewer steps are left, it doesn't matter whether something is asked
+pub fewer-asking : (less left : ℕ) (after before : Bool) → less < left → less + less + may_ask after < left + left + may_ask before
+fewer-asking less left after before is = omega (arith, is, asks-once after)
 
 module _ (code : List Op) (of_entries : List Entry) (subject : Subject) (most : ℕ) where
   abbrev With : State → Reading → Type 0

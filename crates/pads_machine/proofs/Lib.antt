@@ -1,6 +1,7 @@
 pub mod Answered
 pub mod Bound
 pub mod Branches
+pub mod Calling
 pub mod Continuing
 pub mod Dooming
 pub mod Endings
@@ -10,6 +11,7 @@ pub mod Labels
 pub mod Leaps
 pub mod Nodes
 pub mod Passing
+pub mod Recalled
 pub mod Shows
 pub mod Taking
 pub mod TermsThere

@@ -1,26 +1,33 @@
 -- A turn whose element takes no byte, where the array has one: its steps lead to the array's end.
-use Rattle.std.proofs.Common.{cond, ◌≡◌, ◌∙◌, sym, ap, refl, subst, arith, ℕ, zero, suc, ◌+◌, ◌≤◌, Bool, true, false, not, ◌&&◌, if◌then◌else◌, nat_eq, eq-eqb, List, ◌∷◌, length, Some, slice_get}
+use Rattle.std.proofs.Common.{cond, ◌≡◌, ◌∙◌, sym, ap, refl, subst, arith, ℕ, zero, suc, ◌+◌, ◌≤◌, Bool, true, false, not, ◌&&◌, if◌then◌else◌, nat_eq, eq-eqb, List, [], ◌∷◌, length, Some, slice_get}
 use Rattle.pads_value.specs.declared.cause.Cause.TheVariants as cause
 use Rattle.pads_value.specs.declared.descriptor.Pd.{out-Pd}
+use Rattle.pads_calc.specs.declared.decl.Decl.{Decl}
 use Rattle.pads_calc.specs.declared.reading.Reading.{Reading}
 use Rattle.pads_calc.specs.Arrays.{is_fail_class}
+use Rattle.pads_calc.specs.Calculus.{caller}
 use Rattle.pads_calc.specs.Leaves.{unit_of}
 use Rattle.pads_calc.specs.Readings.{Subject}
 use Rattle.pads_image.specs.declared.entry.Entry.{Entry}
 use Rattle.pads_image.specs.declared.op.Op.{Op}
 use Rattle.pads_image.specs.declared.op.Op.TheVariants as op
 use Rattle.pads_image.specs.Answers.{HaltsWith, Reaches}
-use Rattle.pads_image.specs.States.{Mark, Node, State, entries, seen}
+use Rattle.pads_image.specs.Code.{IsCodeOf}
+use Rattle.pads_image.specs.States.{Mark, Node, State, base_of, entries, seen}
 use Rattle.pads_image.specs.Steps.{Step, Goes, Halts, Stuck, back_to, began, does_there, is_first, mark_at, shut_step, step, with_own, with_reading}
 use Rattle.law_images.proofs.Reaching.{before, here, to-same}
+use Rattle.pads_machine.specs.declared.known.Call.{Call}
+use Rattle.pads_machine.specs.declared.known.Outcome.{Outcome}
 use Rattle.pads_machine.specs.declared.step.Next.{Next}
 use Rattle.pads_machine.specs.declared.step.Next.TheVariants as next
 use Rattle.pads_idle.specs.Idle.{IdlesTo}
+use Rattle.pads_machine.specs.Known.{HasOutcome, outcome_of, reading_of}
 use Rattle.pads_machine.specs.Ran.{Advances, GoesWithin, Leads, Tells}
 use Rattle.pads_machine.specs.Shown.{has_own}
 use Rattle.pads_machine.proofs.Endings.{turn-goes}
 use Rattle.pads_machine.proofs.Halts.{fits-first, moved}
-use Rattle.pads_idle.proofs.Idling.{idles-to}
+use Rattle.pads_machine.proofs.Recalled.{behind_call, largest, recalled, recalls, walked}
+use Rattle.pads_idle.proofs.Idling.{Idling, idles-to}
 use Rattle.pads_idle.proofs.Walking.{To, Walks, along, by, join, once}
 
 within-if : (most : ℕ) (b : Bool) (t : State) → b ≡ true → entries t ≤ most → GoesWithin most (cond b (Goes t) Stuck)
@@ -56,13 +63,48 @@ module _ (code : List Op) (of_entries : List Entry) (subject : Subject) (most : 
   pub room-there : (s : State) (r : Reading) → HaltsWith code of_entries subject most s r → entries s ≤ most
   room-there s r h = fits-first code of_entries subject most h.reached.steps s h.end h.reached.run h.within
 
-  module _ (s : State) (n : Node) (nodes : List Node) (nodes_are : s.nodes ≡ n ∷ nodes) (later : is_first n ≡ false) (alone : n.base ≤ length s.bindings)
-      (first behind to again : ℕ) (turns : slice_get code s.at_ ≡ Some (op.Turn first)) (element : IdlesTo code of_entries subject s.last.place (seen s) s.depth (s.at_ + 1) behind)
-      (ends : slice_get code behind ≡ Some (op.Elem to again)) (shuts : slice_get code to ≡ Some op.Shut) where
-    abbrev begun : State
+  -- the array has an element, and a turn is begun
+  module _ (s : State) (n : Node) (nodes : List Node) where
+    abbrev pub begun : State
     begun = record s { at_ = s.at_ + 1; nodes = n ∷ nodes; marks = mark_at s.last.place ∷ s.marks }
 
-    begins : step of_entries subject code s ≡ Goes begun
+    -- from there on to an address an element is read that takes no byte, and doesn't fail
+    abbrev pub Element : ℕ → Type 0
+    Element behind = Idling code of_entries subject s.last.place true begun behind
+
+    pub idle-element : (behind : ℕ) → n.base ≤ length s.bindings → IdlesTo code of_entries subject s.last.place (seen s) s.depth (s.at_ + 1) behind → Element behind
+    idle-element behind alone element =
+        let element_there = subst (λ env. IdlesTo code of_entries subject s.last.place env s.depth (s.at_ + 1) behind) (seen-there s (s.at_ + 1) (n ∷ nodes) (mark_at s.last.place ∷ s.marks)) element in
+        idles-to code of_entries subject s.last.place s.depth begun (s.at_ + 1) behind refl element_there refl alone refl
+
+    -- so it is known of a call
+    pub known-element : (decls : List Decl) (is : IsCodeOf decls code of_entries) (call : Call) (outcome : Outcome)
+        → slice_get code (s.at_ + 1) ≡ Some (op.Call call.number []) → call.depth ≡ s.depth → call.place ≡ s.last.place
+        → base_of s.callers ≤ length s.bindings → n.base ≤ length s.bindings → s.last.place ≤ length subject.bytes
+        → HasOutcome code of_entries subject call outcome → outcome.failed ≡ false → outcome.place ≡ call.place → Element (s.at_ + 2)
+    known-element decls is call outcome there depth place sane alone within known stays_well stays =
+        let e : State = begun in
+        let q : Reading = recalled decls subject call.number e in
+        let run = recalls decls subject call.number e code of_entries is there sane alone within in
+        let told : outcome ≡ outcome_of (reading_of decls subject call) = known decls is in
+        let same : reading_of decls subject call ≡ q =
+        ap (λ (depth : ℕ). caller subject decls depth call.number [] [] call.place) depth ∙ ap (λ (place : ℕ). caller subject decls s.depth call.number [] [] place) place in
+        let further : s.at_ + 1 + 1 ≡ s.at_ + 2 = omega arith in record {
+          reading = q;
+          place = ap (λ (r : Reading). r.place) (sym same) ∙ sym (ap (λ (o : Outcome). o.place) told) ∙ stays ∙ place;
+          class_is = λ wanted. ap (λ (r : Reading). is_fail_class (out-Pd r.pd).class) (sym same) ∙ sym (ap (λ (o : Outcome). o.failed) told) ∙ stays_well;
+          walk =
+              subst (λ (next : ℕ). To code of_entries subject e (record e { at_ = next; last = q })) further
+              (walked code of_entries subject (largest decls subject call.number e) e (behind_call decls subject call.number e) run);
+        }
+
+  module _ (s : State) (n : Node) (nodes : List Node) (nodes_are : s.nodes ≡ n ∷ nodes) (later : is_first n ≡ false)
+      (first behind to again : ℕ) (turns : slice_get code s.at_ ≡ Some (op.Turn first)) (element : Element s n nodes behind)
+      (ends : slice_get code behind ≡ Some (op.Elem to again)) (shuts : slice_get code to ≡ Some op.Shut) where
+    abbrev turning : State
+    turning = begun s n nodes
+
+    begins : step of_entries subject code s ≡ Goes turning
     begins =
         by code of_entries subject s _ (op.Turn first) turns
         (turn-goes first s n nodes nodes_are false later
@@ -70,7 +112,7 @@ module _ (code : List Op) (of_entries : List Entry) (subject : Subject) (most : 
 
     -- where the element has been read
     abbrev read : Reading → State
-    read r = record begun { at_ = behind; last = r }
+    read r = record turning { at_ = behind; last = r }
 
     -- where the array ends
     abbrev ended : ℕ → State
@@ -102,19 +144,17 @@ module _ (code : List Op) (of_entries : List Entry) (subject : Subject) (most : 
         → shut_step subject.origin (record s { at_ = to; nodes = has_own (Some cause.ArrayStall) s.nodes }) (has_own (Some cause.ArrayStall) s.nodes) ≡ Goes u
         → HaltsWith code of_entries subject most s r → Leads code of_entries subject most s u
     stall-leads u r goes halts =
-        let element_there = subst (λ env. IdlesTo code of_entries subject s.last.place env s.depth (s.at_ + 1) behind) (seen-there s (s.at_ + 1) (n ∷ nodes) (mark_at s.last.place ∷ s.marks)) element in
-        let e = idles-to code of_entries subject s.last.place s.depth begun (s.at_ + 1) behind refl element_there refl alone refl in
-        let q = e.reading in
+        let q = element.reading in
         let z : State = record s { at_ = to; last = back_to s.last.place q; nodes = with_own (Some cause.ArrayStall) n ∷ nodes } in
         let own = λ (nodes : List Node). shut_step subject.origin (record s { at_ = to; nodes = has_own (Some cause.ArrayStall) nodes }) (has_own (Some cause.ArrayStall) nodes) in
         let shut : step of_entries subject code z ≡ Goes u = by code of_entries subject z u op.Shut shuts (sym (ap own nodes_are) ∙ goes) in
-        let walk : To code of_entries subject begun u =
-        join code of_entries subject begun (read q) u e.walk
-        (along code of_entries subject (read q) z u (stalls q e.place (e.class_is refl)) (once code of_entries subject z u shut)) in
+        let walk : To code of_entries subject turning u =
+        join code of_entries subject turning (read q) u element.walk
+        (along code of_entries subject (read q) z u (stalls q element.place (element.class_is refl)) (once code of_entries subject z u shut)) in
         record {
-          next_ = begun;
+          next_ = turning;
           goes = begins;
-          more = fitting walk.steps begun u r walk.walk (moved code of_entries subject most s begun r begins halts);
+          more = fitting walk.steps turning u r walk.walk (moved code of_entries subject most s turning r begins halts);
         }
 
     -- where the array's end has been done, as is told
@@ -124,3 +164,4 @@ module _ (code : List Op) (of_entries : List Entry) (subject : Subject) (most : 
     stall-advances next.Goes t u r told base halts = stall-leads u r told halts
     stall-advances next.Searches t u r told base halts = stall-leads u r told halts
     stall-advances next.Halts t u r told base halts = absurd (never-halts told.0 base)
+    stall-advances (next.Asks call) t u r told base halts = absurd told

@@ -1,6 +1,7 @@
 pub mod Between
 pub mod Doomed
 pub mod Held
+pub mod Known
 pub mod Missing
 pub mod Ran
 pub mod Searched

@@ -70,7 +70,7 @@ fn read_body<'x>(
 {
     let number = image.shape.type_of(record_no);
     let address = first(image.entries.as_slice(), number);
-    state.start(alloc, frame.first, address, INSIDE);
+    state.start(alloc, frame.first, address, INSIDE, 0);
     let program = Program {
         code: image.code.as_slice(),
         entries: image.entries.as_slice(),

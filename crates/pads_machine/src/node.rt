@@ -43,6 +43,10 @@ pub(crate) struct Caller {
     pub(crate) back: usize,
     /// How many bindings are below its own.
     pub(crate) base: usize,
+    /// The declaration that is called, by its number.
+    pub(crate) number: u16,
+    /// The place where it begins.
+    pub(crate) place: u64,
 }
 
 impl Node {

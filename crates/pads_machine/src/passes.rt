@@ -1,16 +1,18 @@
 //! Instructions that are done at once: those of a literal among the parts of a struct where it stands, and a
 //! base type with what keeps it as a part.
-ghost use Rattle.std.specs.Prelude.{◌≡◌, ℕ, List, ◌+◌, ◌<◌, ◌≤◌, ◌^◌, true, None, Some, IfOk, IfSome, IsTrue, OnOk, length, slice_get};
+ghost use Rattle.std.specs.Prelude.{◌≡◌, ℕ, List, ◌+◌, ◌<◌, ◌≤◌, ◌^◌, true, false, None, Some, IfOk, IfSome, IsTrue, OnOk, length, slice_get};
 ghost use Rattle.pads_calc.specs.declared.decl.Decl.{Decl};
 ghost use Rattle.pads_dispatch.specs.Labels.{labels_fit};
 ghost use Rattle.pads_image.specs.Code.{IsCodeOf};
 ghost use Rattle.pads_image.specs.declared.op.Op.TheVariants as instruction;
 ghost use Rattle.pads_image.specs.Steps.{does};
 ghost use Rattle.pads_machine.specs.Held.{Held, Placed, Roomy};
-ghost use Rattle.pads_machine.specs.Ran.{Advances, GoesWithin, Halting, IsLiteralPart, StandsAsPart, labels_stand};
+ghost use Rattle.pads_machine.specs.Known.{Knows};
+ghost use Rattle.pads_machine.specs.Ran.{Advances, AsksNothing, GoesWithin, Halting, IsLiteralPart, StandsAsPart, labels_stand};
 ghost use Rattle.pads_machine.specs.Shown.{shown};
 ghost use Rattle.pads_steps.specs.Records.{subject_of};
 
+use crate::known::Known;
 use crate::state::State;
 use crate::step::Next;
 use pads_calc::{Base, Reading};
@@ -111,6 +113,7 @@ impl State {
         requires roomy { Roomy self.old.room self.old }
         requires held { Held self.old }
         ensures advance { IfOk result (λ next. Advances program.now.code.now program.now.entries.now (subject_of program.now.record) self.old.room next (shown self.old) (shown self.new)) }
+        ensures asks { IfOk result (λ next. AsksNothing next) }
         ensures placed { OnOk result (Placed (length program.now.record.bytes.now) self.new) }
         ensures held { OnOk result (Held self.new) }
         ensures roomy { Roomy self.old.room self.new }
@@ -140,6 +143,7 @@ impl State {
         requires roomy { Roomy self.old.room self.old }
         requires held { Held self.old }
         ensures advance { IfOk result (λ next. Advances program.now.code.now program.now.entries.now (subject_of program.now.record) self.old.room next (shown self.old) (shown self.new)) }
+        ensures asks { IfOk result (λ next. AsksNothing next) }
         ensures placed { OnOk result (Placed (length program.now.record.bytes.now) self.new) }
         ensures held { OnOk result (Held self.new) }
         ensures roomy { Roomy self.old.room self.new }
@@ -161,6 +165,7 @@ impl State {
         requires roomy { Roomy self.old.room self.old }
         requires held { Held self.old }
         ensures advance { IfOk result (λ next. Advances program.now.code.now program.now.entries.now (subject_of program.now.record) self.old.room next (shown self.old) (shown self.new)) }
+        ensures asks { IfOk result (λ next. AsksNothing next) }
         ensures placed { OnOk result (Placed (length program.now.record.bytes.now) self.new) }
         ensures held { OnOk result (Held self.new) }
         ensures roomy { Roomy self.old.room self.new }
@@ -169,11 +174,112 @@ impl State {
         Ok(next)
     }
 
-    /// One instruction, or several at once.
+    /// A call, or what it needn't be read for: a branch is left that can't be clean by it. It asks what the call
+    /// reads as, where that isn't known and may be read again and again.
+    fn advance_call(
+        &mut self,
+        alloc: Global,
+        program: &Program,
+        known: &Known,
+        asking: bool,
+        op: &Op,
+        number: u16,
+        args: &[Expr],
+    ) -> Result<Next, Memory>
+        requires short { length program.now.code.now < 2 ^ 32 }
+        requires there { slice_get program.now.code.now self.old.address ≡ Some op.now }
+        requires call { op.now ≡ instruction.Call number args.now }
+        requires labels { labels_stand op.now ≡ true }
+        requires address { self.old.address < 2 ^ 32 }
+        requires placed { Placed (length program.now.record.bytes.now) self.old }
+        requires within { GoesWithin self.old.room (does program.now.entries.now (subject_of program.now.record) op.now (shown self.old)) }
+        requires roomy { Roomy self.old.room self.old }
+        requires held { Held self.old }
+        requires code { (decls : List Decl) × IsCodeOf decls program.now.code.now program.now.entries.now }
+        requires halts { (steps : ℕ) × Halting program.now.code.now program.now.entries.now (subject_of program.now.record) self.old.room steps (shown self.old) }
+        requires knows { Knows program.now.code.now program.now.entries.now (subject_of program.now.record) known.now }
+        ensures advance { IfOk result (λ next. Advances program.now.code.now program.now.entries.now (subject_of program.now.record) self.old.room next (shown self.old) (shown self.new)) }
+        ensures asking { IfOk result (λ next. asking ≡ false → AsksNothing next) }
+        ensures placed { OnOk result (Placed (length program.now.record.bytes.now) self.new) }
+        ensures held { OnOk result (Held self.new) }
+        ensures roomy { Roomy self.old.room self.new }
+    {
+        if self.marks.len() == 0 {
+            return self.one(alloc, program, op);
+        }
+        if self.is_hopeless(alloc, program, number) {
+            self.pass_branch(alloc, program, number);
+            return Ok(Next::Goes);
+        }
+        if let Some(call) = self.branch_call(program, known, number, args) {
+            match known.outcome(call) {
+                Some(outcome) if !outcome.clean => {
+                    self.pass_call(alloc, program, call, outcome);
+                    return Ok(Next::Goes);
+                }
+                None if asking => return Ok(Next::Asks(call)),
+                _ => {}
+            }
+        }
+        if let Some(names) = self.doomed_names(program) {
+            self.pass_struct(alloc, program, names);
+            return Ok(Next::Goes);
+        }
+        self.one(alloc, program, op)
+    }
+
+    /// The beginning of a turn, or of a turn that is sure to be undone all of it. It asks what the element's call
+    /// reads as, where that isn't known and may be read again and again.
+    fn advance_turn(
+        &mut self,
+        alloc: Global,
+        program: &Program,
+        known: &Known,
+        asking: bool,
+        op: &Op,
+    ) -> Result<Next, Memory>
+        requires short { length program.now.code.now < 2 ^ 32 }
+        requires there { slice_get program.now.code.now self.old.address ≡ Some op.now }
+        requires turn { (first : ℕ) × (op.now ≡ instruction.Turn first) }
+        requires labels { labels_stand op.now ≡ true }
+        requires address { self.old.address < 2 ^ 32 }
+        requires placed { Placed (length program.now.record.bytes.now) self.old }
+        requires within { GoesWithin self.old.room (does program.now.entries.now (subject_of program.now.record) op.now (shown self.old)) }
+        requires roomy { Roomy self.old.room self.old }
+        requires held { Held self.old }
+        requires code { (decls : List Decl) × IsCodeOf decls program.now.code.now program.now.entries.now }
+        requires halts { (steps : ℕ) × Halting program.now.code.now program.now.entries.now (subject_of program.now.record) self.old.room steps (shown self.old) }
+        requires knows { Knows program.now.code.now program.now.entries.now (subject_of program.now.record) known.now }
+        ensures advance { IfOk result (λ next. Advances program.now.code.now program.now.entries.now (subject_of program.now.record) self.old.room next (shown self.old) (shown self.new)) }
+        ensures asking { IfOk result (λ next. asking ≡ false → AsksNothing next) }
+        ensures placed { OnOk result (Placed (length program.now.record.bytes.now) self.new) }
+        ensures held { OnOk result (Held self.new) }
+        ensures roomy { Roomy self.old.room self.new }
+    {
+        if !self.is_standing() {
+            return self.one(alloc, program, op);
+        }
+        if let Some(end) = self.stalls_at(program) {
+            return self.pass_turn(alloc, program, end);
+        }
+        if let Some(call) = self.turn_call(program, known) {
+            if asking && known.outcome(call).is_none() {
+                return Ok(Next::Asks(call));
+            }
+            if let Some(end) = self.stalls_by(program, known, call) {
+                return self.pass_turn(alloc, program, end);
+            }
+        }
+        self.one(alloc, program, op)
+    }
+
+    /// One instruction, or several at once. Where it may ask, it may ask what a call reads as.
     pub(crate) fn advance(
         &mut self,
         alloc: Global,
         program: &Program,
+        known: &Known,
+        asking: bool,
         op: &Op,
     ) -> Result<Next, Memory>
         requires short { length program.now.code.now < 2 ^ 32 }
@@ -186,7 +292,9 @@ impl State {
         requires held { Held self.old }
         requires code { (decls : List Decl) × IsCodeOf decls program.now.code.now program.now.entries.now }
         requires halts { (steps : ℕ) × Halting program.now.code.now program.now.entries.now (subject_of program.now.record) self.old.room steps (shown self.old) }
+        requires knows { Knows program.now.code.now program.now.entries.now (subject_of program.now.record) known.now }
         ensures advance { IfOk result (λ next. Advances program.now.code.now program.now.entries.now (subject_of program.now.record) self.old.room next (shown self.old) (shown self.new)) }
+        ensures asking { IfOk result (λ next. asking ≡ false → AsksNothing next) }
         ensures placed { OnOk result (Placed (length program.now.record.bytes.now) self.new) }
         ensures held { OnOk result (Held self.new) }
         ensures roomy { Roomy self.old.room self.new }
@@ -202,15 +310,16 @@ impl State {
                     return self.pass_base(alloc, program, base, args.as_slice(), name);
                 }
             }
-            Op::Call(number, _) => {
-                if self.is_hopeless(alloc, program, *number) {
-                    self.pass_branch(alloc, program, *number);
-                    return Ok(Next::Goes);
-                }
-                if let Some(names) = self.doomed_names(program) {
-                    self.pass_struct(alloc, program, names);
-                    return Ok(Next::Goes);
-                }
+            Op::Call(number, args) => {
+                return self.advance_call(
+                    alloc,
+                    program,
+                    known,
+                    asking,
+                    op,
+                    *number,
+                    args.as_slice(),
+                );
             }
             Op::Full(None, _, _) => {
                 if let Some(edge) = self.more_at(program) {
@@ -220,13 +329,7 @@ impl State {
                     }
                 }
             }
-            Op::Turn(_) => {
-                if self.is_standing() {
-                    if let Some(end) = self.stalls_at(program) {
-                        return self.pass_turn(alloc, program, end);
-                    }
-                }
-            }
+            Op::Turn(_) => return self.advance_turn(alloc, program, known, asking, op),
             _ => {}
         }
         self.one(alloc, program, op)

@@ -1,18 +1,22 @@
 //! Turns that are sure to be undone: the array has an element, and the next one is a call that takes no byte.
-ghost use Rattle.std.specs.Prelude.{◌≡◌, ℕ, ◌+◌, ◌<◌, ◌≤◌, ◌^◌, IfOk, IfSome, IsTrue, List, OnOk, Some, length, reverse, slice_get};
+ghost use Rattle.std.specs.Prelude.{◌≡◌, ℕ, [], ◌+◌, ◌<◌, ◌≤◌, ◌^◌, IfOk, IfSome, IsTrue, List, OnOk, Some, length, reverse, slice_get};
 ghost use Rattle.pads_expr.specs.declared.expr.Expr.{Expr};
 ghost use Rattle.pads_expr.specs.Seen.{seen as seen_worth};
 ghost use Rattle.pads_dispatch.specs.declared.base.Arg.{Arg};
+ghost use Rattle.pads_calc.specs.declared.decl.Decl.{Decl};
 ghost use Rattle.pads_calc.specs.Arguments.{arg_of_worth, argument};
+ghost use Rattle.pads_image.specs.Code.{IsCodeOf};
 ghost use Rattle.pads_image.specs.States.{seen};
 ghost use Rattle.pads_image.specs.declared.op.Op.TheVariants as instruction;
 ghost use Rattle.pads_idle.specs.Idle.{HasValues, IdlesTo};
 ghost use Rattle.pads_machine.specs.Held.{Held, Placed, Roomy};
-ghost use Rattle.pads_machine.specs.Ran.{Advances, Halting};
+ghost use Rattle.pads_machine.specs.Ran.{Advances, AsksNothing, Halting};
 ghost use Rattle.pads_machine.specs.Shown.{shown};
-ghost use Rattle.pads_machine.specs.Stalled.{IsStalled, IsStanding};
+ghost use Rattle.pads_machine.specs.Known.{Knows};
+ghost use Rattle.pads_machine.specs.Stalled.{IsNext, IsStalled, IsStanding};
 ghost use Rattle.pads_steps.specs.Records.{subject_of};
 
+use crate::known::{Call, Known};
 use crate::state::State;
 use crate::step::Next;
 use pads_expr::{Binding, Expr, Res, eval_in};
@@ -27,6 +31,19 @@ fn end_at(code: &[Op], address: usize) -> Option<u32>
 {
     match at(code, address) {
         Some(Op::Elem(end, _)) => Some(*end),
+        _ => None,
+    }
+}
+
+/// The declaration that is called at an address without arguments.
+fn bare_call_at(code: &[Op], address: usize) -> Option<u16>
+    ensures call { IfSome result (λ number. slice_get code.now address ≡ Some (instruction.Call number [])) }
+{
+    match at(code, address) {
+        Some(Op::Call(number, args)) => match args.as_slice() {
+            [] => Some(*number),
+            _ => None,
+        },
         _ => None,
     }
 }
@@ -170,6 +187,46 @@ impl State {
         Some(end)
     }
 
+    /// The call without arguments behind the turn that begins here, if such a call is open that begins at the same
+    /// place, or there was one before.
+    pub(crate) fn turn_call(&self, program: &Program, known: &Known) -> Option<Call>
+        requires address { self.now.address < 2 ^ 32 }
+        ensures next { IfSome result (λ call. IsNext program.now.code.now call self.now) }
+    {
+        if self.depth == 0 || self.bindings.len() < self.base() {
+            return None;
+        }
+        let number = bare_call_at(program.code, self.address + 1)?;
+        if !known.is_used() && !self.is_open_here(number) {
+            return None;
+        }
+        Some(Call {
+            number,
+            depth: self.depth,
+            place: self.last.place,
+        })
+    }
+
+    /// The address where the latest array ends, if the call behind the turn that begins here is known to take no
+    /// byte and not to fail.
+    pub(crate) fn stalls_by(&self, program: &Program, known: &Known, call: Call) -> Option<u32>
+        requires standing { IsStanding self.now }
+        requires address { self.now.address < 2 ^ 32 }
+        requires next { IsNext program.now.code.now call self.now }
+        requires knows { Knows program.now.code.now program.now.entries.now (subject_of program.now.record) known.now }
+        ensures stalled { IfSome result (λ to. IsStalled program.now.code.now program.now.entries.now (subject_of program.now.record) to self.now) }
+    {
+        let outcome = known.outcome(call)?;
+        if outcome.failed || outcome.place != call.place {
+            return None;
+        }
+        let end = end_at(program.code, self.address + 2)?;
+        if !shuts(program.code, end as usize) {
+            return None;
+        }
+        Some(end)
+    }
+
     /// Ends the latest array, over the steps that would begin a turn, read its element and undo it.
     #[cold]
     #[inline(never)]
@@ -179,6 +236,7 @@ impl State {
         program: &Program,
         to: u32,
     ) -> Result<Next, Memory>
+        requires code { (decls : List Decl) × IsCodeOf decls program.now.code.now program.now.entries.now }
         requires there { (first : ℕ) × (slice_get program.now.code.now self.old.address ≡ Some (instruction.Turn first)) }
         requires stalled { IsStalled program.now.code.now program.now.entries.now (subject_of program.now.record) to self.old }
         requires halts { (steps : ℕ) × Halting program.now.code.now program.now.entries.now (subject_of program.now.record) self.old.room steps (shown self.old) }
@@ -186,6 +244,7 @@ impl State {
         requires roomy { Roomy self.old.room self.old }
         requires held { Held self.old }
         ensures advance { IfOk result (λ next. Advances program.now.code.now program.now.entries.now (subject_of program.now.record) self.old.room next (shown self.old) (shown self.new)) }
+        ensures asks { IfOk result (λ next. AsksNothing next) }
         ensures placed { OnOk result (Placed (length program.now.record.bytes.now) self.new) }
         ensures held { OnOk result (Held self.new) }
         ensures roomy { Roomy self.old.room self.new }

@@ -73,17 +73,25 @@ impl State {
         })
     }
 
-    /// Stands at an address, at a record's first byte.
-    pub(crate) fn start(&mut self, alloc: Global, origin: u64, address: usize, depth: u8)
+    /// Stands at an address, at a place of a record, where calls may be nested so deep.
+    pub(crate) fn start(
+        &mut self,
+        alloc: Global,
+        origin: u64,
+        address: usize,
+        depth: u8,
+        place: u64,
+    )
         requires origin { origin ≤ 2 ^ 62 }
+        requires place { place ≤ 2 ^ 62 }
         requires roomy { Roomy self.old.room self.old }
-        ensures placed { (most : ℕ) → Placed most self.new }
-        ensures start { shown self.new ≡ record { at_ = address; last = unit_of origin 0; depth = depth; bindings = []; nodes = []; marks = []; callers = [] } }
+        ensures placed { (most : ℕ) → place ≤ most → Placed most self.new }
+        ensures start { shown self.new ≡ record { at_ = address; last = unit_of origin place; depth = depth; bindings = []; nodes = []; marks = []; callers = [] } }
         ensures held { Held self.new }
         ensures roomy { Roomy self.old.room self.new }
     {
         self.address = address;
-        self.last = Reading::leaf(alloc, origin, Val::Unit, 0, 0);
+        self.last = Reading::leaf(alloc, origin, Val::Unit, place, place);
         self.depth = depth;
         self.bindings.clear();
         self.homes.clear();
@@ -302,7 +310,7 @@ impl State {
     }
 
     /// Begins a call of a declaration.
-    pub(crate) fn enter(&mut self, entry: &Entry, args: Args)
+    pub(crate) fn enter(&mut self, number: u16, entry: &Entry, args: Args)
         requires address { self.old.address < 2 ^ 32 }
         requires depth { 0 < self.old.depth }
         requires within { entries (entered entry.now args (self.old.depth - 1) (shown self.old)) ≤ self.old.room }
@@ -317,6 +325,8 @@ impl State {
         let caller = Caller {
             back: self.address + 1,
             base: self.bindings.len(),
+            number,
+            place: self.last.place,
         };
         bind(
             &mut self.bindings,

@@ -17,9 +17,12 @@ ghost use Rattle.pads_image.specs.Code.{IsCodeOf};
 ghost use Rattle.pads_image.specs.States.{seen};
 ghost use Rattle.pads_image.specs.Steps.{Goes, call_step, does, reads, return_step};
 ghost use Rattle.pads_machine.specs.Held.{Held, Placed, Roomy};
+ghost use Rattle.pads_machine.specs.Known.{AreCounted};
 ghost use Rattle.pads_machine.specs.Ran.{GoesWithin, Halting, StaysPlaced, Tells, is_leaf, is_of_array, labels_stand};
 ghost use Rattle.pads_machine.specs.Shown.{shown};
 
+use crate::known::{Call, Known};
+use crate::learning::learn;
 use crate::searches::Past;
 use crate::state::State;
 use pads_calc::{Base, ComputedForm, Reading};
@@ -37,6 +40,8 @@ pub(crate) enum Next {
     /// It goes on with a search, one byte further.
     Searches,
     Halts,
+    /// Nothing was done: it is to be known first what a call reads.
+    Asks(Call),
 }
 
 impl State {
@@ -193,7 +198,7 @@ impl State {
             self.fail(alloc, origin, Cause::BadParam);
             return Ok(());
         };
-        self.enter(entry, args);
+        self.enter(number, entry, args);
         Ok(())
     }
 
@@ -319,6 +324,7 @@ impl State {
     pub(crate) fn run(&mut self, alloc: Global, program: &Program) -> Result<(), Memory>
         ghost steps: { ℕ }
         requires short { length program.now.code.now < 2 ^ 32 }
+        requires counted { AreCounted program.now.code.now program.now.entries.now }
         requires labels { list_all labels_stand program.now.code.now ≡ true }
         requires placed { Placed (length program.now.record.bytes.now) self.old }
         requires halts { Halting program.now.code.now program.now.entries.now (subject_of program.now.record) self.old.room steps (shown self.old) }
@@ -330,11 +336,20 @@ impl State {
         ensures roomy { Roomy self.old.room self.new }
     {
         let mut past = Past::new(alloc);
+        let mut known = Known::new(alloc);
+        let mut spare = None;
+        let mut quiet: u64 = 0;
         'run: while let Some(op) = at(program.code, self.address) {
-            match self.advance(alloc, program, op)? {
-                Next::Goes => {}
-                Next::Searches => self.leap(alloc, program, &mut past),
+            match self.advance(alloc, program, &known, quiet == 0, op)? {
+                Next::Goes => quiet = quiet.saturating_sub(1),
+                Next::Searches => {
+                    self.leap(alloc, program, &mut past);
+                    quiet = quiet.saturating_sub(1);
+                }
                 Next::Halts => return Ok(()),
+                Next::Asks(call) => {
+                    quiet = learn(alloc, program, &mut spare, &mut known, call)?;
+                }
             }
         }
         unreachable!()

@@ -1,4 +1,4 @@
-use Rattle.std.proofs.Common.{◌≡◌, ◌∙◌, ap, arith, ◌≤◌, List, [], length, slice_get}
+use Rattle.std.proofs.Common.{◌≡◌, ◌∙◌, ap, arith, subst, sym, ◌≤◌, List, [], length, slice_get}
 use Rattle.std.specs.List.{list_all}
 use Rattle.pads_value.specs.Cuts.{cut_of_frame}
 use Rattle.pads_calc.specs.Leaves.{unit_of}
@@ -8,9 +8,10 @@ use Rattle.pads_image.specs.declared.op.Op.{Op}
 use Rattle.pads_image.specs.Answers.{first_of, start}
 use Rattle.pads_image.specs.Heights.{inside}
 use Rattle.law_images.proofs.ToldDecls.{decls-of}
+use Rattle.pads_machine.specs.Known.{AreCounted}
 use Rattle.pads_machine.specs.Ran.{labels_stand}
 use Rattle.pads_machine.specs.Shown.{shown}
-use Rattle.pads_machine.proofs.Answered.{code-short, labels-there}
+use Rattle.pads_machine.proofs.Answered.{are-counted, code-short, labels-there}
 use Rattle.pads_machine.proofs.Halts.{halting-there, halts-there}
 use Rattle.pads_machine.proofs.Shows.{own-room}
 use Rattle.pads_machine.proofs.machine.read_body.Goals as goal
@@ -30,19 +31,25 @@ run-requires g c =
     let halts =
     halting-there image.code c.as_slice-2.result.now image.entries c.as_slice-3.result.now subject image.need state.room g.steps (start image.entries subject number) (shown state)
     c.as_slice-2.ensures.items c.as_slice-3.ensures.items starts less c.requires.1.1 in
+    let counted : AreCounted c.as_slice-2.result.now c.as_slice-3.result.now =
+    subst (λ (code : List Op). AreCounted code c.as_slice-3.result.now) (sym c.as_slice-2.ensures.items)
+    (subst (λ (es : List Entry). AreCounted image.code es) (sym c.as_slice-3.ensures.items) (are-counted image.code image.entries image.shape image.valid)) in
     let declared = decls-of image.code image.entries image.shape image.valid in (
       omega (arith, code-short image.code image.entries image.shape image.valid, ap length c.as_slice-2.ensures.items),
       (
-        ap (λ (code : List Op). list_all labels_stand code) c.as_slice-2.ensures.items ∙ labels-there image.code image.entries image.shape image.valid,
+        counted,
         (
-          c.start.ensures.placed (length c.args.frame.now.bytes.now),
+          ap (λ (code : List Op). list_all labels_stand code) c.as_slice-2.ensures.items ∙ labels-there image.code image.entries image.shape image.valid,
           (
-            halts,
+            c.start.ensures.placed (length c.args.frame.now.bytes.now) (omega arith),
             (
-              own-room c.args.state.now.room state c.start.ensures.roomy,
+              halts,
               (
-                c.start.ensures.held,
-                (declared.0, record { code_is = c.as_slice-2.ensures.items ∙ declared.1.code_is; entries_are = c.as_slice-3.ensures.items ∙ declared.1.entries_are }),
+                own-room c.args.state.now.room state c.start.ensures.roomy,
+                (
+                  c.start.ensures.held,
+                  (declared.0, record { code_is = c.as_slice-2.ensures.items ∙ declared.1.code_is; entries_are = c.as_slice-3.ensures.items ∙ declared.1.entries_are }),
+                ),
               ),
             ),
           ),

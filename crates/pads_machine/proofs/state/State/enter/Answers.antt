@@ -47,7 +47,7 @@ returns-clause-enter c =
     let bs' = reverse c.bind.new.bindings.items in
     let hs' = reverse c.bind.new.homes.items in
     let cs' = reverse c.push_reserved.new.self.items in
-    let k : Caller = record { back = m.address + 1; base = c.len.result } in
+    let k : Caller = record { back = m.address + 1; base = c.len.result; number = c.args.number; place = m.last.place } in
     let each : length hs ≡ length bs = omega (arith, length-reverse m.homes.items, length-reverse m.bindings.items, c.requires.held.each_home) in
     let base : c.len.result ≡ length bs = omega (arith, c.len.ensures, length-reverse m.bindings.items, m.bindings.ok.0) in
     let bs_are : bs' ≡ bound_to entry.params args bs = c.bind.ensures.bindings ∙ ap (λ (params : List ℕ). bound_to params args bs) c.as_slice.ensures.items in
@@ -66,7 +66,7 @@ returns-clause-held c =
     let cs = reverse m.callers.items in
     let bs' = reverse c.bind.new.bindings.items in
     let hs' = reverse c.bind.new.homes.items in
-    let k : Caller = record { back = m.address + 1; base = c.len.result } in
+    let k : Caller = record { back = m.address + 1; base = c.len.result; number = c.args.number; place = m.last.place } in
     let each : length hs ≡ length bs = omega (arith, length-reverse m.homes.items, length-reverse m.bindings.items, c.requires.held.each_home) in
     let bs_are : bs' ≡ bound_to entry.params args bs = c.bind.ensures.bindings ∙ ap (λ (params : List ℕ). bound_to params args bs) c.as_slice.ensures.items in
     let hs_are : hs' ≡ homeless entry.params args hs = c.bind.ensures.homes ∙ ap (λ (params : List ℕ). homeless params args hs) c.as_slice.ensures.items in

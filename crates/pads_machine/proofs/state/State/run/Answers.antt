@@ -1,5 +1,6 @@
-use Rattle.std.proofs.Common.{◌≡◌, ◌∙◌, sym, subst, arith, Some, None, slice_get}
-use Rattle.pads_image.specs.Answers.{Reaches}
+use Rattle.std.proofs.Common.{◌≡◌, ◌∙◌, sym, ap, subst, arith, Some, None, slice_get}
+use Rattle.pads_image.specs.Answers.{HaltsWith, Reaches}
+use Rattle.pads_image.specs.States.{State}
 use Rattle.pads_image.specs.Steps.{Step, does}
 use Rattle.law_images.proofs.ReadBack.{all-there}
 use Rattle.law_images.proofs.Reaching.{join}
@@ -8,13 +9,27 @@ use Rattle.pads_machine.specs.declared.step.Next.{Next}
 use Rattle.pads_machine.specs.Held.{Roomy}
 use Rattle.pads_machine.specs.Ran.{Advances, GoesWithin, Halting, Leads, labels_stand}
 use Rattle.pads_machine.specs.Shown.{shown}
-use Rattle.pads_machine.proofs.Halts.{address-there, at-op, counted-there, fewer-left, fits-here, goes-within, halted, moved-there, never-past, some-below}
+use Rattle.std.specs.Bool.{◌==◌}
+use Rattle.pads_machine.proofs.Halts.{address-there, at-op, counted-there, fewer-asking, fewer-left, fits-here, goes-within, halted, moved-there, never-past, quiet-then, some-below, steps_left}
+use Rattle.pads_machine.proofs.Passing.{asked}
 use Rattle.pads_machine.proofs.state.State.run.Goals as goal
+
+pub run-init : goal.run-init
+run-init g c = record {
+  placed = c.requires.1.1.1.0;
+  counted = c.requires.1.1.1.1.0;
+  halts = λ r from. from;
+  held = c.requires.1.1.1.1.1.1.0;
+  roomy = c.requires.1.1.1.1.1.0;
+  remembered = c.new-past.ensures.remembered _ _;
+  knows = c.new-known.ensures.knows _ _ _;
+  spare = λ spare is. let never = is in absurd cc;
+}
 
 pub advance-requires-clause-labels : goal.advance-requires-clause-labels
 advance-requires-clause-labels g c =
     let there : slice_get c.args.program.now.code.now c.run.self.address ≡ Some c.in-Some.op.now = sym c.in-Some.ensures.op in
-    all-there labels_stand c.args.program.now.code.now c.run.self.address c.in-Some.op.now c.requires.1.0 there
+    all-there labels_stand c.args.program.now.code.now c.run.self.address c.in-Some.op.now c.requires.1.1.0 there
 
 pub advance-requires-clause-address : goal.advance-requires-clause-address
 advance-requires-clause-address g c =
@@ -97,7 +112,7 @@ run-smaller-in-Goes g c =
     let counted = c.run.invariant.counted in
     let told = subst (λ (n : Next). Advances code entries subject c.run.self.room n s t) c.in-Goes.is c.in_ok-advance.ensures.advance in
     let led = subst (λ room. Leads code entries subject room s t) c.run.invariant.roomy.room_is told in
-    fewer-left code entries subject room g.steps s led.next_ t led.goes led.more counted
+    fewer-asking _ _ _ _ (fewer-left code entries subject room g.steps s led.next_ t led.goes led.more counted)
 
 pub run-preserved-in-Goes : goal.run-preserved-in-Goes
 run-preserved-in-Goes g c =
@@ -117,10 +132,12 @@ run-preserved-in-Goes g c =
       held = c.in_ok-advance.ensures.held;
       roomy = subst (λ room. Roomy room c.advance.new.self) c.run.invariant.roomy.room_is c.advance.ensures.roomy;
       remembered = c.run.invariant.remembered;
+      knows = c.run.invariant.knows;
+      spare = c.run.invariant.spare;
     }
 
-pub run-smaller : goal.run-smaller
-run-smaller g c =
+pub run-smaller-in-Searches : goal.run-smaller-in-Searches
+run-smaller-in-Searches g c =
     let code = c.args.program.now.code.now in
     let entries = c.args.program.now.entries.now in
     let subject = subject_of c.args.program.now.record in
@@ -133,10 +150,10 @@ run-smaller g c =
     let u = shown c.leap.new.self in
     let leapt = subst (λ room. Reaches code entries subject room t u) (c.advance.ensures.roomy.room_is ∙ c.run.invariant.roomy.room_is) c.leap.ensures.leap in
     let more = join code entries subject room led.next_ t u led.more leapt in
-    fewer-left code entries subject room g.steps s led.next_ u led.goes more counted
+    fewer-asking _ _ _ _ (fewer-left code entries subject room g.steps s led.next_ u led.goes more counted)
 
-pub run-preserved : goal.run-preserved
-run-preserved g c =
+pub run-preserved-in-Searches : goal.run-preserved-in-Searches
+run-preserved-in-Searches g c =
     let code = c.args.program.now.code.now in
     let entries = c.args.program.now.entries.now in
     let subject = subject_of c.args.program.now.record in
@@ -156,6 +173,40 @@ run-preserved g c =
       held = c.leap.ensures.held;
       roomy = subst (λ room. Roomy room c.leap.new.self) (c.advance.ensures.roomy.room_is ∙ c.run.invariant.roomy.room_is) c.leap.ensures.roomy;
       remembered = c.leap.ensures.remembered;
+      knows = c.run.invariant.knows;
+      spare = c.run.invariant.spare;
+    }
+
+pub run-smaller : goal.run-smaller
+run-smaller g c =
+    let code = c.args.program.now.code.now in
+    let entries = c.args.program.now.entries.now in
+    let subject = subject_of c.args.program.now.record in
+    let room = c.args.self.now.room in
+    let s = shown c.run.self in
+    let t = shown c.advance.new.self in
+    let same = subst (λ (n : Next). Advances code entries subject c.run.self.room n s t) c.in-Asks.is c.in_ok-advance.ensures.advance in
+    let left = ap (λ (s : State). steps_left code entries subject room g.steps s) same in
+    omega (arith, left, asked (c.run.quiet == 0) _ c.in-Asks.call c.in-Asks.is c.in_ok-advance.ensures.asking, quiet-then _ c.in_ok-quiet-in-Asks.ensures.quiet)
+
+pub run-preserved : goal.run-preserved
+run-preserved g c =
+    let code = c.args.program.now.code.now in
+    let entries = c.args.program.now.entries.now in
+    let subject = subject_of c.args.program.now.record in
+    let room = c.args.self.now.room in
+    let s = shown c.run.self in
+    let t = shown c.advance.new.self in
+    let same : t ≡ s = subst (λ (n : Next). Advances code entries subject c.run.self.room n s t) c.in-Asks.is c.in_ok-advance.ensures.advance in
+    record {
+      placed = c.in_ok-advance.ensures.placed;
+      counted = subst (λ (s : State). Halting code entries subject room g.steps s) (sym same) c.run.invariant.counted;
+      halts = λ r from. subst (λ (s : State). HaltsWith code entries subject room s r) (sym same) (c.run.invariant.halts r from);
+      held = c.in_ok-advance.ensures.held;
+      roomy = subst (λ room. Roomy room c.advance.new.self) c.run.invariant.roomy.room_is c.advance.ensures.roomy;
+      remembered = c.run.invariant.remembered;
+      knows = c.in_ok-quiet-in-Asks.ensures.knows;
+      spare = c.in_ok-quiet-in-Asks.ensures.spare;
     }
 
 pub unreachable-requires : goal.unreachable-requires

@@ -4,7 +4,7 @@ use Rattle.pads_image.specs.Heights.{needs, needs_over}
 use Rattle.pads_image.specs.Validity.{arities_of, longest}
 use Rattle.pads_image.proofs.Bounded.{entries-few, needs-small}
 use Rattle.pads_image.proofs.Needs.{needs-next}
-use Rattle.pads_image.proofs.need.needs.Goals as goal
+use Rattle.pads_image.proofs.need.needs_inside.Goals as goal
 
 pub loop-depth-init : goal.loop-depth-init
 unfolding needs
