@@ -1,4 +1,4 @@
-ghost use Rattle.std.specs.Prelude.{◌≡◌, IfOk};
+ghost use Rattle.std.specs.Prelude.{◌≡◌, ◌↔◌, IfOk, IsTrue};
 ghost use Rattle.pads_dispatch.specs.Labels.{labels_fit as labels_fit_of};
 
 use pads_bases::{Labels, Order, copy_labels};
@@ -69,8 +69,57 @@ pub enum Arg {
     Text(Bytes),
 }
 
+impl Arg {
+    /// Whether both are the same argument.
+    pub fn same(&self, other: &Arg) -> bool
+        ensures same { IsTrue result ↔ (self.now ≡ other.now) }
+    {
+        match (self, other) {
+            (Arg::Num(a), Arg::Num(b)) => *a == *b,
+            (Arg::Text(a), Arg::Text(b)) => a.as_slice() == b.as_slice(),
+            _ => false,
+        }
+    }
+
+    /// An argument equal to this one.
+    pub fn copy(&self, alloc: Global) -> Result<Arg, Memory>
+        ensures equal { IfOk result (λ copied. copied ≡ self.now) }
+    {
+        Ok(match self {
+            Arg::Num(number) => Arg::Num(*number),
+            Arg::Text(text) => Arg::Text(Items::from_slice(alloc, text.as_slice())?),
+        })
+    }
+}
+
 /// Arguments in their order.
 pub type Args = Items<Arg>;
+
+/// Whether both are the same arguments.
+pub fn same_args(a: &[Arg], b: &[Arg]) -> bool
+    ensures same { IsTrue result ↔ (a.now ≡ b.now) }
+{
+    if a.len() != b.len() {
+        return false;
+    }
+    for i in 0..a.len() {
+        if !a[i].same(&b[i]) {
+            return false;
+        }
+    }
+    true
+}
+
+/// Arguments equal to these.
+pub fn copy_args(alloc: Global, args: &[Arg]) -> Result<Args, Memory>
+    ensures equal { IfOk result (λ copied. copied ≡ args.now) }
+{
+    let mut copied = Items::new(alloc);
+    for arg in args {
+        copied.push(arg.copy(alloc)?)?;
+    }
+    Ok(copied)
+}
 
 /// The most labels of a base type: their numbers are of 16 bits.
 const MOST_LABELS: u64 = 65_535;

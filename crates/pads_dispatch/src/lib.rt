@@ -10,7 +10,7 @@ mod spell;
 #[cfg(test)]
 mod tests;
 
-pub use base::{Arg, Args, Base, labels_fit};
+pub use base::{Arg, Args, Base, copy_args, labels_fit, same_args};
 pub use laws::bases_read_what_they_spell;
 pub use read::read_base;
 pub use spell::spell_base;

@@ -34,7 +34,7 @@ fn of_one<T, X: Drop, F: Fn(usize, &[T]) -> X>(
 /// What a function gives of each piece of a list, in their order.
 ///
 /// The list is divided into at most `jobs` pieces that follow one another, and the function is called with each
-/// piece and the number of items before it. At most so many workers take the next piece each time they are free,
+/// piece and the number of items before it. At most `workers` workers take the next piece each time they are free,
 /// so that none waits for one that is held up. One worker does it in this thread, in one piece.
 pub fn in_pieces<R: Threads + Sync, T: Sync, X: Send + Drop, F: Fn(usize, &[T]) -> X + Sync>(
     rt: &R,
