@@ -1,6 +1,5 @@
 -- An expression that is well formed in a scope has no variable that isn't bound there.
-use Rattle.std.proofs.Common.{◌≡◌, ◌∙◌, sym, ap, refl, arith, ℕ, zero, suc, ◌+◌, ◌<◌, ◌≤◌, nat_lt, Bool, true, false, ◌&&◌, List, [], ◌∷◌, Option, None, Some}
-use Rattle.std.specs.List.{list_all}
+use Rattle.std.proofs.Common.{◌≡◌, ◌∙◌, sym, ap, refl, arith, ℕ, zero, suc, ◌+◌, ◌<◌, ◌≤◌, nat_lt, Bool, true, ◌&&◌, List, [], ◌∷◌, Option, None, Some}
 use Rattle.std.proofs.lemmas.Bool.{and_parts}
 use Rattle.pads_expr.specs.declared.expr.Expr.{Expr, Expr-F, fold_out-Expr, out-Expr, roll-Expr, roll-out-Expr, map-Expr, size-Expr, the_lemmas}
 use Rattle.pads_module.specs.Scopes.{InScope, expr_in_scope, exprs_in_scope, option_in_scope}

@@ -11,7 +11,7 @@ use Rattle.pads_calc.specs.declared.decl.Shape.{Shape}
 use Rattle.pads_calc.specs.declared.term.Term.{Term}
 use Rattle.pads_calc.specs.declared.reading.Reading.{Reading}
 use Rattle.pads_calc.specs.Arguments.{arguments, bound_to}
-use Rattle.pads_calc.specs.Calculus.{caller, read, meaning}
+use Rattle.pads_calc.specs.Calculus.{body_of, caller, read, meaning}
 use Rattle.pads_calc.specs.Readings.{Subject, fails}
 use Rattle.pads_calc.specs.Leaves.{unit_of}
 use Rattle.pads_calc.specs.Rows.{body_reading, deepest, kept_by, row_by, subject_of_cut, type_of}
@@ -19,6 +19,7 @@ use Rattle.pads_module.specs.Scopes.{arities_of, name_there, shape_there}
 use Rattle.pads_calc.proofs.Bindings.{bound-none}
 use Rattle.pads_calc.proofs.Calls.{caller-zero, call-unargued, call-undeclared, call-found}
 use Rattle.law_calculus.proofs.SoundTerms.{sound-meaning}
+use Rattle.pads_image.specs.declared.entry.Entry.{Entry}
 use Rattle.pads_image.specs.declared.op.Op.{Op}
 use Rattle.pads_image.specs.declared.op.Op.TheVariants as op
 use Rattle.pads_image.specs.Answers.{HaltsWith, StandsFor, first_of, start}
@@ -171,53 +172,87 @@ module _ (decls : List Decl) (subject : Subject) (most : ℕ) where
       (λ t. runs (code_of decls) (entries_of decls) subject most (deeper_at depth) depth (caller subject decls depth) (sound-meaning subject decls depth) (calls-run depth) t)
       (arguments args (seen s)) (slice_get decls number) p below h s ready refl refl
 
+  -- a declaration with arguments, at a place, where calls may be nested so deep in it
+  module _ (depth number place : ℕ) (args : List Arg) where
+    -- where its run begins
+    abbrev pub begun : Entry → State
+    begun entry = record { at_ = entry.first; last = unit_of subject.origin place; depth = depth; bindings = bound_to entry.params args []; nodes = []; marks = []; callers = [] }
+
+    -- what it reads
+    abbrev pub reads : Reading
+    reads = body_of subject.origin (read subject (caller subject decls depth)) (slice_get decls number) (Some args) place
+
+    module _ (within : place ≤ length subject.bytes) (fits : get_or (needs (code_of decls) (arities_of decls) depth) number 0 ≤ most) where
+      module _ (decl : Decl) (there : slice_get decls number ≡ Some decl) where
+        d : Declared (deeper_at depth) most decls 0 number decl
+        d = declared (deeper_at depth) most decls 0 number decl there
+
+        body-halts : HaltsWith (code_of decls) (entries_of decls) subject most (begun (entry_for decl d.first)) reads
+        body-halts =
+            let b = layout decl.body in
+            let own = bound_to decl.params args [] in
+            let t = begun (entry_for decl d.first) in
+            let q = d.first + b.size in
+            let u = stand t q (meaning subject decls depth decl.body (seen t) place) in
+            let over : own ≡ own ++ [] = bound-over decl.params args [] [] in
+            let sees : seen t ≡ own = seen-is t ∙ ap (λ (bs : Pairs). take (length bs - 0) bs) over ∙ take-over own [] in
+            let code_ = stands (deeper_at depth) most decls number decl d in
+            let ends : d.first + length (b.code d.first) ≡ q = ap (λ n. d.first + n) (sized decl.body d.first) in
+            let need : get_or (needs_of (deeper_at depth) most decls 0) number 0 ≡ get_or (needs (code_of decls) (arities_of decls) depth) number 0 = ap (λ found. get_or found number 0) (sym (needs-at depth)) in
+            let bounded = d.bounded 0 (omega (arith, fits, need)) in
+            let level = (levelled (deeper_at depth) most decl.body).level d.first (length decl.params) in
+            let final = below-right (deeper_at depth) most (b.code d.first) (op.Return ∷ []) 0 (length decl.params) (length decl.params) level bounded in
+            let counted : entries t ≤ 0 + length decl.params = omega (arith, bound-length decl.params args []) in
+            record {
+              end = u;
+              reached = runs (code_of decls) (entries_of decls) subject most (deeper_at depth) depth (caller subject decls depth) (sound-meaning subject decls depth) (calls-run depth) decl.body d.first 0 (length decl.params) t (record {
+                at_ = refl;
+                deep = refl;
+                sane = omega arith;
+                above = omega arith;
+                counted = counted;
+                within = within;
+                there = left-there (code_of decls) d.first (b.code d.first) (op.Return ∷ []) code_;
+                fits = below-left (deeper_at depth) most (b.code d.first) (op.Return ∷ []) 0 (length decl.params) bounded;
+              });
+              within = omega (arith, counted, final.0);
+              halts = ap (λ o. does_there (entries_of decls) subject o u)
+                  (first-there (code_of decls) q op.Return [] (right-there (code_of decls) d.first (b.code d.first) (op.Return ∷ []) q ends code_));
+              last = ap (λ env. meaning subject decls depth decl.body env place) sees
+                  ∙ ap (λ (decl : Option Decl). body_of subject.origin (read subject (caller subject decls depth)) decl (Some args) place) (sym there);
+            }
+
+      module _ (entry : Entry) (entry_is : slice_get (entries_of decls) number ≡ Some entry) where
+        by-decl : (decl : Option Decl) → slice_get decls number ≡ decl → HaltsWith (code_of decls) (entries_of decls) subject most (begun entry) reads
+        by-decl None there = let never : Some entry ≡ None = sym entry_is ∙ undeclared decls 0 number there in absurd cc
+        by-decl (Some decl) there =
+            let both : Some entry ≡ Some (entry_for decl (d decl there).first) = sym entry_is ∙ (d decl there).entry in
+            let same : entry ≡ entry_for decl (d decl there).first = cc in
+            subst (λ (entry : Entry). HaltsWith (code_of decls) (entries_of decls) subject most (begun entry) reads) (sym same) (body-halts decl there)
+
+        -- it halts with what it reads, and never needs more
+        pub declaration-halts : HaltsWith (code_of decls) (entries_of decls) subject most (begun entry) reads
+        declaration-halts = by-decl (slice_get decls number) refl
+
+  -- a call that may be made reads what its declaration does with what the arguments stand for
+  pub call-reads : (depth number place : ℕ) (es : List Expr) (env : Pairs) (args : List Arg) → arguments es env ≡ Some args
+      → caller subject decls (suc depth) number es env place ≡ reads depth number place args
+  unfolding caller
+  call-reads depth number place es env args argued =
+      ap (λ (found : Option (List Arg)). body_of subject.origin (read subject (caller subject decls depth)) (slice_get decls number) found place) argued
+
   -- the run of a record's type, at the record's first byte
   module _ (number : ℕ) (decl : Decl) (there : slice_get decls number ≡ Some decl) (fits : get_or (needs (code_of decls) (arities_of decls) inside) number 0 ≤ most) where
-    d : Declared (deeper_at inside) most decls 0 number decl
-    d = declared (deeper_at inside) most decls 0 number decl there
-
-    abbrev first_state : ℕ → State
-    first_state p = record { at_ = p; last = unit_of subject.origin 0; depth = inside; bindings = []; nodes = []; marks = []; callers = [] }
-
-    starts : start (entries_of decls) subject number ≡ first_state d.first
-    starts = ap (λ entry. first_state (first_of entry)) d.entry
-
-    reads-body : caller subject decls deepest number [] [] 0 ≡ meaning subject decls inside decl.body [] 0
-    reads-body =
-        call-found subject decls number [] [] 0 deepest [] decl (λ none. cc) refl there
-        ∙ ap (λ env. meaning subject decls inside decl.body env 0) (bound-none decl.params [])
-
     pub halts : HaltsWith (code_of decls) (entries_of decls) subject most (start (entries_of decls) subject number) (caller subject decls deepest number [] [] 0)
     halts =
-        let b = layout decl.body in
-        let t = first_state d.first in
-        let q = d.first + b.size in
-        let r = meaning subject decls inside decl.body (seen t) 0 in
-        let u = stand t q r in
-        let code_ = stands (deeper_at inside) most decls number decl d in
-        let ends : d.first + length (b.code d.first) ≡ q = ap (λ n. d.first + n) (sized decl.body d.first) in
-        let need : get_or (needs_of (deeper_at inside) most decls 0) number 0 ≡ get_or (needs (code_of decls) (arities_of decls) inside) number 0 = ap (λ found. get_or found number 0) (sym (needs-at inside)) in
-        let bounded = d.bounded 0 (omega (arith, fits, need)) in
-        let level = (levelled (deeper_at inside) most decl.body).level d.first (length decl.params) in
-        let final = below-right (deeper_at inside) most (b.code d.first) (op.Return ∷ []) 0 (length decl.params) (length decl.params) level bounded in
-        let P : State → Type 0 = λ s. HaltsWith (code_of decls) (entries_of decls) subject most s (caller subject decls deepest number [] [] 0) in
-        subst P (sym starts) (record {
-          end = u;
-          reached = runs (code_of decls) (entries_of decls) subject most (deeper_at inside) inside (caller subject decls inside) (sound-meaning subject decls inside) (calls-run inside) decl.body d.first 0 (length decl.params) t (record {
-            at_ = refl;
-            deep = refl;
-            sane = omega arith;
-            above = omega arith;
-            counted = omega arith;
-            within = omega arith;
-            there = left-there (code_of decls) d.first (b.code d.first) (op.Return ∷ []) code_;
-            fits = below-left (deeper_at inside) most (b.code d.first) (op.Return ∷ []) 0 (length decl.params) bounded;
-          });
-          within = omega (arith, final.0);
-          halts = ap (λ o. does_there (entries_of decls) subject o u)
-              (first-there (code_of decls) q op.Return [] (right-there (code_of decls) d.first (b.code d.first) (op.Return ∷ []) q ends code_));
-          last = ap (λ env. meaning subject decls inside decl.body env 0) (seen-is t) ∙ sym reads-body;
-        })
+        let entry = entry_for decl (declared (deeper_at inside) most decls 0 number decl there).first in
+        let entry_is : slice_get (entries_of decls) number ≡ Some entry = (declared (deeper_at inside) most decls 0 number decl there).entry in
+        let begins : ℕ → Pairs → State = λ p bindings. record { at_ = p; last = unit_of subject.origin 0; depth = inside; bindings = bindings; nodes = []; marks = []; callers = [] } in
+        let starts : start (entries_of decls) subject number ≡ begun inside number 0 [] entry =
+        ap (λ entry. begins (first_of entry) []) entry_is ∙ ap (λ bindings. begins entry.first bindings) (sym (bound-none entry.params [])) in
+        subst (λ (s : State). HaltsWith (code_of decls) (entries_of decls) subject most s (caller subject decls deepest number [] [] 0)) (sym starts)
+        (subst (λ (r : Reading). HaltsWith (code_of decls) (entries_of decls) subject most (begun inside number 0 [] entry) r) (sym (call-reads inside number 0 [] [] [] refl))
+        (declaration-halts inside number 0 [] (omega arith) fits entry entry_is))
 
 -- the type of a record is declared, and its need is in that of the image
 there-below : (decls : List Decl) (number : ℕ) → number < length decls → (decl : Decl) × (slice_get decls number ≡ Some decl)

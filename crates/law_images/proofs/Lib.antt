@@ -6,6 +6,7 @@ pub mod ArrayRuns
 pub mod ArrayStates
 pub mod ArrayTurns
 pub mod Begun
+pub mod Called
 pub mod Closed
 pub mod Declared
 pub mod Halting

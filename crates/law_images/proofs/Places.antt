@@ -1,5 +1,5 @@
 -- Where instructions stand in code.
-use Rattle.std.proofs.Common.{◌≡◌, ◌∙◌, sym, ap, refl, arith, ℕ, zero, suc, ◌+◌, List, [], ◌∷◌, ◌++◌, length, append_assoc, drop, Option, Some, None, slice_get, add-one}
+use Rattle.std.proofs.Common.{◌≡◌, ◌∙◌, sym, ap, arith, ℕ, zero, suc, ◌+◌, List, [], ◌∷◌, ◌++◌, length, append_assoc, drop, Some, slice_get, add-one}
 use Rattle.pads_image.specs.declared.op.Op.{Op}
 
 -- these instructions stand from an address on

@@ -1,39 +1,29 @@
--- A call without arguments: its run over stacks of its own halts with what the calculus reads it as, and where calls may be
--- nested less deep in it, it needs no more room.
-use Rattle.std.proofs.Common.{◌≡◌, ◌∙◌, sym, ap, refl, subst, arith, ℕ, zero, suc, ◌+◌, ◌-◌, ◌<◌, ◌≤◌, ⊎_elim, max, Bool, true, false, if◌then◌else◌, List, [], ◌∷◌, length, get_or, Option, Some, None, slice_get}
+-- A call: its run over stacks of its own halts with what the calculus reads it as, and where calls may be nested less deep
+-- in it, it needs no more room.
+use Rattle.std.proofs.Common.{◌≡◌, ◌∙◌, sym, ap, refl, arith, ℕ, zero, suc, ◌<◌, ◌≤◌, ⊎_elim, max, min, Bool, true, false, if◌then◌else◌, List, [], ◌∷◌, length, get_or, None, Some, slice_get}
 use Rattle.std.proofs.lemmas.Bool.{cases_lt}
+use Rattle.pads_expr.specs.declared.expr.Expr.{Expr}
+use Rattle.pads_expr.specs.Value.{Pairs}
 use Rattle.pads_calc.specs.declared.decl.Decl.{Decl}
-use Rattle.pads_calc.specs.declared.reading.Reading.{Reading}
-use Rattle.pads_calc.specs.Arguments.{bound_to}
-use Rattle.pads_calc.specs.Calculus.{caller, meaning}
-use Rattle.pads_calc.specs.Leaves.{unit_of}
+use Rattle.pads_calc.specs.Arguments.{arguments}
+use Rattle.pads_calc.specs.Calculus.{caller}
 use Rattle.pads_calc.specs.Readings.{Subject}
 use Rattle.pads_module.specs.Scopes.{arities_of}
-use Rattle.pads_calc.proofs.Bindings.{bound-none}
-use Rattle.pads_calc.proofs.Calls.{call-found}
-use Rattle.law_calculus.proofs.SoundTerms.{sound-meaning}
 use Rattle.pads_image.specs.declared.entry.Entry.{Entry}
 use Rattle.pads_image.specs.declared.op.Op.{Op}
 use Rattle.pads_image.specs.declared.op.Op.TheVariants as op
 use Rattle.pads_image.specs.Answers.{HaltsWith}
-use Rattle.pads_image.specs.Blocks.{layout}
 use Rattle.pads_image.specs.Code.{IsCodeOf, code_of, entries_of}
 use Rattle.pads_image.specs.Heights.{Deeper, call_needs, entries_at, height_after, inside, later_arities, needs, needs_from, needs_over, next_arity}
 use Rattle.pads_image.specs.Validity.{arities_of as arities_of_entries}
 use Rattle.pads_image.specs.Variables.{is_return}
-use Rattle.pads_image.specs.States.{State, seen}
-use Rattle.pads_image.specs.Steps.{does_there}
-use Rattle.pads_image.proofs.Lengths.{sized}
-use Rattle.law_images.proofs.Declared.{Declared, declared, entry_for, needs_of, stands, undeclared}
-use Rattle.law_images.proofs.Halting.{calls-run, deeper_at}
-use Rattle.law_images.proofs.LevelledTerms.{levelled}
-use Rattle.law_images.proofs.Levels.{below-left, below-right}
-use Rattle.law_images.proofs.Places.{first-there, left-there, right-there}
-use Rattle.law_images.proofs.Reaching.{seen-is}
-use Rattle.law_images.proofs.TermsRun.{runs}
+use Rattle.pads_image.specs.States.{State}
+use Rattle.law_images.proofs.Halting.{call-reads, declaration-halts}
 use Rattle.law_images.proofs.ValidCode.{arities-same}
 use Rattle.pads_machine.specs.declared.known.Call.{Call}
 use Rattle.pads_machine.specs.Known.{begun_at, reading_of}
+use Rattle.pads_machine.proofs.Bound.{bound-count}
+use Rattle.pads_machine.proofs.Fitting.{room-there}
 use Rattle.pads_machine.proofs.Halts.{halts-there}
 
 -- needs one call deeper that are no more than others
@@ -99,78 +89,13 @@ needs-less code arities depth (suc more) number less =
     omega (arith, ap (λ depth. get_or (needs code arities depth) number 0) same))
     (cases_lt depth (suc more))
 
-needs-at : (decls : List Decl) (subject : Subject) (most depth : ℕ) → needs (code_of decls) (arities_of decls) depth ≡ needs_of (deeper_at decls subject most depth) most decls 0
-unfolding needs
-needs-at decls subject most zero = refl
-needs-at decls subject most (suc depth) = refl
-
-module _ (decls : List Decl) (subject : Subject) (most depth number place : ℕ) (within : place ≤ length subject.bytes) (fits : get_or (needs (code_of decls) (arities_of decls) depth) number 0 ≤ most) where
-  abbrev deeper : Deeper
-  deeper = deeper_at decls subject most depth
-
-  abbrev called : Reading
-  called = caller subject decls (suc depth) number [] [] place
-
-  abbrev first_state : ℕ → State
-  first_state p = record { at_ = p; last = unit_of subject.origin place; depth = depth; bindings = []; nodes = []; marks = []; callers = [] }
-
-  abbrev With : State → Type 0
-  With s = HaltsWith (code_of decls) (entries_of decls) subject most s called
-
-  -- of a declaration
-  module _ (decl : Decl) (there : slice_get decls number ≡ Some decl) where
-    d : Declared deeper most decls 0 number decl
-    d = declared deeper most decls 0 number decl there
-
-    reads-body : called ≡ meaning subject decls depth decl.body [] place
-    reads-body =
-        let less : suc depth - 1 ≡ depth = omega arith in
-        call-found subject decls number [] [] place (suc depth) [] decl (λ none. cc) refl there
-        ∙ ap (λ k. meaning subject decls k decl.body (bound_to decl.params [] []) place) less
-        ∙ ap (λ env. meaning subject decls depth decl.body env place) (bound-none decl.params [])
-
-    body-halts : With (first_state d.first)
-    body-halts =
-        let b = layout decl.body in
-        let t = first_state d.first in
-        let q = d.first + b.size in
-        let r = meaning subject decls depth decl.body (seen t) place in
-        let u : State = record t { at_ = q; last = r } in
-        let code_ = stands deeper most decls number decl d in
-        let ends : d.first + length (b.code d.first) ≡ q = ap (λ n. d.first + n) (sized decl.body d.first) in
-        let need : get_or (needs_of deeper most decls 0) number 0 ≡ get_or (needs (code_of decls) (arities_of decls) depth) number 0 = ap (λ found. get_or found number 0) (sym (needs-at decls subject most depth)) in
-        let bounded = d.bounded 0 (omega (arith, fits, need)) in
-        let level = (levelled deeper most decl.body).level d.first (length decl.params) in
-        let final = below-right deeper most (b.code d.first) (op.Return ∷ []) 0 (length decl.params) (length decl.params) level bounded in
-        record {
-          end = u;
-          reached = runs (code_of decls) (entries_of decls) subject most deeper depth (caller subject decls depth) (sound-meaning subject decls depth) (calls-run decls subject most depth) decl.body d.first 0 (length decl.params) t (record {
-            at_ = refl;
-            deep = refl;
-            sane = omega arith;
-            above = omega arith;
-            counted = omega arith;
-            within = within;
-            there = left-there (code_of decls) d.first (b.code d.first) (op.Return ∷ []) code_;
-            fits = below-left deeper most (b.code d.first) (op.Return ∷ []) 0 (length decl.params) bounded;
-          });
-          within = omega (arith, final.0);
-          halts = ap (λ o. does_there (entries_of decls) subject o u)
-              (first-there (code_of decls) q op.Return [] (right-there (code_of decls) d.first (b.code d.first) (op.Return ∷ []) q ends code_));
-          last = ap (λ env. meaning subject decls depth decl.body env place) (seen-is t) ∙ sym reads-body;
-        }
-
-  module _ (entry : Entry) (entry_is : slice_get (entries_of decls) number ≡ Some entry) where
-    by-decl : (decl : Option Decl) → slice_get decls number ≡ decl → With (begun_at subject entry depth place)
-    by-decl None there = let never : Some entry ≡ None = sym entry_is ∙ undeclared decls 0 number there in absurd cc
-    by-decl (Some decl) there =
-        let both : Some entry ≡ Some (entry_for decl (d decl there).first) = sym entry_is ∙ (d decl there).entry in
-        let same : entry ≡ entry_for decl (d decl there).first = cc in
-        subst (λ (entry : Entry). With (begun_at subject entry depth place)) (sym same) (body-halts decl there)
-
-    -- the run of a call, over stacks with room for it
-    pub call-halts : HaltsWith (code_of decls) (entries_of decls) subject most (begun_at subject entry depth place) (caller subject decls (suc depth) number [] [] place)
-    call-halts = by-decl (slice_get decls number) refl
+-- a call reads as it says, whatever its arguments are written as
+pub call-is : (decls : List Decl) (subject : Subject) (call : Call) (args : List Expr) (env : Pairs) (depth place : ℕ) → depth ≡ suc call.depth → call.place ≡ place
+    → arguments args env ≡ Some call.args → caller subject decls depth call.number args env place ≡ reading_of decls subject call
+call-is decls subject call args env depth place deep there worth =
+    ap (λ (depth : ℕ). caller subject decls depth call.number args env place) deep
+    ∙ ap (λ (place : ℕ). caller subject decls (suc call.depth) call.number args env place) (sym there)
+    ∙ call-reads decls subject 0 call.depth call.number call.place args env call.args worth
 
 -- the code and the entries of the declarations
 module _ (code : List Op) (of_entries : List Entry) (subject : Subject) (decls : List Decl) (is : IsCodeOf decls code of_entries) where
@@ -184,14 +109,20 @@ module _ (code : List Op) (of_entries : List Entry) (subject : Subject) (decls :
       omega (arith, needs-less (code_of decls) (arities_of decls) depth inside number less, need, fits)
 
   -- a call runs over stacks with room for each declaration, and halts with what it reads as
-  pub runs-call : (room : ℕ) (call : Call) (entry : Entry) (s : State) → s ≡ begun_at subject entry (call.depth - 1) call.place → slice_get of_entries call.number ≡ Some entry
-      → 0 < call.depth → call.depth ≤ 128 → call.place ≤ length subject.bytes → get_or (needs code (arities_of_entries of_entries) inside) call.number 0 ≤ room
+  pub runs-call : (room : ℕ) (call : Call) (entry : Entry) (s : State) → s ≡ begun_at subject entry call → slice_get of_entries call.number ≡ Some entry
+      → call.depth ≤ inside → call.place ≤ length subject.bytes → get_or (needs code (arities_of_entries of_entries) inside) call.number 0 ≤ room
       → HaltsWith code of_entries subject room s (reading_of decls subject call)
-  runs-call room call entry s begun there some few within fits =
-      let depth = call.depth - 1 in
-      let deep : suc depth ≡ call.depth = omega (arith, some) in
-      let t = begun_at subject entry depth call.place in
+  runs-call room call entry s begun there few within fits =
+      let t = begun_at subject entry call in
       let entry_is : slice_get (entries_of decls) call.number ≡ Some entry = ap (λ (es : List Entry). slice_get es call.number) (sym is.entries_are) ∙ there in
-      let halts = call-halts decls subject room depth call.number call.place within (fits-less room call.number depth (omega (arith, few, some)) fits) entry entry_is in
-      subst (λ (k : ℕ). HaltsWith code of_entries subject room s (caller subject decls k call.number [] [] call.place)) deep
-      (halts-there (code_of decls) code (entries_of decls) of_entries subject room room t s (caller subject decls (suc depth) call.number [] [] call.place) is.code_is is.entries_are begun (omega arith) halts)
+      let halts = declaration-halts decls subject room call.depth call.number call.place call.args within (fits-less room call.number call.depth few fits) entry entry_is in
+      halts-there (code_of decls) code (entries_of decls) of_entries subject room room t s (reading_of decls subject call) is.code_is is.entries_are begun (omega arith) halts
+
+  -- its parameters have room there
+  pub params-fit : (room : ℕ) (call : Call) (entry : Entry) → slice_get of_entries call.number ≡ Some entry
+      → call.depth ≤ inside → call.place ≤ length subject.bytes → get_or (needs code (arities_of_entries of_entries) inside) call.number 0 ≤ room
+      → min (length entry.params) (length call.args) ≤ room
+  params-fit room call entry there few within fits =
+      let t = begun_at subject entry call in
+      let small = room-there code of_entries subject room t (reading_of decls subject call) (runs-call room call entry t refl there few within fits) in
+      omega (arith, small, bound-count entry.params call.args [])

@@ -1,6 +1,6 @@
 -- Between two elements of an array: the steps that look for its terminator and for the end of the record, begin a turn
 -- and read its separator lead to the next element.
-use Rattle.std.proofs.Common.{◌≡◌, ◌∙◌, sym, ap, refl, subst, arith, ℕ, zero, suc, ◌+◌, ◌≤◌, ⊎_elim, Bool, true, false, if◌then◌else◌, nat_eq, eq-eqb, List, ◌∷◌, drop, length, Some, None, slice_get}
+use Rattle.std.proofs.Common.{◌≡◌, ◌∙◌, sym, ap, refl, subst, arith, ℕ, zero, ◌+◌, ◌≤◌, ⊎_elim, Bool, true, false, if◌then◌else◌, nat_eq, eq-eqb, List, ◌∷◌, drop, length, Some, None, slice_get}
 use Rattle.std.specs.List.{starts_with}
 use Rattle.pads_value.specs.declared.cause.Cause.TheVariants as cause
 use Rattle.pads_value.specs.declared.value.Val.TheVariants as val
@@ -20,14 +20,10 @@ use Rattle.pads_machine.specs.Between.{IsEdge, IsMissed, IsSeparated, IsSeparato
 use Rattle.pads_machine.specs.Ran.{GoesWithin, Leads}
 use Rattle.pads_machine.proofs.Endings.{full-alone}
 use Rattle.pads_machine.proofs.Halts.{at-op, goes-within, moved}
-use Rattle.pads_idle.proofs.Walking.{To, Walks, along, by, join, once}
-use Rattle.pads_machine.proofs.Undone.{fitting, room-there}
+use Rattle.pads_idle.proofs.Walking.{To, along, by, join, once}
+use Rattle.pads_machine.proofs.Fitting.{fitting, halts-behind, room-there}
 
 module _ (code : List Op) (of_entries : List Entry) (subject : Subject) (most : ℕ) where
-  halts-behind : (n : ℕ) (s u : State) (r : Reading) → Walks code of_entries subject n s u → HaltsWith code of_entries subject most s r → HaltsWith code of_entries subject most u r
-  halts-behind zero s u r walk h = subst (λ (x : State). HaltsWith code of_entries subject most x r) walk h
-  halts-behind (suc n) s u r walk h = halts-behind n walk.0 u r walk.2 (moved code of_entries subject most s walk.0 r walk.1 h)
-
   -- what is missing reads as something that isn't clean
   record Misses (instruction : Op) (t : State) : Type 0 where
     missed : Reading
@@ -195,7 +191,7 @@ module _ (code : List Op) (of_entries : List Entry) (subject : Subject) (most : 
     -- a mark has room
     pub separator-room : length s.marks + 1 ≤ most
     separator-room =
-        let fits = room-there code of_entries subject most turn end (halts-behind turned.steps past turn end turned.walk past-halts) in
+        let fits = room-there code of_entries subject most turn end (halts-behind code of_entries subject most turned.steps past turn end turned.walk past-halts) in
         omega (arith, fits)
 
     pub separator-leads : Leads code of_entries subject most s (record s { at_ = edge + 5; last = r; marks = mark_at s.last.place ∷ s.marks })

@@ -1,5 +1,5 @@
 -- A struct that can't be clean, in a call that is a whole branch: its steps lead to the next branch.
-use Rattle.std.proofs.Common.{◌≡◌, ◌∙◌, sym, ap, refl, subst, arith, ℕ, zero, suc, ◌+◌, ◌-◌, ◌≤◌, inl, inr, Bool, true, false, not, ◌&&◌, if◌then◌else◌, nat_eq, nat_le, List, [], ◌∷◌, ◌++◌, drop, length, length-drop, map, reverse, Option, Some, None, slice_get}
+use Rattle.std.proofs.Common.{◌≡◌, ◌∙◌, sym, ap, refl, subst, arith, ℕ, zero, suc, ◌+◌, ◌-◌, ◌≤◌, Bool, true, false, ◌&&◌, if◌then◌else◌, nat_eq, nat_le, List, [], ◌∷◌, ◌++◌, drop, length, length-drop, map, reverse, Option, Some, None, slice_get}
 use Rattle.std.proofs.Math.Seq.{drop-append-add}
 use Rattle.std.proofs.lemmas.Bool.{eq-eqb, eqb-true}
 use Rattle.std.proofs.lemmas.List.{length-append, length-reverse}
@@ -13,40 +13,40 @@ use Rattle.pads_calc.specs.declared.decl.Decl.{Decl}
 use Rattle.pads_calc.specs.declared.reading.Reading.{Reading}
 use Rattle.pads_calc.specs.declared.term.Term.{Term}
 use Rattle.pads_calc.proofs.CleanNodes.{clean-node}
-use Rattle.pads_calc.specs.Arguments.{is_true}
 use Rattle.pads_calc.specs.Calculus.{caller as reads_call, read}
 use Rattle.pads_calc.specs.Choices.{branch_of}
 use Rattle.pads_calc.specs.Leaves.{unit_of}
 use Rattle.pads_calc.specs.Readings.{Subject, is_ok, node}
 use Rattle.pads_calc.specs.Structs.{bind}
-use Rattle.pads_calc.specs.Wrappers.{constrained}
 use Rattle.law_calculus.proofs.SoundTerms.{sound-meaning}
 use Rattle.pads_image.specs.declared.entry.Entry.{Entry}
 use Rattle.pads_image.specs.declared.op.Op.{Op}
 use Rattle.pads_image.specs.declared.op.Op.TheVariants as op
-use Rattle.pads_image.specs.Answers.{HaltsWith, Runs}
+use Rattle.pads_image.specs.Answers.{HaltsWith}
 use Rattle.pads_image.specs.Blocks.{layout}
 use Rattle.pads_image.specs.Code.{IsCodeOf, code_of, entries_of}
 use Rattle.pads_image.specs.Heights.{Deeper, entries_at, height_after}
 use Rattle.pads_image.specs.States.{Caller, Mark, Node, State, base_of, entries, floor_of, seen}
 use Rattle.pads_image.specs.Steps.{Step, Goes, Stuck, close_step, does_there, return_step, step, try_step, with_reading}
+use Rattle.law_images.proofs.Called.{deeper-same}
 use Rattle.law_images.proofs.Halting.{calls-run, deeper_at}
 use Rattle.law_images.proofs.Levels.{AllBelow}
 use Rattle.law_images.proofs.TermsRun.{runs}
+use Rattle.pads_machine.specs.declared.doomed.Doomed.{Doomed}
 use Rattle.pads_machine.specs.declared.node.Mark.{Mark as MachineMark}
 use Rattle.pads_machine.specs.declared.state.State.{State as Machine}
 use Rattle.pads_machine.specs.Doomed.{AreParts, EndsStruct, IsDoomed, IsPart}
 use Rattle.pads_machine.specs.Held.{Held, Placed}
-use Rattle.pads_idle.specs.Idle.{IsGuarded}
 use Rattle.pads_machine.specs.declared.step.Next.{Next}
 use Rattle.pads_machine.specs.declared.step.Next.TheVariants as next
 use Rattle.pads_machine.specs.Ran.{GoesWithin, Leads, Tells}
 use Rattle.pads_machine.specs.Shown.{caller_shown, mark_shown, shown}
-use Rattle.pads_machine.proofs.Branches.{behind-them, floor-held}
-use Rattle.pads_machine.proofs.Halts.{goes-within, moved}
+use Rattle.pads_machine.specs.Missing.{EndsBranch}
+use Rattle.pads_machine.proofs.Branches.{behind-them, floor-held, guards}
+use Rattle.pads_machine.proofs.Fitting.{fitting, halts-behind, room-there, walked}
+use Rattle.pads_machine.proofs.Halts.{goes-within}
 use Rattle.pads_machine.proofs.Tops.{below_top, callers-are, marks-are, nodes-are, top_shown}
-use Rattle.pads_machine.proofs.Undone.{fitting, room-there}
-use Rattle.pads_idle.proofs.Walking.{To, Walks, by, join, once}
+use Rattle.pads_idle.proofs.Walking.{To, by, join, once}
 
 -- room enough for some code
 module _ (deeper : Deeper) where
@@ -62,10 +62,6 @@ module _ (deeper : Deeper) where
       let most = below + entries_at deeper instruction h + rest.0 in
       (most, (omega arith, below-more rest.0 most ops below (height_after instruction h) (omega arith) rest.1))
 
-deeper-same : (decls : List Decl) (subject : Subject) (most more depth : ℕ) → deeper_at decls subject most depth ≡ deeper_at decls subject more depth
-deeper-same decls subject most more zero = refl
-deeper-same decls subject most more (suc depth) = refl
-
 -- one part more doesn't make them clean
 both-false : (a b : Bool) → a ≡ false → a && b ≡ false
 both-false true b is = absurd cc
@@ -73,11 +69,6 @@ both-false false b is = refl
 
 unclean-more : (pds : List Pd) (pd : Pd) → all_clean pds ≡ false → all_clean (pds ++ pd ∷ []) ≡ false
 unclean-more pds pd bad = list_all-append is_clean pds (pd ∷ []) ∙ both-false (all_clean pds) (all_clean (pd ∷ [])) bad
-
--- a constraint leaves what isn't clean as it is
-unguarded : (ok kept : Bool) (r : Reading) → ok ≡ false → (if ok && kept then constrained r else r) ≡ r
-unguarded true kept r is = absurd cc
-unguarded false kept r is = refl
 
 -- bindings above others
 bound-above : (name : Option ℕ) (v : Val) (above env : Pairs) → (more : Pairs) × (bind name v (above ++ env) ≡ more ++ env)
@@ -98,9 +89,9 @@ abbrev pub left_of : State → Node → Pairs
 left_of s first = drop (length s.bindings - first.base) s.bindings
 
 -- the next branch, behind a call that ends with a struct
-abbrev pub next_of : Subject → State → Node → List Node → Caller → List Caller → Mark → State
-next_of subject s first nodes caller callers mark = record s {
-  at_ = caller.back + 1;
+abbrev pub next_of : Subject → State → Node → List Node → Caller → List Caller → Mark → ℕ → State
+next_of subject s first nodes caller callers mark end = record s {
+  at_ = end + 1;
   last = unit_of subject.origin mark.place;
   depth = s.depth + 1;
   bindings = drop (length (left_of s first) - caller.base) (left_of s first);
@@ -121,9 +112,8 @@ pub record Doom (code : List Op) (es : List Entry) (subject : Subject) (most : �
   pub caller : Caller
   pub callers : List Caller
   pub called : s.callers ≡ caller ∷ callers
-  pub arm : ℕ
-  pub to : ℕ
-  pub tries : slice_get code caller.back ≡ Some (op.Try arm to)
+  pub end : ℕ
+  pub ends : EndsBranch code caller.back end
   pub mark : Mark
   pub marks : List Mark
   pub marked : s.marks ≡ mark ∷ marks
@@ -133,7 +123,7 @@ pub record Doom (code : List Op) (es : List Entry) (subject : Subject) (most : �
 -- what comes of it
 pub record Told (code : List Op) (es : List Entry) (subject : Subject) (most : ℕ) (s : State) (d : Doom code es subject most s) : Type 0 where
   pub sound : nat_le (floor_of d.nodes) d.caller.base ≡ true
-  pub leads : Leads code es subject most s (next_of subject s d.first d.nodes d.caller d.callers d.mark)
+  pub leads : Leads code es subject most s (next_of subject s d.first d.nodes d.caller d.callers d.mark d.end)
 
 module _ (decls : List Decl) (subject : Subject) where
   abbrev code : List Op
@@ -141,10 +131,6 @@ module _ (decls : List Decl) (subject : Subject) where
 
   abbrev es : List Entry
   es = entries_of decls
-
-  forget : (most n : ℕ) (s u : State) → Runs code es subject most n s u → Walks code es subject n s u
-  forget most zero s u run = run
-  forget most (suc n) s u run = (run.1, run.2, forget most n run.1 u run.3)
 
   -- from a state on a term is read up to an address
   record Read (s : State) (next : ℕ) : Type 0 where
@@ -174,7 +160,7 @@ module _ (decls : List Decl) (subject : Subject) where
         within = (sound t (seen s) s.last.place).within within;
         walk =
             subst (λ q. To code es subject s (record s { at_ = q; last = r })) (sym ends)
-            (record { steps = run.steps; walk = forget most run.steps s (record s { at_ = p + (layout t).size; last = r }) run.run });
+            (walked code es subject most s (record s { at_ = p + (layout t).size; last = r }) run);
       }
 
   -- from a state in a struct that has a part which isn't clean
@@ -222,11 +208,6 @@ module _ (decls : List Decl) (subject : Subject) where
     all-parts : (count next : ℕ) → Along s.at_ → AreParts code s.at_ count next → Along next
     all-parts zero next a parts = subst (λ p. Along p) (sym parts) a
     all-parts (suc count) next a parts = next-part parts.0 next (all-parts count parts.0 a parts.1) parts.2
-
-  -- a run that halts does so from each state on its way
-  halts-behind : (most n : ℕ) (s u : State) (r : Reading) → Walks code es subject n s u → HaltsWith code es subject most s r → HaltsWith code es subject most u r
-  halts-behind most zero s u r walk h = subst (λ (x : State). HaltsWith code es subject most x r) walk h
-  halts-behind most (suc n) s u r walk h = halts-behind most n walk.0 u r walk.2 (moved code es subject most s walk.0 r walk.1 h)
 
   module _ (most : ℕ) (s : State) (d : Doom code es subject most s) where
     abbrev first : Node
@@ -284,7 +265,7 @@ module _ (decls : List Decl) (subject : Subject) where
     closed p = record s { at_ = p; last = struct; bindings = left; nodes = nodes }
 
     there : HaltsWith code es subject most closing halted
-    there = halts-behind most end.walk.steps s closing halted end.walk.walk halts
+    there = halts-behind code es subject most end.walk.steps s closing halted end.walk.walk halts
 
     own : nat_eq (length (end.above ++ s.bindings)) (end.n.base + rest.close.0) ≡ true
     own =
@@ -307,13 +288,9 @@ module _ (decls : List Decl) (subject : Subject) where
     bad : is_ok struct ≡ false
     bad = clean-node subject.origin (val.Tuple end.n.values) end.n.begin end.last.place end.n.pds ∙ end.unclean
 
-    guards : (p next : ℕ) → IsGuarded code p next → To code es subject (closed p) (closed next)
-    guards p next (inl same) = record { steps = 0; walk = ap (λ q. closed q) (sym same) }
-    guards p next (inr h) =
-        once code es subject (closed p) (closed next)
-        (by code es subject (closed p) (closed next) (op.Guard h.0 h.1) h.2
-        (ap (λ r. Goes (record s { at_ = p + 1; last = r; bindings = left; nodes = nodes })) (unguarded (is_ok struct) (not (is_true h.1 ((h.0, struct.value) ∷ seen (closed p)))) struct bad)
-        ∙ ap (λ q. Goes (closed q)) (sym h.3)))
+    -- behind the struct
+    abbrev ended_struct : State
+    ended_struct = record s { bindings = left; nodes = nodes }
 
     -- where the declaration ends
     abbrev returning : State
@@ -325,14 +302,14 @@ module _ (decls : List Decl) (subject : Subject) where
     to-return : To code es subject s returning
     to-return =
         join code es subject s closing returning end.walk
-        (join code es subject closing (closed (rest.closes_at + 1)) returning closes (guards (rest.closes_at + 1) rest.ends.0 rest.ends.1))
+        (join code es subject closing (closed (rest.closes_at + 1)) returning closes (guards code es subject ended_struct struct bad (rest.closes_at + 1) rest.ends.0 rest.ends.1))
 
     returned_there : return_step returning s.callers ≡ return_step returning (caller ∷ d.callers)
     returned_there = ap (λ (callers : List Caller). return_step returning callers) d.called
 
     sound : nat_le (floor_of nodes) caller.base ≡ true
     sound =
-        let h = halts-behind most to-return.steps s returning halted to-return.walk halts in
+        let h = halts-behind code es subject most to-return.steps s returning halted to-return.walk halts in
         if-goes most (nat_le (floor_of nodes) caller.base) _
         (subst (λ (x : Step). GoesWithin most x) (ap (λ o. does_there es subject o returning) rest.ends.2 ∙ returned_there) (goes-within code es subject most returning halted h))
 
@@ -343,20 +320,27 @@ module _ (decls : List Decl) (subject : Subject) where
         (by code es subject returning back op.Return rest.ends.2
         (returned_there ∙ ap (λ (sound : Bool). if sound then Goes back else Stuck) sound)))
 
-    fails-there : step es subject code back ≡ Goes (next_of subject s d.first d.nodes d.caller d.callers d.mark)
+    -- where the branch ends
+    abbrev trying : State
+    trying = record back { at_ = d.end }
+
+    to-end : To code es subject s trying
+    to-end = join code es subject s back trying to-back (guards code es subject back struct bad caller.back d.end d.ends.guarded)
+
+    fails-there : step es subject code trying ≡ Goes (next_of subject s d.first d.nodes d.caller d.callers d.mark d.end)
     fails-there =
-        let u = next_of subject s d.first d.nodes d.caller d.callers d.mark in
-        ap (λ o. does_there es subject o back) d.tries
-        ∙ ap (λ (marks : List Mark). try_step subject.origin d.arm d.to back marks) d.marked
-        ∙ ap (λ (clean : Bool). if clean then Goes (record back { at_ = d.to; last = branch_of subject.origin d.arm struct d.mark.place; marks = d.marks }) else Goes u) bad
+        let u = next_of subject s d.first d.nodes d.caller d.callers d.mark d.end in
+        ap (λ o. does_there es subject o trying) d.ends.tries.2
+        ∙ ap (λ (marks : List Mark). try_step subject.origin d.ends.tries.0 d.ends.tries.1 trying marks) d.marked
+        ∙ ap (λ (clean : Bool). if clean then Goes (record back { at_ = d.ends.tries.1; last = branch_of subject.origin d.ends.tries.0 struct d.mark.place; marks = d.marks }) else Goes u) bad
 
     told : Told code es subject most s d
     told =
-        let h = halts-behind most to-back.steps s back halted to-back.walk halts in
-        let run = fitting code es subject most to-back.steps s back halted to-back.walk halts in
-        let u = next_of subject s d.first d.nodes d.caller d.callers d.mark in record {
+        let h = halts-behind code es subject most to-end.steps s trying halted to-end.walk halts in
+        let run = fitting code es subject most to-end.steps s trying halted to-end.walk halts in
+        let u = next_of subject s d.first d.nodes d.caller d.callers d.mark d.end in record {
           sound = sound;
-          leads = behind-them code es subject most run.steps s back u run.run (room-there code es subject most back halted h) fails-there;
+          leads = behind-them code es subject most run.steps s trying u run.run (room-there code es subject most trying halted h) fails-there;
         }
 
 -- of the code of declarations
@@ -413,7 +397,7 @@ module _ (code : List Op) (es : List Entry) (subject : Subject) (most : ℕ) (s 
       subst (λ (x : Step). GoesWithin most x) (sym returns-here) all
 
   -- what was done is what is told
-  pub leads-here : (u : State) → u ≡ record ended { at_ = d.caller.back + 1; last = unit_of subject.origin d.mark.place } → Leads code es subject most s u
+  pub leads-here : (u : State) → u ≡ record ended { at_ = d.end + 1; last = unit_of subject.origin d.mark.place } → Leads code es subject most s u
   leads-here u is = subst (λ (u : State). Leads code es subject most s u) (sym is) t.leads
 
 -- where a step is told of, the next state
@@ -421,15 +405,15 @@ pub told-goes : (next : Next) (made : Step) (k e u : State) → Tells next made 
 told-goes next.Goes made k e u told is = let both = sym told ∙ is in cc
 told-goes next.Searches made k e u told is = let both = sym told ∙ is in cc
 told-goes next.Halts made k e u told is = let never = sym told.0 ∙ is in absurd cc
-told-goes (next.Asks call) made k e u told is = absurd told
+told-goes next.Asks made k e u told is = absurd told
 
 pub goes-same : (t u : State) → Goes t ≡ Goes u → t ≡ u
 goes-same t u same = cc
 
 -- the machine in such a state
-abbrev pub doom-of : (m : Machine) (code : List Op) (es : List Entry) (subject : Subject) (names : ℕ) (mark : MachineMark) (r : Reading) → IsDoomed code names m → Held m
+abbrev pub doom-of : (m : Machine) (code : List Op) (es : List Entry) (subject : Subject) (doomed : Doomed) (mark : MachineMark) (r : Reading) → IsDoomed code doomed m → Held m
     → Placed (length subject.bytes) m → slice_get (reverse m.marks.items) 0 ≡ Some mark → HaltsWith code es subject m.room (shown m) r → Doom code es subject m.room (shown m)
-doom-of m code es subject names mark r d held placed there halts =
+doom-of m code es subject doomed mark r d held placed there halts =
     let s = shown m in
     let sized : length s.bindings ≡ length m.bindings.items = length-reverse m.bindings.items in
     let called = callers-are m d.caller d.called in
@@ -447,9 +431,8 @@ doom-of m code es subject names mark r d held placed there halts =
       caller = caller_shown d.caller;
       callers = map caller_shown (drop 1 (reverse m.callers.items));
       called = called;
-      arm = d.tries.0;
-      to = d.tries.1;
-      tries = d.tries.2;
+      end = doomed.end;
+      ends = d.ends;
       mark = mark_shown mark;
       marks = map mark_shown (drop 1 (reverse m.marks.items));
       marked = marks-are m mark there;

@@ -5,13 +5,13 @@ pub mod Calling
 pub mod Continuing
 pub mod Dooming
 pub mod Endings
+pub mod Fitting
 pub mod Halts
 pub mod Homes
 pub mod Labels
 pub mod Leaps
 pub mod Nodes
 pub mod Passing
-pub mod Recalled
 pub mod Shows
 pub mod Taking
 pub mod TermsThere

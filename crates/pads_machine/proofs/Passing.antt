@@ -20,7 +20,6 @@ use Rattle.pads_image.specs.States.{Mark, State, entries, seen}
 use Rattle.pads_image.specs.Steps.{Goes, Step, back_to, began, cause_or, does, does_there, is_last_place, mark_at, part_step, scan_step, step}
 use Rattle.pads_steps.specs.Searches.{stands_at}
 use Rattle.pads_steps.proofs.Searches.{absorbs}
-use Rattle.pads_machine.specs.declared.known.Call.{Call}
 use Rattle.pads_machine.specs.declared.step.Next.{Next}
 use Rattle.pads_machine.specs.declared.step.Next.TheVariants as next
 use Rattle.pads_machine.specs.Ran.{Advances, AsksNothing, GoesWithin, IsLiteralPart, Leads, Tells}
@@ -50,19 +49,19 @@ advances-so code of_entries subject most next.Goes s t instruction there told =
 advances-so code of_entries subject most next.Searches s t instruction there told =
     record { next_ = t; goes = at-op code of_entries subject most s instruction there ∙ told; more = no-more code of_entries subject most t }
 advances-so code of_entries subject most next.Halts s t instruction there told = (at-op code of_entries subject most s instruction there ∙ told.0, told.1)
-advances-so code of_entries subject most (next.Asks call) s t instruction there told = absurd told
+advances-so code of_entries subject most next.Asks s t instruction there told = absurd told
 
 -- what an instruction itself comes to asks nothing
 pub asks-nothing : (found : Next) (made : Step) (s t : State) → Tells found made s t → AsksNothing found
 asks-nothing next.Goes made s t told = tt
 asks-nothing next.Searches made s t told = tt
 asks-nothing next.Halts made s t told = tt
-asks-nothing (next.Asks call) made s t told = absurd told
+asks-nothing next.Asks made s t told = absurd told
 
 -- what asks may ask
-pub asked : (asking : Bool) (found : Next) (call : Call) → found ≡ next.Asks call → (asking ≡ false → AsksNothing found) → may_ask asking ≡ 1
-asked true found call is nothing = refl
-asked false found call is nothing = let there = nothing refl in absurd (subst AsksNothing is there)
+pub asked : (asking : Bool) (found : Next) → found ≡ next.Asks → (asking ≡ false → AsksNothing found) → may_ask asking ≡ 1
+asked true found is nothing = refl
+asked false found is nothing = let there = nothing refl in absurd (subst AsksNothing is there)
 
 -- a base type, and behind it what keeps it as a part
 module _ (code : List Op) (of_entries : List Entry) (subject : Subject) (most : ℕ) (s : State) (base : Base) (args : List Expr) (name : Option ℕ) where

@@ -1,6 +1,6 @@
 -- Instructions that are the code of a term: a call, a base type, a computed value, and the search of a literal whose value
 -- is dropped.
-use Rattle.std.proofs.Common.{◌≡◌, ◌∙◌, sym, ap, refl, subst, arith, ℕ, zero, suc, ◌+◌, List, [], ◌∷◌, ◌++◌, append_assoc, drop, length, inl, inr, Some, slice_get}
+use Rattle.std.proofs.Common.{◌≡◌, ◌∙◌, sym, ap, refl, subst, arith, ℕ, suc, ◌+◌, List, [], ◌∷◌, ◌++◌, append_assoc, drop, length, inl, inr, Some, slice_get}
 use Rattle.std.proofs.Math.Seq.{drop-append_seam}
 use Rattle.std.proofs.lemmas.List.{drop-drop}
 use Rattle.pads_expr.specs.declared.expr.Expr.{Expr}
@@ -13,18 +13,14 @@ use Rattle.pads_image.specs.declared.op.Op.TheVariants as op
 use Rattle.pads_image.specs.Blocks.{Block, alt_block, followed, layout, scan_block, single}
 use Rattle.pads_image.proofs.Layouts.{layout-Absorb, layout-Alt, layout-Base, layout-Call, layout-Compute, layout-Guard, layout-Lit, layout-Scan, layout-Unit}
 use Rattle.pads_image.proofs.Lengths.{sized}
+use Rattle.law_images.proofs.Called.{from-there as from}
 use Rattle.pads_idle.specs.Idle.{IsGuarded}
 use Rattle.pads_machine.specs.Doomed.{IsOne, IsTerm}
 
 from-there : {A : Type 0} (xs : List A) (p : ℕ) (x : A) → slice_get xs p ≡ Some x → drop p xs ≡ x ∷ drop (p + 1) xs
 from-there xs p x there =
     let one : suc p ≡ p + 1 = omega arith in
-    at_first xs p x there ∙ ap (λ k. x ∷ drop k xs) one
-  where
-    at_first : {A : Type 0} (xs : List A) (p : ℕ) (x : A) → slice_get xs p ≡ Some x → drop p xs ≡ x ∷ drop (suc p) xs
-    at_first [] p x there = cc
-    at_first (y ∷ xs) zero x there = let same : y ≡ x = cc in ap (λ y. y ∷ xs) same
-    at_first (y ∷ xs) (suc p) x there = at_first xs p x there
+    from xs p x there ∙ ap (λ k. x ∷ drop k xs) one
 
 module _ (code : List Op) (p : ℕ) where
   -- a term whose code is a block

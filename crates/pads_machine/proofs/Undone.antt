@@ -1,34 +1,37 @@
 -- A turn whose element takes no byte, where the array has one: its steps lead to the array's end.
-use Rattle.std.proofs.Common.{cond, ◌≡◌, ◌∙◌, sym, ap, refl, subst, arith, ℕ, zero, suc, ◌+◌, ◌≤◌, Bool, true, false, not, ◌&&◌, if◌then◌else◌, nat_eq, eq-eqb, List, [], ◌∷◌, length, Some, slice_get}
+use Rattle.std.proofs.Common.{cond, ◌≡◌, ◌∙◌, sym, ap, refl, subst, arith, ℕ, suc, ◌+◌, ◌≤◌, Bool, true, false, not, ◌&&◌, if◌then◌else◌, nat_eq, eq-eqb, List, ◌∷◌, length, Some, slice_get}
 use Rattle.pads_value.specs.declared.cause.Cause.TheVariants as cause
 use Rattle.pads_value.specs.declared.descriptor.Pd.{out-Pd}
+use Rattle.pads_expr.specs.declared.expr.Expr.{Expr}
+use Rattle.pads_expr.specs.Value.{Pairs}
 use Rattle.pads_calc.specs.declared.decl.Decl.{Decl}
 use Rattle.pads_calc.specs.declared.reading.Reading.{Reading}
+use Rattle.pads_calc.specs.Arguments.{arguments}
 use Rattle.pads_calc.specs.Arrays.{is_fail_class}
-use Rattle.pads_calc.specs.Calculus.{caller}
 use Rattle.pads_calc.specs.Leaves.{unit_of}
 use Rattle.pads_calc.specs.Readings.{Subject}
 use Rattle.pads_image.specs.declared.entry.Entry.{Entry}
 use Rattle.pads_image.specs.declared.op.Op.{Op}
 use Rattle.pads_image.specs.declared.op.Op.TheVariants as op
-use Rattle.pads_image.specs.Answers.{HaltsWith, Reaches}
+use Rattle.pads_image.specs.Answers.{HaltsWith}
 use Rattle.pads_image.specs.Code.{IsCodeOf}
 use Rattle.pads_image.specs.States.{Mark, Node, State, base_of, entries, seen}
 use Rattle.pads_image.specs.Steps.{Step, Goes, Halts, Stuck, back_to, began, does_there, is_first, mark_at, shut_step, step, with_own, with_reading}
-use Rattle.law_images.proofs.Reaching.{before, here, to-same}
+use Rattle.law_images.proofs.Called.{behind_call, called, largest, runs-by}
 use Rattle.pads_machine.specs.declared.known.Call.{Call}
 use Rattle.pads_machine.specs.declared.known.Outcome.{Outcome}
 use Rattle.pads_machine.specs.declared.step.Next.{Next}
 use Rattle.pads_machine.specs.declared.step.Next.TheVariants as next
 use Rattle.pads_idle.specs.Idle.{IdlesTo}
-use Rattle.pads_machine.specs.Known.{HasOutcome, outcome_of, reading_of}
+use Rattle.pads_machine.specs.Known.{HasOutcome, outcome_with, reading_of}
 use Rattle.pads_machine.specs.Ran.{Advances, GoesWithin, Leads, Tells}
 use Rattle.pads_machine.specs.Shown.{has_own}
+use Rattle.pads_machine.proofs.Calling.{call-is}
 use Rattle.pads_machine.proofs.Endings.{turn-goes}
-use Rattle.pads_machine.proofs.Halts.{fits-first, moved}
-use Rattle.pads_machine.proofs.Recalled.{behind_call, largest, recalled, recalls, walked}
+use Rattle.pads_machine.proofs.Halts.{moved}
+use Rattle.pads_machine.proofs.Fitting.{fitting, walked}
 use Rattle.pads_idle.proofs.Idling.{Idling, idles-to}
-use Rattle.pads_idle.proofs.Walking.{To, Walks, along, by, join, once}
+use Rattle.pads_idle.proofs.Walking.{To, along, by, join, once}
 
 within-if : (most : ℕ) (b : Bool) (t : State) → b ≡ true → entries t ≤ most → GoesWithin most (cond b (Goes t) Stuck)
 within-if most true t is fits = fits
@@ -53,16 +56,6 @@ unfolding seen
 seen-there s address nodes marks = refl
 
 module _ (code : List Op) (of_entries : List Entry) (subject : Subject) (most : ℕ) where
-  -- steps of a run that halts are within its room
-  pub fitting : (n : ℕ) (s u : State) (r : Reading) → Walks code of_entries subject n s u → HaltsWith code of_entries subject most s r → Reaches code of_entries subject most s u
-  fitting zero s u r walk h = to-same code of_entries subject most s s u walk (here code of_entries subject most s)
-  fitting (suc n) s u r walk h =
-      before code of_entries subject most s walk.0 u (fits-first code of_entries subject most h.reached.steps s h.end h.reached.run h.within) walk.1
-      (fitting n walk.0 u r walk.2 (moved code of_entries subject most s walk.0 r walk.1 h))
-
-  pub room-there : (s : State) (r : Reading) → HaltsWith code of_entries subject most s r → entries s ≤ most
-  room-there s r h = fits-first code of_entries subject most h.reached.steps s h.end h.reached.run h.within
-
   -- the array has an element, and a turn is begun
   module _ (s : State) (n : Node) (nodes : List Node) where
     abbrev pub begun : State
@@ -78,24 +71,25 @@ module _ (code : List Op) (of_entries : List Entry) (subject : Subject) (most : 
         idles-to code of_entries subject s.last.place s.depth begun (s.at_ + 1) behind refl element_there refl alone refl
 
     -- so it is known of a call
-    pub known-element : (decls : List Decl) (is : IsCodeOf decls code of_entries) (call : Call) (outcome : Outcome)
-        → slice_get code (s.at_ + 1) ≡ Some (op.Call call.number []) → call.depth ≡ s.depth → call.place ≡ s.last.place
+    pub known-element : (decls : List Decl) (is : IsCodeOf decls code of_entries) (call : Call) (args : List Expr) (outcome : Outcome)
+        → slice_get code (s.at_ + 1) ≡ Some (op.Call call.number args) → arguments args (seen s) ≡ Some call.args → s.depth ≡ suc call.depth → call.place ≡ s.last.place
         → base_of s.callers ≤ length s.bindings → n.base ≤ length s.bindings → s.last.place ≤ length subject.bytes
         → HasOutcome code of_entries subject call outcome → outcome.failed ≡ false → outcome.place ≡ call.place → Element (s.at_ + 2)
-    known-element decls is call outcome there depth place sane alone within known stays_well stays =
+    known-element decls is call args outcome there worth depth place sane alone within known stays_well stays =
         let e : State = begun in
-        let q : Reading = recalled decls subject call.number e in
-        let run = recalls decls subject call.number e code of_entries is there sane alone within in
-        let told : outcome ≡ outcome_of (reading_of decls subject call) = known decls is in
-        let same : reading_of decls subject call ≡ q =
-        ap (λ (depth : ℕ). caller subject decls depth call.number [] [] call.place) depth ∙ ap (λ (place : ℕ). caller subject decls s.depth call.number [] [] place) place in
+        let q : Reading = called decls subject call.number args e in
+        let run = runs-by decls subject call.number args e code of_entries is there sane alone within in
+        let told : outcome ≡ outcome_with code call.constraint (reading_of decls subject call) = known decls is in
+        let sees : arguments args (seen e) ≡ Some call.args =
+        ap (λ (env : Pairs). arguments args env) (sym (seen-there s (s.at_ + 1) (n ∷ nodes) (mark_at s.last.place ∷ s.marks))) ∙ worth in
+        let same : q ≡ reading_of decls subject call = call-is decls subject call args (seen e) s.depth s.last.place depth place sees in
         let further : s.at_ + 1 + 1 ≡ s.at_ + 2 = omega arith in record {
           reading = q;
-          place = ap (λ (r : Reading). r.place) (sym same) ∙ sym (ap (λ (o : Outcome). o.place) told) ∙ stays ∙ place;
-          class_is = λ wanted. ap (λ (r : Reading). is_fail_class (out-Pd r.pd).class) (sym same) ∙ sym (ap (λ (o : Outcome). o.failed) told) ∙ stays_well;
+          place = ap (λ (r : Reading). r.place) same ∙ sym (ap (λ (o : Outcome). o.place) told) ∙ stays ∙ place;
+          class_is = λ wanted. ap (λ (r : Reading). is_fail_class (out-Pd r.pd).class) same ∙ sym (ap (λ (o : Outcome). o.failed) told) ∙ stays_well;
           walk =
               subst (λ (next : ℕ). To code of_entries subject e (record e { at_ = next; last = q })) further
-              (walked code of_entries subject (largest decls subject call.number e) e (behind_call decls subject call.number e) run);
+              (walked code of_entries subject (largest decls subject call.number args e) e (behind_call decls subject call.number args e) run);
         }
 
   module _ (s : State) (n : Node) (nodes : List Node) (nodes_are : s.nodes ≡ n ∷ nodes) (later : is_first n ≡ false)
@@ -154,7 +148,7 @@ module _ (code : List Op) (of_entries : List Entry) (subject : Subject) (most : 
         record {
           next_ = turning;
           goes = begins;
-          more = fitting walk.steps turning u r walk.walk (moved code of_entries subject most s turning r begins halts);
+          more = fitting code of_entries subject most walk.steps turning u r walk.walk (moved code of_entries subject most s turning r begins halts);
         }
 
     -- where the array's end has been done, as is told
@@ -164,4 +158,4 @@ module _ (code : List Op) (of_entries : List Entry) (subject : Subject) (most : 
     stall-advances next.Goes t u r told base halts = stall-leads u r told halts
     stall-advances next.Searches t u r told base halts = stall-leads u r told halts
     stall-advances next.Halts t u r told base halts = absurd (never-halts told.0 base)
-    stall-advances (next.Asks call) t u r told base halts = absurd told
+    stall-advances next.Asks t u r told base halts = absurd told

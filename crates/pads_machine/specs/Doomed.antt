@@ -1,15 +1,16 @@
--- Structs that can't be clean, in a call that is a whole branch.
+-- Structs that can't be clean, in a call that is a branch.
 use Rattle.std.specs.Prelude.{◌≡◌, ℕ, zero, suc, ◌+◌, ◌-◌, ◌<◌, ◌≤◌, false, List, ◌++◌, drop, length, reverse, Option, Some, slice_get}
 use Rattle.pads_value.specs.Header.{all_clean}
 use Rattle.pads_calc.specs.declared.term.Term.{Term}
 use Rattle.pads_image.specs.declared.op.Op.{Op}
 use Rattle.pads_image.specs.declared.op.Op.TheVariants as op
 use Rattle.pads_image.specs.Blocks.{layout, single}
+use Rattle.pads_machine.specs.declared.doomed.Doomed.{Doomed}
 use Rattle.pads_machine.specs.declared.node.Caller.{Caller}
 use Rattle.pads_machine.specs.declared.node.Node.{Node}
 use Rattle.pads_machine.specs.declared.state.State.{State}
 use Rattle.pads_idle.specs.Idle.{Ends}
-use Rattle.pads_machine.specs.Missing.{IsTry}
+use Rattle.pads_machine.specs.Missing.{EndsBranch}
 
 -- the code of a term stands from an address on to another one
 abbrev pub IsTerm : List Op → ℕ → ℕ → Type 0
@@ -36,16 +37,16 @@ pub record EndsStruct (code : List Op) (address : ℕ) : Type 0 where
   pub close : (names : ℕ) × (slice_get code closes_at ≡ Some (op.Close names))
   pub ends : Ends code (closes_at + 1)
 
--- the latest struct has a part that isn't clean, its declaration ends with it, and the latest call is a whole branch;
--- the struct has so many bindings
-pub record IsDoomed (code : List Op) (names : ℕ) (m : State) : Type 0 where
+-- the latest struct has a part that isn't clean, its declaration ends with it, and the latest call is a branch of which no
+-- more is left but its constraint, if it has one
+pub record IsDoomed (code : List Op) (doomed : Doomed) (m : State) : Type 0 where
   pub rest : EndsStruct code m.address
   pub node : Node
   pub latest : slice_get (reverse m.nodes.items) 0 ≡ Some node
   pub unclean : all_clean node.pds.items ≡ false
-  pub names_are : names ≡ length m.bindings.items - node.base
+  pub names_are : doomed.names ≡ length m.bindings.items - node.base
   pub caller : Caller
   pub called : slice_get (reverse m.callers.items) 0 ≡ Some caller
-  pub tries : IsTry code caller.back
+  pub ends : EndsBranch code caller.back doomed.end
   pub marked : 0 < length m.marks.items
   pub sane : caller.base ≤ length m.bindings.items

@@ -31,7 +31,7 @@ abbrev pub Tells : Next → Step → State → State → Type 0
 Tells next.Goes made s t = made ≡ Goes t
 Tells next.Searches made s t = made ≡ Goes t
 Tells next.Halts made s t = (made ≡ Halts) × (t.last ≡ s.last)
-Tells (next.Asks call) made s t = ⊥
+Tells next.Asks made s t = ⊥
 
 -- a step, and then any number of them
 pub record Leads (code : List Op) (of_entries : List Entry) (subject : Subject) (most : ℕ) (s u : State) : Type 0 where
@@ -44,11 +44,11 @@ abbrev pub Advances : List Op → List Entry → Subject → ℕ → Next → St
 Advances code of_entries subject most next.Goes s t = Leads code of_entries subject most s t
 Advances code of_entries subject most next.Searches s t = Leads code of_entries subject most s t
 Advances code of_entries subject most next.Halts s t = (step of_entries subject code s ≡ Halts) × (t.last ≡ s.last)
-Advances code of_entries subject most (next.Asks call) s t = t ≡ s
+Advances code of_entries subject most next.Asks s t = t ≡ s
 
 -- something was done
 abbrev pub AsksNothing : Next → Type 0
-AsksNothing (next.Asks call) = ⊥
+AsksNothing next.Asks = ⊥
 AsksNothing _ = Unit {0}
 
 -- the instructions of terms without a term in them, or around one

@@ -1,16 +1,16 @@
 -- Turns that are sure to be undone: an array has an element, and goes on with one that takes no byte.
-use Rattle.std.specs.Prelude.{◌≡◌, ℕ, ◌+◌, ◌<◌, ◌≤◌, ◌⊎◌, false, List, [], length, reverse, Some, slice_get}
+use Rattle.std.specs.Prelude.{◌≡◌, ℕ, ◌+◌, ◌<◌, ◌⊎◌, false, List, length, reverse, Some, slice_get}
 use Rattle.pads_calc.specs.Readings.{Subject}
 use Rattle.pads_image.specs.declared.entry.Entry.{Entry}
 use Rattle.pads_image.specs.declared.op.Op.{Op}
 use Rattle.pads_image.specs.declared.op.Op.TheVariants as op
-use Rattle.pads_image.specs.States.{base_of, seen}
+use Rattle.pads_image.specs.States.{seen}
 use Rattle.pads_idle.specs.Idle.{IdlesTo}
 use Rattle.pads_machine.specs.declared.known.Call.{Call}
 use Rattle.pads_machine.specs.declared.known.Outcome.{Outcome}
 use Rattle.pads_machine.specs.declared.node.Node.{Node}
 use Rattle.pads_machine.specs.declared.state.State.{State}
-use Rattle.pads_machine.specs.Known.{HasOutcome}
+use Rattle.pads_machine.specs.Known.{HasOutcome, IsCall}
 use Rattle.pads_machine.specs.Shown.{shown}
 
 -- the latest array has an element, and no binding of its own
@@ -20,19 +20,12 @@ pub record IsStanding (m : State) : Type 0 where
   pub later : 0 < length node.values.items
   pub alone : node.base ≡ length m.bindings.items
 
--- a call without arguments is made at the next address
-pub record IsNext (code : List Op) (call : Call) (m : State) : Type 0 where
-  pub there : slice_get code (m.address + 1) ≡ Some (op.Call call.number [])
-  pub depth : call.depth ≡ m.depth
-  pub place : call.place ≡ m.last.place
-  pub sane : base_of (shown m).callers ≤ length m.bindings.items
-
--- and it is known to take no byte and not to fail
+-- the call at the next address is known to take no byte and not to fail
 abbrev pub IsKnownIdle : List Op → List Entry → Subject → State → Type 0
 IsKnownIdle code of_entries subject m =
     (call : Call)
     × (outcome : Outcome)
-    × IsNext code call m
+    × IsCall code (m.address + 1) call m
     × HasOutcome code of_entries subject call outcome
     × (outcome.failed ≡ false)
     × (outcome.place ≡ call.place)

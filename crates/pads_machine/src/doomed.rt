@@ -1,4 +1,4 @@
-//! Structs that can't be clean, in a call that is a whole branch: what is left of them needn't be read.
+//! Structs that can't be clean, in a call that is a branch: what is left of them needn't be read.
 ghost use Rattle.std.specs.Prelude.{◌≡◌, ℕ, ◌+◌, ◌-◌, ◌*◌, ◌<◌, ◌≤◌, ◌^◌, Option, Some, IfSome, IsTrue, List, OnOk, length, reverse, slice_get};
 ghost use Rattle.pads_value.specs.Header.{all_clean};
 ghost use Rattle.pads_calc.specs.declared.decl.Decl.{Decl};
@@ -10,7 +10,7 @@ ghost use Rattle.pads_machine.specs.Ran.{Halting, Leads};
 ghost use Rattle.pads_machine.specs.Shown.{shown};
 ghost use Rattle.pads_steps.specs.Records.{subject_of};
 
-use crate::misses::tries;
+use crate::misses::branch_end;
 use crate::node::Caller;
 use crate::state::State;
 use pads_calc::Reading;
@@ -188,6 +188,15 @@ fn ends_struct(code: &[Op], address: usize) -> bool
     closes(code, close) && ends(code, close + 1)
 }
 
+/// A struct that can't be clean, in a call that is a branch.
+#[derive(Clone, Copy)]
+pub(crate) struct Doomed {
+    /// How many bindings it has.
+    pub(crate) names: u32,
+    /// The address where the branch ends.
+    pub(crate) end: usize,
+}
+
 impl State {
     /// The latest call.
     fn caller(&self) -> Caller
@@ -200,19 +209,21 @@ impl State {
         *caller
     }
 
-    /// How many bindings the latest struct has, if it can't be clean and is all of a call that is a whole branch.
+    /// The latest struct, if it can't be clean and is all of a call that is a branch.
     #[inline(never)]
-    pub(crate) fn doomed_names(&self, program: &Program) -> Option<u32>
+    pub(crate) fn doomed(&self, program: &Program) -> Option<Doomed>
+        requires short { length program.now.code.now < 2 ^ 32 }
         requires address { self.now.address < 2 ^ 32 }
-        ensures doomed { IfSome result (λ names. IsDoomed program.now.code.now names self.now) }
+        ensures doomed { IfSome result (λ doomed. IsDoomed program.now.code.now doomed self.now) }
     {
         if self.callers.len() == 0 || self.nodes.len() == 0 || self.marks.len() == 0 {
             return None;
         }
         let caller = self.caller();
-        if !tries(program.code, caller.back) {
+        if caller.back >= program.code.len() {
             return None;
         }
+        let end = branch_end(program.code, caller.back)?;
         if self.bindings.len() < caller.base {
             return None;
         }
@@ -224,16 +235,16 @@ impl State {
             return None;
         }
         match u32::try_from(self.bindings.len().saturating_sub(node.base)) {
-            Ok(names) => Some(names),
+            Ok(names) => Some(Doomed { names, end }),
             Err(_) => None,
         }
     }
 
     /// Leaves a branch that is a struct which can't be clean, over the steps that would read what is left of it.
-    pub(crate) fn pass_struct(&mut self, alloc: Global, program: &Program, names: u32)
+    pub(crate) fn pass_struct(&mut self, alloc: Global, program: &Program, doomed: Doomed)
         requires short { length program.now.code.now < 2 ^ 32 }
         requires code { (decls : List Decl) × IsCodeOf decls program.now.code.now program.now.entries.now }
-        requires doomed { IsDoomed program.now.code.now names self.old }
+        requires doomed { IsDoomed program.now.code.now doomed self.old }
         requires halts { (steps : ℕ) × Halting program.now.code.now program.now.entries.now (subject_of program.now.record) self.old.room steps (shown self.old) }
         requires address { self.old.address < 2 ^ 32 }
         requires placed { Placed (length program.now.record.bytes.now) self.old }
@@ -246,9 +257,9 @@ impl State {
     {
         let origin = program.record.origin;
         let place = self.mark().place;
-        self.close(origin, names);
+        self.close(origin, doomed.names);
         self.end();
         self.last = Reading::leaf(alloc, origin, Val::Unit, place, place);
-        self.address += 1;
+        self.address = doomed.end + 1;
     }
 }

@@ -7,25 +7,24 @@ ghost use Rattle.pads_calc.specs.declared.reading.Reading.{Reading};
 ghost use Rattle.pads_image.specs.Answers.{HaltsWith};
 ghost use Rattle.pads_image.specs.Code.{IsCodeOf};
 ghost use Rattle.pads_machine.specs.Held.{Held, Placed, Roomy};
-ghost use Rattle.pads_machine.specs.Known.{AreCounted, HasOutcome, IsSpare, Knows, outcome_of};
+ghost use Rattle.pads_machine.specs.Known.{AreCounted, HasRead, IsSpare, Knows, outcome_with};
 ghost use Rattle.pads_machine.specs.Ran.{Halting, labels_stand};
-ghost use Rattle.pads_machine.specs.declared.known.Outcome.{Outcome as OutcomeOf};
 ghost use Rattle.pads_machine.specs.declared.learning.Tried.TheVariants as tried;
 ghost use Rattle.pads_machine.specs.Shown.{shown};
 ghost use Rattle.pads_steps.specs.Records.{subject_of};
 
+use crate::constraint::holds;
 use crate::known::{Call, Fact, Known, Outcome};
+use crate::machine::INSIDE;
 use crate::searches::Past;
 use crate::state::State;
 use crate::step::Next;
+use pads_dispatch::copy_args;
 use pads_idle::{Program, at, entry_at};
 use pads_image::needs_inside;
 use pads_value::{Class, Memory};
 use std::alloc::Global;
 use std::mem;
-
-/// How deep calls may be nested inside the declaration of a record.
-const INSIDE: u8 = 127;
 
 /// How many calls are tried to learn of one.
 const TRIES: usize = 1_048_576;
@@ -48,9 +47,10 @@ fn largest(numbers: &[u64]) -> u64
 }
 
 /// What came of a call that was tried.
-#[derive(Clone, Copy)]
+#[derive(Drop)]
 enum Tried {
-    Reads(Outcome),
+    /// It was read to its end.
+    Ends,
     /// This call is to be known first.
     Asks(Call),
 }
@@ -74,7 +74,7 @@ impl State {
         requires held { Held self.old }
         requires code { (decls : List Decl) × IsCodeOf decls program.now.code.now program.now.entries.now }
         requires knows { Knows program.now.code.now program.now.entries.now (subject_of program.now.record) known.now }
-        ensures ran { IfOk result (λ found. (r : Reading) → HaltsWith program.now.code.now program.now.entries.now (subject_of program.now.record) self.old.room (shown self.old) r → (outcome : OutcomeOf) → found ≡ Some (tried.Reads outcome) → outcome ≡ outcome_of r) }
+        ensures ran { IfOk result (λ found. (r : Reading) → HaltsWith program.now.code.now program.now.entries.now (subject_of program.now.record) self.old.room (shown self.old) r → found ≡ Some tried.Ends → self.new.last ≡ r) }
         ensures roomy { Roomy self.old.room self.new }
     {
         let mut past = Past::new(alloc);
@@ -82,22 +82,25 @@ impl State {
             let Some(op) = at(program.code, self.address) else {
                 return Ok(None);
             };
-            match self.advance(alloc, program, known, asking, op)? {
+            match self.try_step(alloc, program, known, asking, op)? {
                 Next::Goes => {}
                 Next::Searches => self.leap(alloc, program, &mut past),
-                Next::Halts => return Ok(Some(Tried::Reads(self.outcome()))),
-                Next::Asks(call) => return Ok(Some(Tried::Asks(call))),
+                Next::Halts => return Ok(Some(Tried::Ends)),
+                Next::Asks => {
+                    let asked = self.asked(alloc, program, known)?;
+                    return Ok(asked.map(Tried::Asks));
+                }
             }
         }
         Ok(None)
     }
 
-    /// What was read last, in short.
-    fn outcome(&self) -> Outcome
-        ensures outcome { result ≡ outcome_of self.now.last }
+    /// What was read last of a call, with its constraint, in short.
+    fn outcome(&self, program: &Program, call: &Call) -> Outcome
+        ensures outcome { result ≡ outcome_with program.now.code.now call.now.constraint self.now.last }
     {
         Outcome {
-            clean: self.last.is_ok(),
+            clean: self.last.is_ok() && holds(&call.constraint, program.code, &self.last.value),
             failed: self.last.pd.class == Class::Fail,
             place: self.last.place,
         }
@@ -111,7 +114,7 @@ fn try_call(
     program: &Program,
     spare: &mut State,
     known: &Known,
-    call: Call,
+    call: &Call,
     asking: bool,
     most: u64,
 ) -> Result<Option<Tried>, Memory>
@@ -120,10 +123,10 @@ fn try_call(
     requires code { (decls : List Decl) × IsCodeOf decls program.now.code.now program.now.entries.now }
     requires knows { Knows program.now.code.now program.now.entries.now (subject_of program.now.record) known.now }
     requires spare { IsSpare program.now.code.now program.now.entries.now spare.old }
-    ensures outcome { IfOk result (λ found. (outcome : OutcomeOf) → found ≡ Some (tried.Reads outcome) → HasOutcome program.now.code.now program.now.entries.now (subject_of program.now.record) call outcome) }
+    ensures read { IfOk result (λ found. found ≡ Some tried.Ends → HasRead program.now.code.now program.now.entries.now (subject_of program.now.record) call.now spare.new) }
     ensures spare { OnOk result (IsSpare program.now.code.now program.now.entries.now spare.new) }
 {
-    if call.depth == 0 || call.depth > INSIDE + 1 {
+    if call.depth > INSIDE {
         return Ok(None);
     }
     if call.place > program.record.bytes.len() as u64 {
@@ -132,14 +135,9 @@ fn try_call(
     let Some(entry) = entry_at(program.entries, call.number) else {
         return Ok(None);
     };
+    let args = copy_args(alloc, call.args.as_slice())?;
     let origin = program.record.origin;
-    spare.start(
-        alloc,
-        origin,
-        entry.first as usize,
-        call.depth - 1,
-        call.place,
-    );
+    spare.start_call(alloc, origin, entry, args, call.depth, call.place);
     spare.try_run(alloc, program, known, asking, most)
 }
 
@@ -162,18 +160,20 @@ fn learn_over(
     let mut wanted = Vec::new(alloc);
     wanted.push(call)?;
     'tries: for attempt in 0..TRIES {
-        let [.., latest] = wanted.as_slice() else {
+        let Some(call) = wanted.pop() else {
             return Ok(());
         };
-        let call = *latest;
-        let Some(tried) = try_call(alloc, program, spare, known, call, true, MOST)? else {
+        let Some(tried) = try_call(alloc, program, spare, known, &call, true, MOST)? else {
             return Ok(());
         };
         match tried {
-            Tried::Asks(inner) => wanted.push(inner)?,
-            Tried::Reads(outcome) => {
+            Tried::Asks(inner) => {
+                wanted.push(call)?;
+                wanted.push(inner)?;
+            }
+            Tried::Ends => {
+                let outcome = spare.outcome(program, &call);
                 known.keep(alloc, Fact { call, outcome });
-                wanted.pop();
             }
         }
     }
@@ -208,8 +208,9 @@ fn learn_soon(
     ensures spare { OnOk result (IsSpare program.now.code.now program.now.entries.now spare.new) }
     ensures quiet { IfOk result (λ quiet. 0 < quiet) }
 {
-    if let Some(tried) = try_call(alloc, program, spare, known, call, false, FEW)? {
-        if let Tried::Reads(outcome) = tried {
+    if let Some(tried) = try_call(alloc, program, spare, known, &call, false, FEW)? {
+        if let Tried::Ends = tried {
+            let outcome = spare.outcome(program, &call);
             known.keep(alloc, Fact { call, outcome });
             return Ok(FEW);
         }
@@ -218,14 +219,14 @@ fn learn_soon(
     Ok(1)
 }
 
-/// Learns what a call reads as, and what calls in it do that are asked for, and tells for how many steps nothing is
-/// to be asked then. The other stacks for that are made where there are none yet.
+/// Learns what a call reads as, if there is one, and what calls in it do that are asked for, and tells for how many
+/// steps nothing is to be asked then. The other stacks for that are made where there are none yet.
 pub(crate) fn learn(
     alloc: Global,
     program: &Program,
     spare: &mut Option<State>,
     known: &mut Known,
-    call: Call,
+    call: Option<Call>,
 ) -> Result<u64, Memory>
     requires short { length program.now.code.now < 2 ^ 32 }
     requires counted { AreCounted program.now.code.now program.now.entries.now }
@@ -237,6 +238,9 @@ pub(crate) fn learn(
     ensures spare { OnOk result (ForSome spare.new (IsSpare program.now.code.now program.now.entries.now)) }
     ensures quiet { IfOk result (λ quiet. 0 < quiet) }
 {
+    let Some(call) = call else {
+        return Ok(1);
+    };
     let mut state = match mem::replace(spare, None) {
         Some(state) => state,
         None => spare_for(alloc, program)?,

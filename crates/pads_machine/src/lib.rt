@@ -5,6 +5,7 @@ mod arrays;
 mod between;
 mod bindings;
 mod choices;
+mod constraint;
 mod doomed;
 mod known;
 mod learning;

@@ -17,7 +17,7 @@ use std::alloc::Global;
 use std::marker::Model;
 
 /// How deep calls may be nested inside the declaration of a record.
-const INSIDE: u8 = 127;
+pub(crate) const INSIDE: u8 = 127;
 
 /// A machine that reads records by images. Its stacks don't grow.
 ///

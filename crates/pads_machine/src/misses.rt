@@ -6,14 +6,14 @@ ghost use Rattle.pads_image.specs.Beginnings.{begins_with};
 ghost use Rattle.pads_image.specs.Code.{IsCodeOf};
 ghost use Rattle.pads_image.specs.declared.op.Op.TheVariants as instruction;
 ghost use Rattle.pads_machine.specs.Held.{Held, Placed, Roomy};
-ghost use Rattle.pads_machine.specs.Missing.{BeginsWith, IsHopeless, IsMissing, IsTry};
+ghost use Rattle.pads_machine.specs.Missing.{BeginsWith, EndsBranch, IsHopeless, IsMissing, IsTry};
 ghost use Rattle.pads_machine.specs.Ran.{Halting, Leads};
 ghost use Rattle.pads_machine.specs.Shown.{shown};
 ghost use Rattle.pads_steps.specs.Records.{subject_of};
 
 use crate::state::State;
 use pads_calc::Reading;
-use pads_idle::{Program, at, entry_at};
+use pads_idle::{Program, at, behind_guard, entry_at};
 use pads_image::{Entry, Op};
 use pads_value::Val;
 use std::alloc::Global;
@@ -67,36 +67,43 @@ fn is_missing(program: &Program, alloc: Global, number: u16, place: u64) -> bool
 }
 
 /// Whether a branch ends at an address.
-pub(crate) fn tries(code: &[Op], address: usize) -> bool
+fn tries(code: &[Op], address: usize) -> bool
     ensures tries { IsTrue result → IsTry code.now address }
 {
     matches!(at(code, address), Some(Op::Try(_, _)))
 }
 
+/// The address where a branch ends of which no more is left from an address on but its constraint, if it has one.
+pub(crate) fn branch_end(code: &[Op], address: usize) -> Option<usize>
+    requires address { address < 2 ^ 35 }
+    ensures end { IfSome result (λ end. EndsBranch code.now address end) }
+{
+    let end = behind_guard(code, address);
+    if !tries(code, end) {
+        return None;
+    }
+    Some(end)
+}
+
 impl State {
-    /// Whether the call at the address is a branch that can't be clean.
+    /// Whether a call at the address can't be clean.
     pub(crate) fn is_hopeless(&self, alloc: Global, program: &Program, number: u16) -> bool
-        requires address { self.now.address < 2 ^ 32 }
         requires placed { Placed (length program.now.record.bytes.now) self.now }
         ensures hopeless { IsTrue result → IsHopeless program.now.code.now program.now.entries.now (subject_of program.now.record) number self.now }
     {
-        if !tries(program.code, self.address + 1) {
-            return false;
-        }
-        if self.marks.len() == 0 {
-            return false;
-        }
         if self.bindings.len() < self.base() {
             return false;
         }
         is_missing(program, alloc, number, self.last.place)
     }
 
-    /// Leaves a branch that can't be clean, over the steps that would read it and find so.
-    pub(crate) fn pass_branch(&mut self, alloc: Global, program: &Program, number: u16)
+    /// Leaves a branch that is a call which can't be clean, over the steps that would read it and find so.
+    pub(crate) fn pass_branch(&mut self, alloc: Global, program: &Program, number: u16, end: usize)
         requires code { (decls : List Decl) × IsCodeOf decls program.now.code.now program.now.entries.now }
         requires there { (args : List Expr) × (slice_get program.now.code.now self.old.address ≡ Some (instruction.Call number args)) }
         requires hopeless { IsHopeless program.now.code.now program.now.entries.now (subject_of program.now.record) number self.old }
+        requires marked { 0 < length self.old.marks.items }
+        requires end { EndsBranch program.now.code.now (self.old.address + 1) end }
         requires halts { (steps : ℕ) × Halting program.now.code.now program.now.entries.now (subject_of program.now.record) self.old.room steps (shown self.old) }
         requires address { self.old.address < 2 ^ 32 }
         requires placed { Placed (length program.now.record.bytes.now) self.old }
@@ -109,6 +116,6 @@ impl State {
     {
         let place = self.mark().place;
         self.last = Reading::leaf(alloc, program.record.origin, Val::Unit, place, place);
-        self.address += 2;
+        self.address = end + 1;
     }
 }

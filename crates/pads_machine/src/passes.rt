@@ -13,6 +13,7 @@ ghost use Rattle.pads_machine.specs.Shown.{shown};
 ghost use Rattle.pads_steps.specs.Records.{subject_of};
 
 use crate::known::Known;
+use crate::misses::branch_end;
 use crate::state::State;
 use crate::step::Next;
 use pads_calc::{Base, Reading};
@@ -207,22 +208,24 @@ impl State {
         if self.marks.len() == 0 {
             return self.one(alloc, program, op);
         }
-        if self.is_hopeless(alloc, program, number) {
-            self.pass_branch(alloc, program, number);
-            return Ok(Next::Goes);
-        }
-        if let Some(call) = self.branch_call(program, known, number, args) {
-            match known.outcome(call) {
-                Some(outcome) if !outcome.clean => {
-                    self.pass_call(alloc, program, call, outcome);
-                    return Ok(Next::Goes);
+        if let Some(end) = branch_end(program.code, self.address + 1) {
+            if self.is_hopeless(alloc, program, number) {
+                self.pass_branch(alloc, program, number, end);
+                return Ok(Next::Goes);
+            }
+            if let Some(call) = self.branch_call(alloc, program, known, end)? {
+                match known.outcome(&call) {
+                    Some(outcome) if !outcome.clean => {
+                        self.pass_call(alloc, program, &call, outcome, end);
+                        return Ok(Next::Goes);
+                    }
+                    None if asking => return Ok(Next::Asks),
+                    _ => {}
                 }
-                None if asking => return Ok(Next::Asks(call)),
-                _ => {}
             }
         }
-        if let Some(names) = self.doomed_names(program) {
-            self.pass_struct(alloc, program, names);
+        if let Some(doomed) = self.doomed(program) {
+            self.pass_struct(alloc, program, doomed);
             return Ok(Next::Goes);
         }
         self.one(alloc, program, op)
@@ -262,15 +265,51 @@ impl State {
         if let Some(end) = self.stalls_at(program) {
             return self.pass_turn(alloc, program, end);
         }
-        if let Some(call) = self.turn_call(program, known) {
-            if asking && known.outcome(call).is_none() {
-                return Ok(Next::Asks(call));
+        if let Some(call) = self.call_at(alloc, program, self.address + 1)? {
+            if asking && known.outcome(&call).is_none() {
+                return Ok(Next::Asks);
             }
-            if let Some(end) = self.stalls_by(program, known, call) {
+            if let Some(end) = self.stalls_by(program, known, &call) {
                 return self.pass_turn(alloc, program, end);
             }
         }
         self.one(alloc, program, op)
+    }
+
+    /// One instruction of a run that is tried, at once where it is a call or the beginning of a turn. So that the
+    /// loop of all others stays one piece of code, this is another one.
+    pub(crate) fn try_step(
+        &mut self,
+        alloc: Global,
+        program: &Program,
+        known: &Known,
+        asking: bool,
+        op: &Op,
+    ) -> Result<Next, Memory>
+        requires short { length program.now.code.now < 2 ^ 32 }
+        requires there { slice_get program.now.code.now self.old.address ≡ Some op.now }
+        requires labels { labels_stand op.now ≡ true }
+        requires address { self.old.address < 2 ^ 32 }
+        requires placed { Placed (length program.now.record.bytes.now) self.old }
+        requires within { GoesWithin self.old.room (does program.now.entries.now (subject_of program.now.record) op.now (shown self.old)) }
+        requires roomy { Roomy self.old.room self.old }
+        requires held { Held self.old }
+        requires code { (decls : List Decl) × IsCodeOf decls program.now.code.now program.now.entries.now }
+        requires halts { (steps : ℕ) × Halting program.now.code.now program.now.entries.now (subject_of program.now.record) self.old.room steps (shown self.old) }
+        requires knows { Knows program.now.code.now program.now.entries.now (subject_of program.now.record) known.now }
+        ensures advance { IfOk result (λ next. Advances program.now.code.now program.now.entries.now (subject_of program.now.record) self.old.room next (shown self.old) (shown self.new)) }
+        ensures asking { IfOk result (λ next. asking ≡ false → AsksNothing next) }
+        ensures placed { OnOk result (Placed (length program.now.record.bytes.now) self.new) }
+        ensures held { OnOk result (Held self.new) }
+        ensures roomy { Roomy self.old.room self.new }
+    {
+        match op {
+            Op::Call(number, args) => {
+                self.advance_call(alloc, program, known, asking, op, *number, args.as_slice())
+            }
+            Op::Turn(_) => self.advance_turn(alloc, program, known, asking, op),
+            _ => self.one(alloc, program, op),
+        }
     }
 
     /// One instruction, or several at once. Where it may ask, it may ask what a call reads as.

@@ -12,8 +12,8 @@ ghost use Rattle.pads_idle.specs.Idle.{HasValues, IdlesTo};
 ghost use Rattle.pads_machine.specs.Held.{Held, Placed, Roomy};
 ghost use Rattle.pads_machine.specs.Ran.{Advances, AsksNothing, Halting};
 ghost use Rattle.pads_machine.specs.Shown.{shown};
-ghost use Rattle.pads_machine.specs.Known.{Knows};
-ghost use Rattle.pads_machine.specs.Stalled.{IsNext, IsStalled, IsStanding};
+ghost use Rattle.pads_machine.specs.Known.{IsCall, Knows};
+ghost use Rattle.pads_machine.specs.Stalled.{IsStalled, IsStanding};
 ghost use Rattle.pads_steps.specs.Records.{subject_of};
 
 use crate::known::{Call, Known};
@@ -31,19 +31,6 @@ fn end_at(code: &[Op], address: usize) -> Option<u32>
 {
     match at(code, address) {
         Some(Op::Elem(end, _)) => Some(*end),
-        _ => None,
-    }
-}
-
-/// The declaration that is called at an address without arguments.
-fn bare_call_at(code: &[Op], address: usize) -> Option<u16>
-    ensures call { IfSome result (λ number. slice_get code.now address ≡ Some (instruction.Call number [])) }
-{
-    match at(code, address) {
-        Some(Op::Call(number, args)) => match args.as_slice() {
-            [] => Some(*number),
-            _ => None,
-        },
         _ => None,
     }
 }
@@ -187,32 +174,12 @@ impl State {
         Some(end)
     }
 
-    /// The call without arguments behind the turn that begins here, if such a call is open that begins at the same
-    /// place, or there was one before.
-    pub(crate) fn turn_call(&self, program: &Program, known: &Known) -> Option<Call>
-        requires address { self.now.address < 2 ^ 32 }
-        ensures next { IfSome result (λ call. IsNext program.now.code.now call self.now) }
-    {
-        if self.depth == 0 || self.bindings.len() < self.base() {
-            return None;
-        }
-        let number = bare_call_at(program.code, self.address + 1)?;
-        if !known.is_used() && !self.is_open_here(number) {
-            return None;
-        }
-        Some(Call {
-            number,
-            depth: self.depth,
-            place: self.last.place,
-        })
-    }
-
     /// The address where the latest array ends, if the call behind the turn that begins here is known to take no
     /// byte and not to fail.
-    pub(crate) fn stalls_by(&self, program: &Program, known: &Known, call: Call) -> Option<u32>
+    pub(crate) fn stalls_by(&self, program: &Program, known: &Known, call: &Call) -> Option<u32>
         requires standing { IsStanding self.now }
         requires address { self.now.address < 2 ^ 32 }
-        requires next { IsNext program.now.code.now call self.now }
+        requires call { IsCall program.now.code.now (self.now.address + 1) call.now self.now }
         requires knows { Knows program.now.code.now program.now.entries.now (subject_of program.now.record) known.now }
         ensures stalled { IfSome result (λ to. IsStalled program.now.code.now program.now.entries.now (subject_of program.now.record) to self.now) }
     {

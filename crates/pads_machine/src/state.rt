@@ -1,5 +1,6 @@
 //! Where the machine stands: an address, what was read last, and its stacks.
-ghost use Rattle.std.specs.Prelude.{◌≡◌, ℕ, ◌+◌, ◌-◌, ◌<◌, ◌≤◌, ◌^◌, [], length, reverse, vec_len, IfOk, OnOk};
+ghost use Rattle.std.specs.Prelude.{◌≡◌, ℕ, ◌+◌, ◌-◌, ◌<◌, ◌≤◌, ◌^◌, [], length, min, reverse, vec_len, IfOk, OnOk};
+ghost use Rattle.pads_calc.specs.Arguments.{bound_to};
 ghost use Rattle.pads_calc.specs.Leaves.{unit_of};
 ghost use Rattle.pads_image.specs.Blocks.{bindings_of};
 ghost use Rattle.pads_image.specs.States.{base_of, entries, floor_of, seen as seen_of};
@@ -86,6 +87,7 @@ impl State {
         requires place { place ≤ 2 ^ 62 }
         requires roomy { Roomy self.old.room self.old }
         ensures placed { (most : ℕ) → place ≤ most → Placed most self.new }
+        ensures empty { (self.new.bindings.items ≡ []) × (self.new.homes.items ≡ []) × (self.new.nodes.items ≡ []) }
         ensures start { shown self.new ≡ record { at_ = address; last = unit_of origin place; depth = depth; bindings = []; nodes = []; marks = []; callers = [] } }
         ensures held { Held self.new }
         ensures roomy { Roomy self.old.room self.new }
@@ -98,6 +100,34 @@ impl State {
         self.nodes.clear();
         self.marks.clear();
         self.callers.clear();
+    }
+
+    /// Stands where a declaration with arguments begins, at a place of a record, where calls may be nested so deep in it.
+    pub(crate) fn start_call(
+        &mut self,
+        alloc: Global,
+        origin: u64,
+        entry: &Entry,
+        args: Args,
+        depth: u8,
+        place: u64,
+    )
+        requires origin { origin ≤ 2 ^ 62 }
+        requires place { place ≤ 2 ^ 62 }
+        requires room { min (length entry.now.params) (length args) ≤ self.old.room }
+        requires roomy { Roomy self.old.room self.old }
+        ensures placed { (most : ℕ) → place ≤ most → Placed most self.new }
+        ensures start { shown self.new ≡ record { at_ = entry.now.first; last = unit_of origin place; depth = depth; bindings = bound_to entry.now.params args []; nodes = []; marks = []; callers = [] } }
+        ensures held { Held self.new }
+        ensures roomy { Roomy self.old.room self.new }
+    {
+        self.start(alloc, origin, entry.first as usize, depth, place);
+        bind(
+            &mut self.bindings,
+            &mut self.homes,
+            entry.params.as_slice(),
+            args,
+        );
     }
 
     /// How many bindings are below those of the latest call.

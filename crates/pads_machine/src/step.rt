@@ -21,7 +21,7 @@ ghost use Rattle.pads_machine.specs.Known.{AreCounted};
 ghost use Rattle.pads_machine.specs.Ran.{GoesWithin, Halting, StaysPlaced, Tells, is_leaf, is_of_array, labels_stand};
 ghost use Rattle.pads_machine.specs.Shown.{shown};
 
-use crate::known::{Call, Known};
+use crate::known::Known;
 use crate::learning::learn;
 use crate::searches::Past;
 use crate::state::State;
@@ -41,7 +41,7 @@ pub(crate) enum Next {
     Searches,
     Halts,
     /// Nothing was done: it is to be known first what a call reads.
-    Asks(Call),
+    Asks,
 }
 
 impl State {
@@ -347,7 +347,8 @@ impl State {
                     quiet = quiet.saturating_sub(1);
                 }
                 Next::Halts => return Ok(()),
-                Next::Asks(call) => {
+                Next::Asks => {
+                    let call = self.asked(alloc, program, &known)?;
                     quiet = learn(alloc, program, &mut spare, &mut known, call)?;
                 }
             }

@@ -33,10 +33,10 @@ returns-clause-leads c =
     let missing = hopeless.missing in
     let halts = c.requires.halts in
     let sized : length s.bindings ≡ length m.bindings.items = length-reverse m.bindings.items in
-    let led = branch-leads code entries subject m.room c.requires.code.0 c.requires.code.1 s c.args.number c.requires.there.0 missing.1.0 missing.0 hopeless.tries.0 hopeless.tries.1
-    (mark_shown mark) (map mark_shown (drop 1 (reverse m.marks.items))) halts.1.0 c.requires.there.1 missing.1.1 missing.1.2 missing.2 hopeless.tries.2 (marks-are m mark c.mark-place.ensures.mark)
-    (omega (arith, sized, hopeless.sane)) (floor-held m c.requires.held) c.requires.placed.last halts.1.1 in
-    subst (λ (r : Reading). Leads code entries subject m.room s (record s { at_ = m.address + 2; last = r })) (sym c.leaf.ensures.leaf) led
+    let led = branch-leads code entries subject m.room c.requires.code.0 c.requires.code.1 s c.args.number c.requires.there.0 missing.1.0 missing.0
+    (mark_shown mark) (map mark_shown (drop 1 (reverse m.marks.items))) c.args.end halts.1.0 c.requires.there.1 missing.1.1 missing.1.2 missing.2 (marks-are m mark c.mark-place.ensures.mark)
+    c.requires.end (omega (arith, sized, hopeless.sane)) (floor-held m c.requires.held) c.requires.placed.last halts.1.1 in
+    subst (λ (r : Reading). Leads code entries subject m.room s (record s { at_ = c.args.end + 1; last = r })) (sym c.leaf.ensures.leaf) led
 
 pub returns-clause-placed : goal.returns-clause-placed
 returns-clause-placed c =

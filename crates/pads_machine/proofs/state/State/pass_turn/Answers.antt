@@ -13,9 +13,10 @@ use Rattle.pads_image.specs.Steps.{Step, does}
 use Rattle.pads_machine.specs.declared.state.State.{State}
 use Rattle.pads_machine.specs.Ran.{GoesWithin, Tells}
 use Rattle.pads_machine.specs.Shown.{shown}
+use Rattle.pads_machine.proofs.Fitting.{room-there}
 use Rattle.pads_machine.proofs.Passing.{asks-nothing}
 use Rattle.pads_machine.specs.Stalled.{TakesNone}
-use Rattle.pads_machine.proofs.Undone.{Element, idle-element, known-element, room-there, shut-within, stall-advances}
+use Rattle.pads_machine.proofs.Undone.{Element, idle-element, known-element, shut-within, stall-advances}
 use Rattle.pads_machine.proofs.Tops.{below_top, nodes-are, nodes-first, top_shown}
 use Rattle.pads_machine.proofs.state.State.pass_turn.Goals as goal
 
@@ -27,7 +28,7 @@ taken code of_entries subject most m n nodes behind decls is alone within (inl i
 taken code of_entries subject most m n nodes behind decls is alone within (inr known) =
     let next = known.0.2 in
     subst (λ (behind : ℕ). Element code of_entries subject most (shown m) n nodes behind) (sym known.1)
-    (known-element code of_entries subject most (shown m) n nodes decls is known.0.0 known.0.1 next.there next.depth next.place
+    (known-element code of_entries subject most (shown m) n nodes decls is known.0.0 next.args known.0.1 next.there next.worth next.depth next.place
     (omega (arith, next.sane, length-reverse m.bindings.items)) alone within known.0.3 known.0.4 known.0.5)
 
 pub step-requires-clause-within : goal.step-requires-clause-within

@@ -187,7 +187,7 @@ run-smaller g c =
     let t = shown c.advance.new.self in
     let same = subst (λ (n : Next). Advances code entries subject c.run.self.room n s t) c.in-Asks.is c.in_ok-advance.ensures.advance in
     let left = ap (λ (s : State). steps_left code entries subject room g.steps s) same in
-    omega (arith, left, asked (c.run.quiet == 0) _ c.in-Asks.call c.in-Asks.is c.in_ok-advance.ensures.asking, quiet-then _ c.in_ok-quiet-in-Asks.ensures.quiet)
+    omega (arith, left, asked (c.run.quiet == 0) _ c.in-Asks.is c.in_ok-advance.ensures.asking, quiet-then _ c.in_ok-quiet-in-Asks.ensures.quiet)
 
 pub run-preserved : goal.run-preserved
 run-preserved g c =

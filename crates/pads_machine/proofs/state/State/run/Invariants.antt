@@ -1,4 +1,4 @@
-use Rattle.std.proofs.Common.{ℕ, ◌+◌, length}
+use Rattle.std.proofs.Common.{◌+◌, length}
 use Rattle.std.specs.Bool.{◌==◌}
 use Rattle.std.specs.Option.{ForSome}
 use Rattle.pads_calc.specs.declared.reading.Reading.{Reading}

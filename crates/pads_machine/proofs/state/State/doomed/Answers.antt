@@ -1,7 +1,7 @@
 use Rattle.std.proofs.Common.{sym, ap, ◌∙◌, refl, arith}
 use Rattle.std.proofs.lemmas.Bool.Decides.{nat_tests}
 use Rattle.pads_value.specs.Header.{all_clean}
-use Rattle.pads_machine.proofs.state.State.doomed_names.Goals as goal
+use Rattle.pads_machine.proofs.state.State.doomed.Goals as goal
 
 pub returns-in-Ok : goal.returns-in-Ok
 returns-in-Ok c =
@@ -24,7 +24,7 @@ returns-in-Ok c =
         names_are = omega (arith, named, left, all, bindings);
         caller = c.caller-caller.result;
         called = c.caller-caller.ensures.caller;
-        tries = c.if-not-tries.ensures.tries refl;
+        ends = c.in_ok-end.ensures.end;
         marked = grind (arith, nat_tests);
         sane = grind (arith, nat_tests);
       };
