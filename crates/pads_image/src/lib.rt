@@ -6,8 +6,6 @@ mod image;
 mod keeping;
 mod need;
 mod op;
-#[cfg(test)]
-mod tests;
 
 pub use entry::{Entries, Entry};
 pub use image::Image;

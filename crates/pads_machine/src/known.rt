@@ -1,5 +1,5 @@
-//! What is known of calls in a record: what a call of a declaration that begins where one of the same declaration
-//! is open reads as, in short. It says sooner what a run would come to, and changes nothing that is read.
+//! What is known of calls in a record: what a call that may be made again reads as, in short. It says sooner what a run
+//! would come to, and changes nothing that is read.
 ghost use Rattle.std.specs.Prelude.{◌≡◌, All, IfOk, IfSome, IsTrue, List};
 ghost use Rattle.pads_calc.specs.Readings.{Subject};
 ghost use Rattle.pads_image.specs.declared.entry.Entry.{Entry as Declared};

@@ -20,7 +20,5 @@ mod searches;
 mod stalls;
 mod state;
 mod step;
-#[cfg(test)]
-mod tests;
 
 pub use machine::Machine;

@@ -21,12 +21,12 @@ use pads_steps::arguments_in;
 use pads_value::{Memory, Val};
 use std::alloc::Global;
 
-/// How many calls may be open that begin at one place before branches are remembered whatever they are calls of.
-const NESTED: usize = 12;
+/// How many branches, turns and searches may be open before branches are remembered whatever they are calls of.
+const NESTED: usize = 16;
 
 impl State {
     /// Whether a call of a declaration is open that begins at this place.
-    pub(crate) fn is_open_here(&self, number: u16) -> bool {
+    fn is_open_here(&self, number: u16) -> bool {
         let place = self.last.place;
         self.callers
             .iter()
@@ -64,19 +64,15 @@ impl State {
         }))
     }
 
-    /// Whether so many calls are open that begin at this place that a branch may be made again and again.
-    fn is_nested_here(&self) -> bool {
-        let place = self.last.place;
-        match self.callers.iter().rev().nth(NESTED) {
-            Some(caller) => caller.place == place,
-            None => false,
-        }
+    /// Whether so much is open that may be read again that a branch may be made again and again.
+    fn is_nested(&self) -> bool {
+        self.marks.len() > NESTED
     }
 
     /// Whether the call at the address may be made again: one of its declaration is open that begins at the same place,
-    /// many are open there, or a fact was kept.
+    /// many branches are open, or a fact was kept.
     fn recurs(&self, program: &Program, known: &Known) -> bool {
-        if known.is_used() || self.is_nested_here() {
+        if known.is_used() || self.is_nested() {
             return true;
         }
         match at(program.code, self.address) {
