@@ -1,5 +1,5 @@
 -- A scope with one more variable, or one more value that is lent.
-use Rattle.std.proofs.Common.{◌≡◌, ◌∙◌, sym, ap, List, ◌∷◌, reverse, ℕ, ℤ, to_z, of_z, FitsSigned, Bor}
+use Rattle.std.proofs.Common.{◌≡◌, ◌∙◌, sym, ap, ◌∷◌, reverse, ℕ, ℤ, to_z, of_z, FitsSigned, Bor}
 use Rattle.std.proofs.lemmas.Int.{to_z-of_z}
 use Rattle.std.specs.Int.{w128}
 use Rattle.pads_value.specs.declared.value.Val.{Val}

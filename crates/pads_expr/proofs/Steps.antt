@@ -1,5 +1,5 @@
 -- The equations of the value, form by form, and what is told of them.
-use Rattle.std.proofs.Common.{◌≡◌, ◌∙◌, sym, ap, refl, ℕ, ℤ, List, Bool, false, Option, Some, None}
+use Rattle.std.proofs.Common.{◌≡◌, ◌∙◌, sym, ap, refl, ℕ, ℤ, List, Bool, false, Some, None}
 use Rattle.pads_expr.specs.declared.expr.BinOp.{BinOp}
 use Rattle.pads_expr.specs.declared.expr.Expr.{Expr, Expr-F, fold-roll-Expr, fold_out-Expr, roll-Expr, out-Expr, map-Expr}
 use Rattle.pads_expr.specs.declared.expr.Expr.TheVariants as expr
@@ -78,12 +78,9 @@ pub told-between : (op : BinOp) (left right : Answer) (a b : Worth) → Some a �
 told-between op left right a b some_left undecided some_right =
     told-on-some left _ a some_left ∙ rw undecided (told-on-some right (operate op a) b some_right)
 
--- the same of an operator between two expressions
-pub operated : (e left right : Expr) (op : BinOp) (env : Pairs) (l r : Expr) (a b : Worth) (outcome : Option Worth) → e ≡ expr.Bin op left right →
-    l ≡ left → Some a ≡ worth_or_none (value l env) → decides op a ≡ false → r ≡ right → Some b ≡ worth_or_none (value r env) → outcome ≡ worth_or_none (operate op a b) →
-    outcome ≡ worth_or_none (value e env)
-operated e left right op env l r a b outcome is_bin is_l some_a undecided is_r some_b is_outcome =
-    rw (is_bin, value-Bin op left right env, ← is_l, ← is_r)
-    (is_outcome ∙ sym (told-between op (value l env) (value r env) a b some_a undecided some_b))
+-- the same of an expression that is an operator
+pub of_operands : (e left right l r : Expr) (op : BinOp) (env : Pairs) → e ≡ expr.Bin op left right → l ≡ left → r ≡ right →
+    between op (value l env) (value r env) ≡ value e env
+of_operands e left right l r op env is_bin is_l is_r = rw (is_bin, value-Bin op left right env, is_l, is_r) refl
 
 pub ruleset values = (value-Num, value-Text, value-Truth, value-Var, value-Part, value-Arm, value-Elem, value-IsArm, value-Len, value-Neg, value-Not, value-Bin, value-Forall, told-on-none, told-on-some, told-between)

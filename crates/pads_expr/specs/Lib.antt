@@ -5,5 +5,6 @@ pub mod Parts
 pub mod Ranges
 pub mod Scopes
 pub mod Seen
+pub mod Unary
 pub mod Value
 pub mod Worth

@@ -1,13 +1,26 @@
-ghost use Rattle.std.specs.Prelude.{◌≡◌, option_map};
+ghost use Rattle.std.specs.Prelude.{◌≡◌, ◌↔◌, IsSome, IsTrue, option_map};
+ghost use Rattle.std.specs.declared.cmp.Ordering.{Ordering};
 ghost use Rattle.pads_expr.specs.Operators.{holds, on_numbers, on_texts, on_truths, operate, decides};
 ghost use Rattle.pads_expr.specs.Worth.{worth_or_none, number_or_absent, truth_or_ill};
 ghost use Rattle.pads_expr.specs.Seen.{seen};
+ghost use Rattle.pads_expr.specs.Unary.{operate_one};
 
 use crate::{BinOp, Res, numbers};
 use std::cmp::Ordering;
 
+/// An operator on one operand.
+#[derive(Clone, Copy)]
+pub(crate) enum Unary {
+    Part(u16),
+    Arm(u16),
+    IsArm(u16),
+    Len,
+    Neg,
+    Not,
+}
+
 /// What a comparison says of two things in that order; `None` for an operator that compares nothing.
-fn holds_for(op: BinOp, order: Ordering) -> Option<bool>
+pub(crate) fn holds_for(op: BinOp, order: Ordering) -> Option<bool>
     ensures comparison { result ≡ holds op order }
 {
     match op {
@@ -19,6 +32,17 @@ fn holds_for(op: BinOp, order: Ordering) -> Option<bool>
         BinOp::Ge => Some(order.is_ge()),
         BinOp::Or | BinOp::And => None,
         BinOp::Add | BinOp::Sub | BinOp::Mul | BinOp::Div | BinOp::Rem => None,
+    }
+}
+
+/// Whether an operator is a comparison.
+pub(crate) fn compares(op: BinOp) -> bool
+    ensures compares { (order : Ordering) → IsTrue result ↔ IsSome (holds op order) }
+{
+    match op {
+        BinOp::Eq | BinOp::Ne | BinOp::Lt | BinOp::Le | BinOp::Gt | BinOp::Ge => true,
+        BinOp::Or | BinOp::And => false,
+        BinOp::Add | BinOp::Sub | BinOp::Mul | BinOp::Div | BinOp::Rem => false,
     }
 }
 
@@ -90,5 +114,19 @@ pub(crate) fn is_decided(op: BinOp, left: Res) -> bool
         (BinOp::And, Res::Truth(left)) => !left,
         (BinOp::Or, Res::Truth(left)) => left,
         _ => false,
+    }
+}
+
+/// An operator on what its operand is worth.
+pub(crate) fn apply_one<'a>(op: Unary, operand: Res<'a>) -> Option<Res<'a>>
+    ensures value { option_map seen result ≡ worth_or_none (operate_one op (seen operand.entry)) }
+{
+    match op {
+        Unary::Part(number) => operand.part(number),
+        Unary::Arm(number) => operand.arm(number),
+        Unary::IsArm(number) => operand.is_arm(number),
+        Unary::Len => operand.length(),
+        Unary::Neg => operand.minus(),
+        Unary::Not => operand.negation(),
     }
 }

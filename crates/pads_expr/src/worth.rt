@@ -33,3 +33,20 @@ pub(crate) fn truth_alone<'a>(worth: Option<Res<'a>>) -> Option<Res<'a>>
         _ => None,
     }
 }
+
+/// The truth value that an expression is worth; any other worth is none.
+pub(crate) fn truth_of(worth: Option<Res>) -> Option<bool>
+    ensures truth { option_map answer.Truth result ≡ answer.truth_alone (option_map seen worth.entry) }
+{
+    match worth {
+        Some(Res::Truth(truth)) => Some(truth),
+        _ => None,
+    }
+}
+
+/// A truth value as what an expression is worth.
+pub(crate) fn truth<'a>(truth: Option<bool>) -> Option<Res<'a>>
+    ensures truth { option_map seen result ≡ option_map answer.Truth truth }
+{
+    Some(Res::Truth(truth?))
+}
