@@ -5,5 +5,6 @@ pub mod Members
 pub mod NodeSteps
 pub mod Quiet
 pub mod Rising
+pub mod SameNames
 pub mod Texts
 pub mod Written

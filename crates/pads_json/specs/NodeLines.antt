@@ -39,6 +39,11 @@ parts_in (Term-F.Compute e form) = []
 parts_in (Term-F.Absorb inner) = []
 parts_in (Term-F.Scan inner) = []
 
+-- the parts that a form has
+abbrev pub parts_formed : Option Form → List Part
+parts_formed None = []
+parts_formed (Some form) = parts_in (out-Term form.term)
+
 -- the term of an array's elements
 abbrev pub element_in : Term-F Term Arm Case Part Seq → Option Term
 element_in Term-F.Unit = None

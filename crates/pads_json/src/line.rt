@@ -8,6 +8,7 @@ ghost use Rattle.pads_json.specs.Lines.{class_name as class_name_of, body_of, ex
 
 use crate::faults::{is_quiet, write_faults, write_own_at_point};
 use crate::number::{write_count, write_span};
+use crate::orders::{KeyedTerms, LineKeys};
 use crate::place::Place;
 use crate::value::write_value;
 use pads_calc::{DEEPEST, Shape, Term};
@@ -147,15 +148,15 @@ fn write_counts(out: &mut Bytes, row: &Row) -> Result<(), Memory>
 
 /// Writes the object of a row whose body is known.
 fn write_object<'m>(
-    terms: &Terms<'m>,
+    terms: &KeyedTerms<'m>,
     alloc: Global,
     out: &mut Bytes,
     row: &'m Row,
     body: &'m Term,
 ) -> Result<(), Memory>
-    ensures row { OnOk result (out.new ≡ out.old ++ compact_text (row_data terms.now.decls.now terms.now.names.now body.now row.now)) }
+    ensures row { OnOk result (out.new ≡ out.old ++ compact_text (row_data terms.now.bare.decls.now terms.now.bare.names.now body.now row.now)) }
 {
-    write_head(terms, out, row, body)?;
+    write_head(&terms.bare, out, row, body)?;
     write_counts(out, row)?;
     out.extend_from_slice(br#","value":"#)?;
     write_value(terms, alloc, out, &row.value, DEPTH, body)?;
@@ -164,34 +165,30 @@ fn write_object<'m>(
 
 /// Writes the line of a row whose body is known.
 fn write_row<'m>(
-    terms: &Terms<'m>,
+    terms: &KeyedTerms<'m>,
     alloc: Global,
     out: &mut Bytes,
     row: &'m Row,
     body: &'m Term,
 ) -> Result<(), Memory>
-    ensures row { OnOk result (out.new ≡ out.old ++ (compact_text (row_data terms.now.decls.now terms.now.names.now body.now row.now) ++ 10 ∷ [])) }
+    ensures row { OnOk result (out.new ≡ out.old ++ (compact_text (row_data terms.now.bare.decls.now terms.now.bare.names.now body.now row.now) ++ 10 ∷ [])) }
 {
     write_object(terms, alloc, out, row, body)?;
     out.push(b'\n')
 }
 
 /// Writes the line of a row, by the declarations, the names and the shape of its module.
-fn write_line(
+pub(crate) fn write_line(
     alloc: Global,
-    terms: &Terms<'_>,
+    terms: &KeyedTerms<'_>,
     out: &mut Bytes,
     shape: Shape,
     row: &Row,
 ) -> Result<(), Memory>
-    ensures line { OnOk result (out.new ≡ out.old ++ line_told terms.now.decls.now terms.now.names.now shape row.now) }
+    ensures line { OnOk result (out.new ≡ out.old ++ line_told terms.now.bare.decls.now terms.now.bare.names.now shape row.now) }
 {
     let body = body(alloc, shape, row.number);
-    let terms = Terms {
-        decls: &*terms.decls,
-        names: &*terms.names,
-    };
-    write_row(&terms, alloc, out, &*row, &body)
+    write_row(&terms.lent(), alloc, out, &*row, &body)
 }
 
 /// Bytes without any, with room for most lines.
@@ -201,29 +198,12 @@ pub(crate) fn room(alloc: Global) -> Result<Bytes, Memory>
     Ok(Items::from_vec(Vec::with_capacity(alloc, ROOM)?))
 }
 
-/// The line of a row, by the declarations, the names and the shape of its module.
-pub(crate) fn line(
-    alloc: Global,
-    terms: &Terms<'_>,
-    shape: Shape,
-    row: &Row,
-) -> Result<Bytes, Memory>
-    ensures line { IfOk result (λ line. line ≡ line_told terms.now.decls.now terms.now.names.now shape row.now) }
-{
-    let mut line = room(alloc)?;
-    write_line(alloc, terms, &mut line, shape, row)?;
-    Ok(line)
-}
-
-/// The line that tells of a record: an object of its class, its faults, their number, the offset at which
-/// the reading of its value ended, its number, its extent and its value, and a newline. The only refusal
-/// is want of memory.
+/// The line that tells of a record. The only refusal is want of memory.
 pub fn record_line(alloc: Global, description: &Module, row: &Row) -> Result<Bytes, Memory>
     ensures line { IfOk result (λ line. line ≡ row_line description.now row.now) }
 {
-    let terms = Terms {
-        decls: &description.decls,
-        names: &description.names,
-    };
-    line(alloc, &terms, description.shape, row)
+    let keys = LineKeys::new(alloc, description)?;
+    let mut line = room(alloc)?;
+    keys.write_record(alloc, description, &mut line, row)?;
+    Ok(line)
 }

@@ -11,6 +11,7 @@ ghost use Rattle.pads_json.specs.NodeLines.{at_depth, node_data, node_head, node
 
 use crate::line::{DEPTH, class_name, room, write_member};
 use crate::number::{write_null, write_span};
+use crate::orders::{KeyedTerms, LineKeys};
 use crate::value::write_value;
 use pads_calc::Term;
 use pads_forms::{Form, Terms, arm_at, form_at};
@@ -82,15 +83,15 @@ fn reached<'m>(terms: &Terms<'m>, body: &'m Term, steps: &[Step]) -> Option<Form
 /// Writes the value of a node.
 fn write_node_value<'m>(
     alloc: Global,
-    terms: &Terms<'m>,
+    terms: &KeyedTerms<'m>,
     out: &mut Bytes,
     steps: &[Step],
     body: &'m Term,
     value: &Val,
 ) -> Result<(), Memory>
-    ensures written { OnOk result (out.new ≡ out.old ++ compact_text (node_shown terms.now.decls.now terms.now.names.now steps.now body.now value.now)) }
+    ensures written { OnOk result (out.new ≡ out.old ++ compact_text (node_shown terms.now.bare.decls.now terms.now.bare.names.now steps.now body.now value.now)) }
 {
-    match reached(terms, body, steps) {
+    match reached(&terms.bare, body, steps) {
         None => write_null(out),
         Some(here) => write_value(terms, alloc, out, value, here.depth, here.term),
     }
@@ -111,7 +112,7 @@ fn write_node_head(out: &mut Bytes, record_number: u64, pd: &Pd) -> Result<(), M
 /// Writes the object of a node by its body.
 fn write_node<'m>(
     alloc: Global,
-    terms: &Terms<'m>,
+    terms: &KeyedTerms<'m>,
     out: &mut Bytes,
     steps: &[Step],
     body: &'m Term,
@@ -119,7 +120,7 @@ fn write_node<'m>(
     value: &Val,
     pd: &Pd,
 ) -> Result<(), Memory>
-    ensures node { OnOk result (out.new ≡ out.old ++ compact_text (node_data record_number pd.now (node_shown terms.now.decls.now terms.now.names.now steps.now body.now value.now))) }
+    ensures node { OnOk result (out.new ≡ out.old ++ compact_text (node_data record_number pd.now (node_shown terms.now.bare.decls.now terms.now.bare.names.now steps.now body.now value.now))) }
 {
     write_node_head(out, record_number, pd)?;
     out.extend_from_slice(br#","value":"#)?;
@@ -135,9 +136,9 @@ fn record_body(alloc: Global, each: u16) -> Term
 }
 
 /// Writes the line of a node.
-fn write_node_line(
+pub(crate) fn write_node_line(
     alloc: Global,
-    terms: &Terms<'_>,
+    terms: &KeyedTerms<'_>,
     out: &mut Bytes,
     each: u16,
     steps: &[Step],
@@ -145,20 +146,23 @@ fn write_node_line(
     value: &Val,
     pd: &Pd,
 ) -> Result<(), Memory>
-    ensures line { OnOk result (out.new ≡ out.old ++ node_told terms.now.decls.now terms.now.names.now each steps.now record_number value.now pd.now) }
+    ensures line { OnOk result (out.new ≡ out.old ++ node_told terms.now.bare.decls.now terms.now.bare.names.now each steps.now record_number value.now pd.now) }
 {
     let body = record_body(alloc, each);
-    let terms = Terms {
-        decls: &*terms.decls,
-        names: &*terms.names,
-    };
-    write_node(alloc, &terms, out, steps, &body, record_number, value, pd)?;
+    write_node(
+        alloc,
+        &terms.lent(),
+        out,
+        steps,
+        &body,
+        record_number,
+        value,
+        pd,
+    )?;
     out.push(b'\n')
 }
 
-/// The line that tells of a node of a path: an object of its class, the number of its faults, its record's number, its
-/// extent and its value, and a newline. The value is shown by the term to which the steps lead from the body of the
-/// module's record type. The only refusal is want of memory.
+/// The line that tells of a node of a path. The only refusal is want of memory.
 pub fn node_line(
     alloc: Global,
     description: &Module,
@@ -169,18 +173,12 @@ pub fn node_line(
 ) -> Result<Bytes, Memory>
     ensures line { IfOk result (λ line. line ≡ node_lines.node_text description.now steps.now record_number value.now pd.now) }
 {
-    let terms = Terms {
-        decls: &description.decls,
-        names: &description.names,
-    };
+    let keys = LineKeys::new(alloc, description)?;
     let mut line = room(alloc)?;
-    let each = description.shape.each;
-    let steps = steps.as_slice();
-    write_node_line(
+    keys.write_node(
         alloc,
-        &terms,
+        description,
         &mut line,
-        each,
         steps,
         record_number,
         value,

@@ -1,17 +1,19 @@
-ghost use Rattle.std.specs.Prelude.{◌≡◌, ◌≤◌, ◌++◌, length, encode_utf8_all, OnOk};
+ghost use Rattle.std.specs.Prelude.{◌≡◌, ◌≤◌, ◌++◌, length, OnOk};
 ghost use Rattle.pads_calc.specs.declared.term.Term.{out-Term};
+ghost use Rattle.pads_forms.specs.Forms.{called};
 ghost use Rattle.serde_json.specs.Data.{object};
 ghost use Rattle.serde_json.specs.Written.{compact_text, comma_if};
-ghost use Rattle.pads_json.specs.Members.{members_at, numbers_of, part_told, key_text};
+ghost use Rattle.pads_json.specs.Members.{members_at, numbers_of, part_told};
 ghost use Rattle.pads_json.specs.Values.{shown, number_told, text_told, base_told, address_told, label_told, computed_told, term_told, struct_told, parts_told, branch_told, array_told, elements_told};
 
 use crate::number::{write_integer, write_null};
-use crate::order::{name_of, put_in_order};
-use crate::text::{write_points, write_quoted};
+use crate::order::{key_of, put_in_order};
+use crate::orders::KeyedTerms;
+use crate::text::write_quoted;
 use pads_bases::{Labels, spell_ip};
 use pads_calc::{Base, ComputedForm, Part, Term};
 use pads_code::Coding;
-use pads_forms::{Terms, arm_at, form_at, name_at};
+use pads_forms::{arm_at, form_at};
 use pads_value::{Bytes, Memory, Val};
 use std::alloc::Global;
 
@@ -95,55 +97,63 @@ fn write_comma(out: &mut Bytes, later: bool) -> Result<(), Memory>
     if later { out.push(b',') } else { Ok(()) }
 }
 
-/// Writes the key of a member with its colon, behind a comma where members stand before.
-fn write_key(out: &mut Bytes, later: bool, name: &[u8]) -> Result<(), Memory>
-    ensures written { OnOk result (out.new ≡ out.old ++ key_text later (encode_utf8_all name.now)) }
+/// The declaration that a term calls, if it is a call.
+fn called_in(term: &Term) -> Option<u16>
+    ensures called { result ≡ called (out-Term term.now) }
 {
-    if later {
-        out.extend_from_slice(br#",""#)?;
-    } else {
-        out.push(b'"')?;
+    match term {
+        Term::Call(declaration, _) => Some(*declaration),
+        _ => None,
     }
-    write_points(out, name)?;
-    out.extend_from_slice(br#"":"#)
 }
 
 /// Writes a value of a term, where calls may be nested so deep.
 #[tactic(auto, using(crate::proofs::Layers::shown_out))]
 #[cycle(value)]
 pub(crate) fn write_value<'m>(
-    terms: &Terms<'m>,
+    terms: &KeyedTerms<'m>,
     alloc: Global,
     out: &mut Bytes,
     val: &Val,
     depth: u64,
     term: &'m Term,
 ) -> Result<(), Memory>
-    ensures written { OnOk result (out.new ≡ out.old ++ compact_text (shown terms.now.decls.now terms.now.names.now val.now depth term.now)) }
+    ensures written { OnOk result (out.new ≡ out.old ++ compact_text (shown terms.now.bare.decls.now terms.now.keys.now val.now depth term.now)) }
 {
-    match form_at(terms, false, depth, term) {
+    match form_at(&terms.bare, false, depth, term) {
         None => write_null(out),
-        Some(form) => write_form(terms, alloc, out, val, form.depth, form.term),
+        Some(form) => write_form(
+            terms,
+            alloc,
+            out,
+            val,
+            form.depth,
+            form.term,
+            called_in(term),
+        ),
     }
 }
 
-/// Writes a value of a term that isn't passed through.
+/// Writes a value of a term that isn't passed through, to which a declaration may lead.
 #[tactic(auto, using(pads_forms::proofs::Shapes::num_mapped, pads_forms::proofs::Shapes::text_mapped, pads_forms::proofs::Shapes::label_mapped))]
 #[cycle(value)]
 fn write_form<'m>(
-    terms: &Terms<'m>,
+    terms: &KeyedTerms<'m>,
     alloc: Global,
     out: &mut Bytes,
     val: &Val,
     depth: u64,
     term: &'m Term,
+    declaration: Option<u16>,
 ) -> Result<(), Memory>
-    ensures written { OnOk result (out.new ≡ out.old ++ compact_text (term_told terms.now.decls.now terms.now.names.now depth (out-Term term.now) val.now)) }
+    ensures written { OnOk result (out.new ≡ out.old ++ compact_text (term_told terms.now.bare.decls.now terms.now.keys.now depth (out-Term term.now) val.now)) }
 {
     match term {
         Term::Base(base, _) => write_base(out, base, val),
         Term::Compute(_, form) => write_computed(out, *form, val),
-        Term::Struct(parts) => write_struct(terms, alloc, out, val, depth, parts.as_slice()),
+        Term::Struct(parts) => {
+            write_struct(terms, alloc, out, val, depth, parts.as_slice(), declaration)
+        }
         Term::Alt(_) | Term::Switch(_, _) => write_branch(terms, alloc, out, val, depth, term),
         Term::Seq(seq) => write_array(terms, alloc, out, val, depth, &seq.get().elem),
         _ => write_null(out),
@@ -153,19 +163,28 @@ fn write_form<'m>(
 #[inline(never)]
 #[cycle(value)]
 fn write_struct<'m>(
-    terms: &Terms<'m>,
+    terms: &KeyedTerms<'m>,
     alloc: Global,
     out: &mut Bytes,
     val: &Val,
     depth: u64,
     parts: &'m [Part],
+    declaration: Option<u16>,
 ) -> Result<(), Memory>
-    ensures written { OnOk result (out.new ≡ out.old ++ compact_text (struct_told terms.now.decls.now terms.now.names.now depth parts.now val.now)) }
+    ensures written { OnOk result (out.new ≡ out.old ++ compact_text (struct_told terms.now.bare.decls.now terms.now.keys.now depth parts.now val.now)) }
 {
     match val {
         Val::Tuple(values) => {
             if values.as_slice().len() == parts.len() {
-                write_parts(terms, alloc, out, values.as_slice(), depth, parts)
+                write_parts(
+                    terms,
+                    alloc,
+                    out,
+                    values.as_slice(),
+                    depth,
+                    parts,
+                    declaration,
+                )
             } else {
                 write_null(out)
             }
@@ -177,7 +196,28 @@ fn write_struct<'m>(
 /// Writes the object of the named parts, in the order of their keys.
 #[cycle(value)]
 fn write_parts<'m>(
-    terms: &Terms<'m>,
+    terms: &KeyedTerms<'m>,
+    alloc: Global,
+    out: &mut Bytes,
+    values: &[Val],
+    depth: u64,
+    parts: &'m [Part],
+    declaration: Option<u16>,
+) -> Result<(), Memory>
+    requires counts { length values.now ≡ length parts.now }
+    ensures written { OnOk result (out.new ≡ out.old ++ compact_text (parts_told terms.now.bare.decls.now terms.now.keys.now depth parts.now values.now)) }
+{
+    match terms.keys.find(declaration, parts) {
+        Some(numbers) => write_members(terms, alloc, out, values, depth, parts, numbers),
+        None => write_other_parts(terms, alloc, out, values, depth, parts),
+    }
+}
+
+/// The same of parts whose order isn't known.
+#[inline(never)]
+#[cycle(value)]
+fn write_other_parts<'m>(
+    terms: &KeyedTerms<'m>,
     alloc: Global,
     out: &mut Bytes,
     values: &[Val],
@@ -185,7 +225,7 @@ fn write_parts<'m>(
     parts: &'m [Part],
 ) -> Result<(), Memory>
     requires counts { length values.now ≡ length parts.now }
-    ensures written { OnOk result (out.new ≡ out.old ++ compact_text (parts_told terms.now.decls.now terms.now.names.now depth parts.now values.now)) }
+    ensures written { OnOk result (out.new ≡ out.old ++ compact_text (parts_told terms.now.bare.decls.now terms.now.keys.now depth parts.now values.now)) }
 {
     if parts.len() <= FEW {
         let mut order = [0; FEW];
@@ -206,7 +246,7 @@ fn write_parts<'m>(
 /// The same, where `order` has room for the numbers of all parts.
 #[cycle(value)]
 fn write_in_order<'m>(
-    terms: &Terms<'m>,
+    terms: &KeyedTerms<'m>,
     alloc: Global,
     out: &mut Bytes,
     values: &[Val],
@@ -216,16 +256,16 @@ fn write_in_order<'m>(
 ) -> Result<(), Memory>
     requires counts { length values.now ≡ length parts.now }
     requires room { length parts.now ≤ length order.old }
-    ensures written { OnOk result (out.new ≡ out.old ++ compact_text (parts_told terms.now.decls.now terms.now.names.now depth parts.now values.now)) }
+    ensures written { OnOk result (out.new ≡ out.old ++ compact_text (parts_told terms.now.bare.decls.now terms.now.keys.now depth parts.now values.now)) }
 {
-    let count = put_in_order(terms, parts, order);
+    let count = put_in_order(terms.keys.keys(), parts, order);
     write_members(terms, alloc, out, values, depth, parts, &order[..count])
 }
 
 /// Writes the object of the parts of some numbers, in their order.
 #[cycle(value)]
 fn write_members<'m>(
-    terms: &Terms<'m>,
+    terms: &KeyedTerms<'m>,
     alloc: Global,
     out: &mut Bytes,
     values: &[Val],
@@ -233,12 +273,12 @@ fn write_members<'m>(
     parts: &'m [Part],
     numbers: &[usize],
 ) -> Result<(), Memory>
-    ensures written { OnOk result (out.new ≡ out.old ++ compact_text (object (members_at (part_told terms.now.decls.now terms.now.names.now depth parts.now values.now) (numbers_of terms.now.names.now parts.now numbers.now)))) }
+    ensures written { OnOk result (out.new ≡ out.old ++ compact_text (object (members_at (part_told terms.now.bare.decls.now terms.now.keys.now depth parts.now values.now) (numbers_of terms.now.keys.now parts.now numbers.now)))) }
 {
     out.push(b'{')?;
     let mut later = false;
     'members: for number in numbers {
-        write_key(out, later, name_of(terms, parts, *number))?;
+        key_of(terms.keys.keys(), parts, *number).write(out, later)?;
         write_part(terms, alloc, out, values, depth, parts, *number)?;
         later = true;
     }
@@ -248,7 +288,7 @@ fn write_members<'m>(
 /// Writes the value of the part of a number.
 #[cycle(value)]
 fn write_part<'m>(
-    terms: &Terms<'m>,
+    terms: &KeyedTerms<'m>,
     alloc: Global,
     out: &mut Bytes,
     values: &[Val],
@@ -256,7 +296,7 @@ fn write_part<'m>(
     parts: &'m [Part],
     number: usize,
 ) -> Result<(), Memory>
-    ensures written { OnOk result (out.new ≡ out.old ++ compact_text (part_told terms.now.decls.now terms.now.names.now depth parts.now values.now number)) }
+    ensures written { OnOk result (out.new ≡ out.old ++ compact_text (part_told terms.now.bare.decls.now terms.now.keys.now depth parts.now values.now number)) }
 {
     match parts.get(number) {
         None => write_null(out),
@@ -270,20 +310,20 @@ fn write_part<'m>(
 /// Writes the object of a branch, under the branch's name.
 #[cycle(value)]
 fn write_branch<'m>(
-    terms: &Terms<'m>,
+    terms: &KeyedTerms<'m>,
     alloc: Global,
     out: &mut Bytes,
     val: &Val,
     depth: u64,
     term: &'m Term,
 ) -> Result<(), Memory>
-    ensures written { OnOk result (out.new ≡ out.old ++ compact_text (branch_told terms.now.decls.now terms.now.names.now depth (out-Term term.now) val.now)) }
+    ensures written { OnOk result (out.new ≡ out.old ++ compact_text (branch_told terms.now.bare.decls.now terms.now.keys.now depth (out-Term term.now) val.now)) }
 {
     match val {
         Val::Branch(number, inner) => match arm_at(term, *number) {
             Some(arm) => {
                 out.push(b'{')?;
-                write_key(out, false, name_at(terms, arm.name))?;
+                terms.keys.keys().get(arm.name).write(out, false)?;
                 write_value(terms, alloc, out, inner.get(), depth, &arm.term)?;
                 out.push(b'}')
             }
@@ -295,14 +335,14 @@ fn write_branch<'m>(
 
 #[cycle(value)]
 fn write_array<'m>(
-    terms: &Terms<'m>,
+    terms: &KeyedTerms<'m>,
     alloc: Global,
     out: &mut Bytes,
     val: &Val,
     depth: u64,
     elem: &'m Term,
 ) -> Result<(), Memory>
-    ensures written { OnOk result (out.new ≡ out.old ++ compact_text (array_told terms.now.decls.now terms.now.names.now depth elem.now val.now)) }
+    ensures written { OnOk result (out.new ≡ out.old ++ compact_text (array_told terms.now.bare.decls.now terms.now.keys.now depth elem.now val.now)) }
 {
     match val {
         Val::Array(elements) => write_elements(terms, alloc, out, elements.as_slice(), depth, elem),
@@ -312,14 +352,14 @@ fn write_array<'m>(
 
 #[cycle(value)]
 fn write_elements<'m>(
-    terms: &Terms<'m>,
+    terms: &KeyedTerms<'m>,
     alloc: Global,
     out: &mut Bytes,
     values: &[Val],
     depth: u64,
     elem: &'m Term,
 ) -> Result<(), Memory>
-    ensures written { OnOk result (out.new ≡ out.old ++ compact_text (elements_told terms.now.decls.now terms.now.names.now depth elem.now values.now)) }
+    ensures written { OnOk result (out.new ≡ out.old ++ compact_text (elements_told terms.now.bare.decls.now terms.now.keys.now depth elem.now values.now)) }
 {
     out.push(b'[')?;
     let mut later = false;

@@ -23,6 +23,7 @@ use Rattle.pads_dispatch.proofs.base.Arg.TheSendSync as argument
 use Rattle.pads_dispatch.proofs.base.Base.TheSendSync as base
 use Rattle.pads_erase.proofs.skeleton.Skeleton.TheLaws.TheKnot as skeleton
 use Rattle.pads_expr.proofs.expr.Expr.TheLaws.TheKnot as expr
+use Rattle.pads_json.proofs.orders.LineKeys.TheSendSync as keys
 use Rattle.pads_module.specs.contracts.module.Module as Description
 use Rattle.pads_value.proofs.cause.Cause.TheSendSync as cause
 use Rattle.pads_value.proofs.items.Items.TheSendSync as items
@@ -63,7 +64,7 @@ op_sync : IsSync Op.the_row
 op_sync = recorded_sync (Op.the_field).row _ _ (Op.the_type).to_one variants_sync
 
 pub lines_sync : IsSync Lines.the_row
-lines_sync = search (op_sync, decl_sync, names.the_sync, shape.the_sync, items.the_sync, crosses, skeleton.crosses, sendable) depth 60 fits 20000
+lines_sync = search (keys.the_sync, op_sync, decl_sync, names.the_sync, shape.the_sync, items.the_sync, crosses, skeleton.crosses, sendable) depth 60 fits 20000
 
 pub prints_sync : IsSync Prints.the_row
 prints_sync = search (op_sync, decl_sync, names.the_sync, shape.the_sync, items.the_sync, crosses, skeleton.crosses, sendable) depth 60 fits 20000
@@ -72,7 +73,7 @@ pub tests_sync : IsSync Tests.the_row
 tests_sync = search (op_sync, decl_sync, names.the_sync, shape.the_sync, items.the_sync, crosses, skeleton.crosses, sendable) depth 60 fits 20000
 
 pub answers_sync : IsSync Answers.the_row
-answers_sync = search (op_sync, decl_sync, names.the_sync, shape.the_sync, items.the_sync, crosses, skeleton.crosses, expr.crosses, sendable) depth 60 fits 20000
+answers_sync = search (keys.the_sync, op_sync, decl_sync, names.the_sync, shape.the_sync, items.the_sync, crosses, skeleton.crosses, expr.crosses, sendable) depth 60 fits 20000
 
 pub sums_sync : IsSync Sums.the_row
 sums_sync = search (op_sync, decl_sync, names.the_sync, shape.the_sync, items.the_sync, crosses, skeleton.crosses, summary.the_sync, sendable) depth 60 fits 20000

@@ -18,7 +18,7 @@ use crate::unused::unused;
 use pads_drive::{Command, Gate, Limit, Output, drive};
 use pads_erase::Mask;
 use pads_io::{Files, Sink, Source};
-use pads_json::record_line;
+use pads_json::LineKeys;
 use pads_machine::Machine;
 use pads_orders::{Cutting, Settings};
 use pads_value::{Frame, Memory, Refusal, Row};
@@ -29,6 +29,8 @@ use std::thread::Threads;
 #[derive(Drop)]
 pub(crate) struct Lines {
     pub(crate) reader: Reader,
+    pub(crate) keys: LineKeys,
+    pub(crate) ghost known: { keys ≡ reader.module.names },
 }
 
 impl Command for Lines {
@@ -79,10 +81,11 @@ impl Command for Lines {
         output: &mut Output,
         share: &mut bool,
     ) -> Result<(), Refusal<Limit>> {
-        let Ok(line) = record_line(alloc, &self.reader.module, row) else {
-            return Err(Refusal::Memory);
-        };
-        let Ok(()) = output.out.extend_from_slice(line.as_slice()) else {
+        let description = &self.reader.module;
+        let Ok(()) = self
+            .keys
+            .write_record(alloc, description, &mut output.out, row)
+        else {
             return Err(Refusal::Memory);
         };
         *share = are_clean(*share, row);
@@ -157,7 +160,13 @@ pub(crate) fn parse<R: Threads + Sync, F: Files, S: Source, K: Sink, G: Gate + S
     ensures source_kept { result ≢ ending.ReadFault → result ≢ ending.WriteFault → result ≢ ending.Memory → S.faults source.new ≡ S.faults source.old }
 {
     match read_under(alloc, files, name, settings.coding, mask, settings.scan) {
-        Ok(reader) => write_lines(rt, alloc, &Lines { reader }, settings, source, out, gate),
+        Ok(reader) => match LineKeys::new(alloc, &reader.module) {
+            Ok(keys) => {
+                let command = Lines { reader, keys };
+                write_lines(rt, alloc, &command, settings, source, out, gate)
+            }
+            Err(_) => Ending::Memory,
+        },
         Err(ending) => ending,
     }
 }

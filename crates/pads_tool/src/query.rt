@@ -21,7 +21,7 @@ use pads_drive::{Command, Gate, Limit, Output, drive};
 use pads_erase::Mask;
 use pads_expr::Expr;
 use pads_io::{Files, Sink, Source};
-use pads_json::node_line;
+use pads_json::LineKeys;
 use pads_machine::Machine;
 use pads_nodes::Cursor;
 use pads_orders::{Cutting, Question, Settings};
@@ -35,6 +35,8 @@ use std::thread::Threads;
 pub(crate) struct Answers {
     pub(crate) reader: Reader,
     pub(crate) asked: Asked,
+    pub(crate) keys: LineKeys,
+    pub(crate) ghost known: { keys ≡ reader.module.names },
 }
 
 impl Command for Answers {
@@ -130,15 +132,12 @@ fn put_lines(
 {
     'nodes: while let Some((value, pd)) = cursor.next() {
         if is_kept(&command.asked.filter, value, pd) {
-            let line = node_line(
-                alloc,
-                &command.reader.module,
-                &command.asked.steps,
-                number,
-                value,
-                pd,
-            )?;
-            output.out.extend_from_slice(line.as_slice())?;
+            let description = &command.reader.module;
+            let steps = &command.asked.steps;
+            let out = &mut output.out;
+            command
+                .keys
+                .write_node(alloc, description, out, steps, number, value, pd)?;
         }
     }
     Ok(())

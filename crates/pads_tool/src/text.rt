@@ -27,6 +27,7 @@ use pads_compile::{LONGEST, image_length};
 use pads_describe::Verdict;
 use pads_erase::{Mask, Mode};
 use pads_io::Files;
+use pads_json::LineKeys;
 use pads_mask::mask_module;
 use pads_module::Module;
 use pads_orders::Question;
@@ -235,9 +236,17 @@ fn asked_by(
         Ok(asked) => asked,
         Err(ending) => return Err(ending),
     };
-    match Reader::bounded(alloc, made, scan) {
-        Ok(reader) => Ok(Answers { reader, asked }),
-        Err(ending) => Err(ending),
+    let reader = match Reader::bounded(alloc, made, scan) {
+        Ok(reader) => reader,
+        Err(ending) => return Err(ending),
+    };
+    match LineKeys::new(alloc, &reader.module) {
+        Ok(keys) => Ok(Answers {
+            reader,
+            asked,
+            keys,
+        }),
+        Err(_) => Err(Ending::Memory),
     }
 }
 

@@ -1,9 +1,10 @@
-//! `record_line` of values and descriptors that no reading gives.
+//! `record_line` of values and descriptors that no reading gives, and `node_line`.
 use crate::pieces::{Made, boxed, leaf, node, one, row, two};
 use pads_code::Coding;
 use pads_describe::describe;
-use pads_json::record_line;
+use pads_json::{node_line, record_line};
 use pads_module::Module;
+use pads_nodes::Step;
 use pads_value::{Bytes, Cause, Pd, Val};
 use std::alloc::Global;
 use std::test::Fail;
@@ -117,5 +118,29 @@ fn a_kid_of_a_number(rt: HostRuntime) -> Result<(), Fail> {
     let wanted = br#"{"class":"Err","faults":[],"nerr":1,"next":9,"record":2,"span":[4,9],"value":7}
 "#;
     assert_eq!(rt; line.as_slice(), wanted.as_slice());
+    Ok(())
+}
+
+/// The line of a struct's last part, and that of one which the struct doesn't have.
+#[test]
+fn a_line_of_a_node(rt: HostRuntime) -> Result<(), Fail> {
+    let alloc = rt.alloc();
+    let text = b"Precord Pstruct r { Puint64 a; ','; Puint64 b; };";
+    let module = describe(alloc, text, Coding::Ascii)?;
+    for (part, wanted) in [
+        (
+            2,
+            "{\"class\":\"Ok\",\"nerr\":0,\"record\":5,\"span\":[6,9],\"value\":712}\n",
+        ),
+        (
+            3,
+            "{\"class\":\"Ok\",\"nerr\":0,\"record\":5,\"span\":[6,9],\"value\":null}\n",
+        ),
+    ] {
+        let steps = one(alloc, Ok(Step::Part(part)))?;
+        let pd = leaf(alloc, None, 6, 9)?;
+        let line = node_line(alloc, &module, &steps, 5, &Val::Num(712), &pd)?;
+        assert_eq!(rt; line.as_slice(), wanted.as_bytes());
+    }
     Ok(())
 }

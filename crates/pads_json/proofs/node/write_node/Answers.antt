@@ -8,6 +8,6 @@ pub returns : goal.returns
 returns c =
     record {
       node = on_ok_weaker c.push.result (λ e. e ∙ node_written c.args.record_number c.args.pd.now
-          (node_shown c.args.terms.now.decls.now c.args.terms.now.names.now c.args.steps.now c.args.body.now c.args.value.now) c.args.out.now _ _ _
+          (node_shown c.args.terms.now.bare.decls.now c.args.terms.now.bare.names.now c.args.steps.now c.args.body.now c.args.value.now) c.args.out.now _ _ _
           c.in_ok-write_node_head.ensures.head c.in_ok-extend_from_slice.ensures.ok c.in_ok-write_node_value.ensures.written) c.push.ensures.ok;
     }

@@ -9,8 +9,8 @@ use Rattle.pads_tool.proofs.Promises.{reading-read, reading-stopped}
 use Rattle.pads_tool.proofs.Unread.{reading-reaches}
 use Rattle.pads_tool.proofs.parse.parse.Goals as goal
 
-pub returns-in-Ok : goal.returns-in-Ok
-returns-in-Ok g c = record {
+pub returns-in-Ok-new : goal.returns-in-Ok-new
+returns-in-Ok-new g c = record {
   gives = λ noted notes. reading-read (λ d. lines d.made) (g.S.Source.left c.args.source.now) (g.S.Source.left c.write_lines.new.source)
       (g.K.Sink.written c.args.out.now) (g.K.Sink.written c.write_lines.new.out) noted noted (masking c.args.settings.now.coding c.args.mask.now c.args.settings.now.scan) false c.args.name.now c.args.settings.now.cutting (g.F.Files.content c.args.files.now)
       (g.F.Files.faults c.args.files.now) (g.F.Files.faults c.read_under.new.files) (g.S.Source.faults c.args.source.now)
@@ -28,6 +28,9 @@ returns-in-Ok g c = record {
   out_kept = c.write_lines.ensures.out_kept;
   source_kept = c.write_lines.ensures.source_kept;
 }
+
+pub returns-in-Err-new-clause-calls : goal.returns-in-Err-new-clause-calls
+returns-in-Err-new-clause-calls g c = (true, true, stays)
 
 pub returns-in-Err : goal.returns-in-Err
 returns-in-Err g c = record {
