@@ -35,8 +35,8 @@ def asked(program, example, path):
 
 def differing(program, example):
     """How many paths there are, and those whose lines differ."""
-    rows = list(reader.rows(example.description.read_text(), example.file.read_bytes(), example.options))
-    module = rows[-1].module
+    module = reader.module_of(example.description.read_text(), example.options)
+    rows = list(reader.rows(module, example.file.read_bytes(), example.options))
     paths = ['$' + path for path in paths_below(module, (False, module.decls[rows[-1].each]['name'], []), DEEPEST)]
     want = {path: ''.join(f'{line}\n' for row in rows for line in queries.queried(row, path, None)) for path in paths}
     return len(paths), [path for path in paths if asked(program, example, path) != want[path]]

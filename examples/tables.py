@@ -288,8 +288,10 @@ class Parser:
 # Terms: tuples, each with its form first. Expressions too.
 
 class Translation:
-    def __init__(self, text, coding):
-        self.decls, self.coding, self.names = Parser(text).description(), coding, []
+    """The terms of a description. A mode is that of a declaration under a mask: what is checked, and what is kept."""
+
+    def __init__(self, text, coding, mode=lambda name: 'both'):
+        self.decls, self.coding, self.names, self.mode = Parser(text).description(), coding, [], mode
         self.numbers = {decl['name']: at for at, decl in enumerate(self.decls)}
         self.terms = [self.declared(decl) for decl in self.decls]
         records = [at for at, decl in enumerate(self.decls) if decl['role'] == 'Precord']
@@ -330,8 +332,12 @@ class Translation:
         inner = self.numbers.get(decl['of'][1])
         return inner is not None and self.decls[inner]['role'] == 'Precord'
 
+    def keeps(self, number):
+        return self.mode(self.decls[number]['name']) in ('both', 'set')
+
     def declared(self, decl):
         self.meet(decl['name'])
+        self.checks = self.mode(decl['name']) in ('both', 'check')
         scope = {}
         for of, name in decl['params']:
             self.meet(name)
@@ -370,7 +376,8 @@ class Translation:
         if e is None:
             return inner
         self.meet(name)
-        return ('Guard', inner, name, self.expr(e, scope)[0])
+        e = self.expr(e, scope)[0]
+        return ('Guard', inner, name, e) if self.checks else inner
 
     def arm(self, branch, scope):
         term = self.field(branch, scope)
@@ -548,7 +555,8 @@ def term_text(t):
 
 def module_text(module):
     for decl, term in zip(module.decls, module.terms):
-        yield f'{decl["name"]}({", ".join(name for _, name in decl["params"])}) = {term_text(term)}'
+        unset = '' if module.mode(decl['name']) in ('both', 'set') else ' unset'
+        yield f'{decl["name"]}({", ".join(name for _, name in decl["params"])}) = {term_text(term)}{unset}'
     yield ' '.join(['names', *module.names])
     yield (f'head {module.head} ' if module.head is not None else '') + f'each {module.each}'
 
@@ -743,11 +751,22 @@ def read_base(base, args, data, i):
     return good(('#', [spelling for _, spelling in base[2]].index(best)), i, len(best))
 
 
+class Slow(Exception):
+    """A record takes more steps than it may."""
+
+
 class Reader:
-    def __init__(self, module, data):
-        self.module, self.data = module, data
+    """Reads a record. Where a literal is looked for, at most `scan` bytes are passed over. Nothing is remembered, so nested choices
+    may take long: `most` is how many steps a record may take."""
+    most = float('inf')
+
+    def __init__(self, module, data, scan):
+        self.module, self.data, self.scan, self.steps = module, data, scan, 0
 
     def read(self, k, t, scope, i):
+        self.steps += 1
+        if self.steps > self.most:
+            raise Slow
         return getattr(self, t[0])(k, t, scope, i)
 
     def clean(self, reading):
@@ -855,13 +874,31 @@ class Reader:
         return (UNIT if node.clean() else MISSING), node, j
 
     def Scan(self, k, t, scope, i):
-        for at in range(i, len(self.data) + 1):
+        for at in range(i, min(len(self.data), i + self.scan) + 1):
             found, node, j = self.read(k, t[1], scope, at)
             if node.clean():
                 if at > i:
                     node = Node(i, node.end, node.kids, 'SKIPPED')
                 return found, node, j
         return failed(self.read(k, t[1], scope, i)[1].cause or 'MISSING_LITERAL', i)
+
+
+def erased(module, t, found, kept):
+    """A value without the numbers, texts and labels of declarations that keep none."""
+    if found in (MISSING, UNIT):
+        return found
+    if t[0] == 'Call':
+        return erased(module, module.terms[t[1]], found, module.keeps(t[1]))
+    if t[0] in ('Guard', 'Scan', 'Absorb'):
+        return erased(module, t[1], found, kept)
+    if t[0] == 'Struct':
+        return ('T', [erased(module, term, part, kept) for (_, term), part in zip(t[1], found[1])])
+    if t[0] in ('Alt', 'Switch'):
+        arms = t[1] if t[0] == 'Alt' else [arm for _, arm in t[2]]
+        return ('B', found[1], erased(module, arms[found[1]][1], found[2], kept))
+    if t[0] == 'Seq':
+        return ('A', [erased(module, t[1], element, kept) for element in found[1]])
+    return found if kept else MISSING
 
 
 def value_text(found):
@@ -879,7 +916,7 @@ def value_text(found):
 
 
 class Row:
-    def __init__(self, module, words):
+    def __init__(self, module, words, scan=2 ** 24):
         number, mark, first, data = words.split(' ', 3)
         self.module, self.number, self.first = module, int(number), int(first)
         self.each = module.head if self.number == 0 and module.head is not None else module.each
@@ -888,7 +925,8 @@ class Row:
             self.node = Node(0, int(data) - self.first, cause=f'RECORD_{mark.upper()}', fails=True)
             return
         data = data[1:-1].encode() if data.startswith('"') else bytes.fromhex(data)
-        self.value, node, self.next = Reader(module, data).Call(128, ('Call', self.each, []), {}, 0)
+        value, node, self.next = Reader(module, data, scan).Call(128, ('Call', self.each, []), {}, 0)
+        self.value = erased(module, ('Call', self.each, []), value, True)
         kids = [node, *[Node(self.next, len(data), cause='EXTRA_BEFORE_EOR')] * (self.next < len(data))]
         self.node = Node(0, len(data), kids, 'RECORD_SHORT' if mark == 'short' else None)
 
@@ -960,14 +998,32 @@ def nested(depth):
     return ' '.join(['Ptypedef Puint8 t1;', *types, f'Precord Pstruct r {{ t{depth} v; }};'])
 
 
+def modes(mask):
+    """The mode of each declaration by its name. Of equal names in a mask the first counts."""
+    every, *others = mask.split(',')
+    named = dict(reversed([item.split(':') for item in others]))
+    return lambda name: named.get(name, every)
+
+
+def unknown_item(module, mask):
+    """The first item of a mask that names no declaration, from 1, or None."""
+    items = enumerate(mask.split(',')[1:], 1)
+    return next((number for number, item in items if item.split(':')[0] not in module.numbers), None)
+
+
 def told(lines):
     """The lines of a table, and below each what must be told of it."""
-    module = None
+    module = text = None
     for line in lines:
         yield line
         word, _, rest = line.partition(' ')
         if word in ('ascii', 'ebcdic'):
-            module = Translation(rest, 'latin-1' if word == 'ascii' else 'cp037')
+            text = rest
+            module = Translation(text, 'latin-1' if word == 'ascii' else 'cp037')
+        elif word == 'mask' and unknown_item(module, rest) is not None:
+            yield f'    mask item {unknown_item(module, rest)}'
+        elif word == 'mask':
+            module = Translation(text, module.coding, modes(rest))
         elif word == 'nest':
             module = Translation(nested(int(rest)), 'latin-1')
         elif word == 'terms':
@@ -981,7 +1037,7 @@ def told(lines):
 def main():
     sys.setrecursionlimit(10000)
     wrong = 0
-    for name in ('rows.txt', 'modules.txt', 'lines.txt'):
+    for name in ('rows.txt', 'modules.txt', 'lines.txt', 'masks.txt'):
         with open(os.path.join(TABLES, name), encoding='utf-8') as it:
             table = it.read().split('\n')[:-1]
         found = list(told(line for line in table if not line.startswith('    ')))

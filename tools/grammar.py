@@ -99,10 +99,10 @@ class Derivation:
     """Derives tokens. `furthest` is the last token that was looked at, `wanted` the kinds that were asked for there,
     `deep` the last token at which no level was left."""
 
-    def __init__(self, tokens):
+    def __init__(self, tokens, start="desc"):
         sys.setrecursionlimit(1000000)
         self.tokens, self.furthest, self.wanted, self.level, self.deep = tokens, 0, set(), 0, None
-        self.tree = self.rule("desc", 0)
+        self.tree = self.rule(start, 0)
 
     def ask(self, kind, at):
         if at > self.furthest:
