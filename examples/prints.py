@@ -64,8 +64,7 @@ def canonical(module, depth, t, scope, found):
         inner = dict(zip(names, args))
         return None if depth == 0 or None in args else canonical(module, depth - 1, module.terms[t[1]], inner, found)
     if form in ('Alt', 'Switch'):
-        arms = t[1] if form == 'Alt' else [arm for _, arm in t[2]]
-        return below(arms[found[1]][1], found[2])
+        return below(tables.arms(t)[found[1]][1], found[2])
     if form == 'Seq':
         between = below(t[2], tables.UNIT) if t[2] is not None else b''
         return joined([below(t[1], element) for element in found[1]], between)

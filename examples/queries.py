@@ -46,7 +46,7 @@ class Spot:
         if self.term[0] == 'Struct':
             yield Spot(self.row, of, self.term[1][at][1], self.found[1][at], self.node.kids[at])
         elif self.found[1] == at:
-            yield Spot(self.row, of, self.row.arms(self.term)[at][1], self.found[2], self.node.kids[0])
+            yield Spot(self.row, of, tables.arms(self.term)[at][1], self.found[2], self.node.kids[0])
 
     def is_kept(self, e):
         """Whether a filter keeps it: where it has no value, or the filter has none, it is left out."""

@@ -91,7 +91,7 @@ def lines(description, data, options):
 
 
 def written(words, module, data, options):
-    """What a command must write: its output, the lines on standard error, and the exit status."""
+    """The same of a command that reads records and isn't refused."""
     found, notes = list(rows(module, data, options)), []
     if words[0] == 'print':
         discipline, most = option(options, 'records', 'nl'), int(option(options, 'max', 2 ** 20))
@@ -107,6 +107,16 @@ def written(words, module, data, options):
     return out, joined(notes), 0 if clean else 1
 
 
+def answer(words, text, data, options):
+    """What a command must leave: its output, what is on standard error, and the exit status."""
+    fault = refused(words, text, options)
+    if fault:
+        return b'', f'pads: refused: {fault}\n'.encode(), 3
+    if words[0] == 'check':
+        return f'{verdicts.verdict(text)}\n'.encode(), b'', 0
+    return written(words, module_of(text, options), data, options)
+
+
 def joined(told):
     return ''.join(f'{line}\n' for line in told).encode()
 
@@ -119,14 +129,8 @@ def main():
     if form not in (['parse', 2], ['print', 2], ['check', 2], ['query', 3], ['query', 4], ['summary', 2]):
         sys.exit(f'{sys.argv[0]}: only check, parse, print, query and summary are done a second time')
     text = Path(words[1]).read_bytes().decode('latin-1')
-    fault = refused(words, text, sys.argv[1:])
-    if fault:
-        print(f'pads: refused: {fault}', file=sys.stderr)
-        return 3
-    if words[0] == 'check':
-        print(verdicts.verdict(text))
-        return 0
-    out, notes, status = written(words, module_of(text, sys.argv[1:]), sys.stdin.buffer.read(), sys.argv[1:])
+    data = b'' if words[0] == 'check' else sys.stdin.buffer.read()
+    out, notes, status = answer(words, text, data, sys.argv[1:])
     sys.stdout.buffer.write(out)
     sys.stderr.buffer.write(notes)
     return status

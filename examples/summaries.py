@@ -38,20 +38,13 @@ def cut(number, of):
     return f'{"-" if number < 0 else ""}{thousandths // 1000}.{thousandths % 1000:03}'
 
 
-def sample(module, t, found):
+def sample(t, found):
     """What a value gives to its part, or None: a number, or a text."""
     if found in (tables.MISSING, tables.UNIT) or t[0] == 'Struct':
         return None
     if t[0] in ('Alt', 'Switch'):
-        arms = t[1] if t[0] == 'Alt' else [arm for _, arm in t[2]]
-        return arms[found[1]][0]
-    if t[0] == 'Seq':
-        return len(found[1])
-    if t[0] == 'Base' and t[1][0] == 'Enum':
-        return t[1][2][found[1]][0]
-    if t[0] == 'Base' and t[1][0] == 'Ip':
-        return '.'.join(map(str, found.to_bytes(4, 'big')))
-    return found
+        return tables.arms(t)[found[1]][0]
+    return len(found[1]) if t[0] == 'Seq' else tables.scalar(t, found)
 
 
 def below(t, place):
@@ -60,8 +53,7 @@ def below(t, place):
     if t[0] == 'Struct':
         return [(at, term, named(name)) for at, (name, term) in enumerate(t[1]) if name is not None]
     if t[0] in ('Alt', 'Switch'):
-        arms = t[1] if t[0] == 'Alt' else [arm for _, arm in t[2]]
-        return [(at, term, named(name)) for at, (name, term) in enumerate(arms) if term != ('Unit',)]
+        return [(at, term, named(name)) for at, (name, term) in enumerate(tables.arms(t)) if term != ('Unit',)]
     return [(None, t[1], f'{place}[*]')] if t[0] == 'Seq' else []
 
 
@@ -95,7 +87,7 @@ class Summary:
 
     def count(self, t, place, way, found, node):
         t, way = self.inner(t, way)
-        self.parts[place].add(node, sample(self.module, t, found) if t else None)
+        self.parts[place].add(node, sample(t, found) if t else None)
         if t is None or found == tables.MISSING:
             return
         for at, term, where in below(t, place):

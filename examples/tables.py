@@ -883,6 +883,20 @@ class Reader:
         return failed(self.read(k, t[1], scope, i)[1].cause or 'MISSING_LITERAL', i)
 
 
+def arms(t):
+    """The arms of a union or of a switched one: each a name and a term."""
+    return t[1] if t[0] == 'Alt' else [arm for _, arm in t[2]]
+
+
+def scalar(t, found):
+    """A number or text as lines and reports show it: of an enum the label, of an address its four numbers."""
+    if t[0] == 'Base' and t[1][0] == 'Enum':
+        return t[1][2][found[1]][0]
+    if t[0] == 'Base' and t[1][0] == 'Ip':
+        return '.'.join(map(str, found.to_bytes(4, 'big')))
+    return found
+
+
 def erased(module, t, found, kept):
     """A value without the numbers, texts and labels of declarations that keep none."""
     if found in (MISSING, UNIT):
@@ -894,8 +908,7 @@ def erased(module, t, found, kept):
     if t[0] == 'Struct':
         return ('T', [erased(module, term, part, kept) for (_, term), part in zip(t[1], found[1])])
     if t[0] in ('Alt', 'Switch'):
-        arms = t[1] if t[0] == 'Alt' else [arm for _, arm in t[2]]
-        return ('B', found[1], erased(module, arms[found[1]][1], found[2], kept))
+        return ('B', found[1], erased(module, arms(t)[found[1]][1], found[2], kept))
     if t[0] == 'Seq':
         return ('A', [erased(module, t[1], element, kept) for element in found[1]])
     return found if kept else MISSING
@@ -958,9 +971,6 @@ class Row:
             t = self.module.terms[t[1]] if t[0] == 'Call' else t[1]
         return t
 
-    def arms(self, t):
-        return t[1] if t[0] == 'Alt' else [arm for _, arm in t[2]]
-
     def faults(self, t, found, at, node):
         t, faults = self.inner(t), self.fault(at or '$', node)
         if t[0] == 'Struct' and found != MISSING:
@@ -968,7 +978,7 @@ class Row:
                 below = name or f'#{number}'
                 faults += self.faults(term, part, f'{at}.{below}' if at else below, kid)
         elif t[0] in ('Alt', 'Switch') and found != MISSING:
-            name, term = self.arms(t)[found[1]]
+            name, term = arms(t)[found[1]]
             faults += self.faults(term, found[2], f'{at}.{name}' if at else name, node.kids[0])
         elif t[0] == 'Seq' and found != MISSING:
             for number, (element, kid) in enumerate(zip(found[1], node.kids)):
@@ -982,15 +992,11 @@ class Row:
         if t[0] == 'Struct':
             return {name: self.shown(term, part) for (name, term), part in zip(t[1], found[1]) if name}
         if t[0] in ('Alt', 'Switch'):
-            name, term = self.arms(t)[found[1]]
+            name, term = arms(t)[found[1]]
             return {name: self.shown(term, found[2])}
         if t[0] == 'Seq':
             return [self.shown(t[1], element) for element in found[1]]
-        if t[0] == 'Base' and t[1][0] == 'Enum':
-            return t[1][2][found[1]][0]
-        if t[0] == 'Base' and t[1][0] == 'Ip':
-            return '.'.join(map(str, found.to_bytes(4, 'big')))
-        return found
+        return scalar(t, found)
 
 
 def nested(depth):

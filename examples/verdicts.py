@@ -14,6 +14,7 @@ from pathlib import Path
 TOP = Path(__file__).resolve().parent.parent
 sys.path.append(str(TOP / 'tools'))
 import grammar                                             # noqa: E402
+import tables                                              # noqa: E402
 
 ROWS = TOP / 'crates' / 'test_check' / 'data' / 'descriptions.txt'
 
@@ -102,9 +103,7 @@ def words(tree, kind):
 
 
 def unquoted(token):
-    body = token.spelled[1:-1]
-    plain = {'n': '\n', 'r': '\r', 't': '\t', '0': '\0'}
-    return re.sub(r'\\(x[0-9a-fA-F]{2}|.)', lambda m: chr(int(m[1][1:], 16)) if len(m[1]) == 3 else plain.get(m[1], m[1]), body)
+    return tables.unescaped(token.spelled[1:-1])
 
 
 class Choice:
@@ -219,7 +218,7 @@ class Check:
         self.type_name(of, at, in_source)
         token, args = words(of, 'NAME')[0], kids(of, 'arg')
         name = token.spelled
-        sorts = [self.expr(kid(arg, 'expr'), scope, later) if kid(arg, 'expr') else 'Peor' for arg in args]
+        sorts = self.arguments(of, scope, later)
         wanted = self.wanted(name, at)
         if wanted is not None and len(args) not in map(len, wanted):
             self.wrong(7, token)
@@ -229,6 +228,10 @@ class Check:
             if sort == 'Peor' and not until or sort != 'Peor' and UNKNOWN not in (sort, want) and sort != want:
                 self.wrong(8, self.first(arg))
         return self.sort(of, at)
+
+    def arguments(self, of, scope, later):
+        """The sorts of a type's arguments, `Peor` among them."""
+        return [self.expr(kid(arg, 'expr'), scope, later) if kid(arg, 'expr') else 'Peor' for arg in kids(of, 'arg')]
 
     def wanted(self, name, at):
         """The sorts of the arguments that a type takes: a list for each number of them, or None where it isn't known."""
@@ -368,8 +371,7 @@ class Check:
             self.type_name(of, at)
             if words(of, 'Popt') or kids(of, 'arg') or not re.fullmatch(PARAMETERS, words(of, 'NAME')[0].spelled):
                 self.wrong(19, words(of, 'NAME')[0])
-            for arg in kids(of, 'arg'):
-                self.expr(kid(arg, 'expr'), {}) if kid(arg, 'expr') else None
+            self.arguments(of, {}, ())
             scope.setdefault(token.spelled, self.sort(of, at))
         names += getattr(self, 'rules_of_' + decl.form)(at, decl, scope) or []
         for number, token in enumerate(names):
@@ -383,8 +385,8 @@ class Check:
             self.wrong(14, word.kids[0])
 
     def rules_of_struct(self, at, decl, scope):
-        fields, params = [token for token, _, _ in decl.fields()], dict(scope)
-        in_source, later = self.is_source(at), [token.spelled for token in fields]
+        fields, in_source = [token for token, _, _ in decl.fields()], self.is_source(at)
+        later = [token.spelled for token in fields]
         for part in kids(decl.body, 'part'):
             of = kid(part, 'branch') or part
             if kid(part, 'literal'):
@@ -394,8 +396,7 @@ class Check:
             if of is part:
                 self.type_name(inner, at)
                 name = words(inner, 'NAME')[0]
-                for arg in kids(inner, 'arg'):
-                    self.expr(kid(arg, 'expr'), scope, later) if kid(arg, 'expr') else None
+                self.arguments(inner, scope, later)
                 fits = re.fullmatch(COMPUTED, name.spelled) and not words(inner, 'Popt') and not kids(inner, 'arg')
                 sort, want = self.expr(e, scope, later), self.sort(inner, at)
                 if not fits or UNKNOWN not in (sort, want) and sort != want:

@@ -195,9 +195,9 @@ class Writer:
 
     def union(self, of, head, scope):
         names = self.names(scope)
-        nums = [name for name, sort in scope.items() if sort in ("num", "text")]
-        if nums and self.chance(0.7):
-            name = self.dice.choice(nums)
+        asked = [name for name, sort in scope.items() if sort in ("num", "text")]
+        if asked and self.chance(0.7):
+            name = self.dice.choice(asked)
             keys = [str(number) for number in self.dice.sample(range(-1, 5), 3)] if scope[name] == "num" else \
                 [f'"{text}"' for text in self.dice.sample(["a", "b", ",", "", "ab", "1"], 3)]
             cases = [f"Pcase {key}: {self.branch(of, scope, names)}" for key in keys[:self.dice.randint(1, 3)]]
@@ -268,17 +268,17 @@ class Writer:
 
 
 WORDS = ["elts", "length", "some", "none", "it", "r", "Puint8", "Pint64", "Pstring", "Pchar", "Pip", "Pstring_FW", "Psbl_uint16", "Ppacked", "Pfoo"]
-MARKED = ("Precord", "Psource", "Precursive")
+ROLES = ("Precord", "Psource", "Precursive")
 ATOMS = ["0", "7", "\"\"", "'a'", '"ab"', "true", "false", "-1", "(1)", '("a")', "Plen(a)", "a.b", "a[0]", "!a"]
 
 
-def marked(dice, tokens):
-    """Puts a mark before a declaration, or in the place of its own."""
+def given_role(dice, tokens):
+    """Puts `Precord` or its like before a declaration, or in the place of what it has."""
     forms = ("Pstruct", "Punion", "Parray", "Penum", "Ptypedef", "Popt")
-    begins = [at for at, (kind, _) in enumerate(tokens) if kind in forms and (at == 0 or tokens[at - 1][0] in (";", *MARKED))]
+    begins = [at for at, (kind, _) in enumerate(tokens) if kind in forms and (at == 0 or tokens[at - 1][0] in (";", *ROLES))]
     if begins:
         at = dice.choice(begins)
-        tokens[at - (at > 0 and tokens[at - 1][0] in MARKED):at] = [("", dice.choice(MARKED))]
+        tokens[at - (at > 0 and tokens[at - 1][0] in ROLES):at] = [("", dice.choice(ROLES))]
 
 
 def reworded(dice, text):
@@ -289,7 +289,7 @@ def reworded(dice, text):
         at = dice.choice(free) if free and dice.random() < 0.85 else dice.randrange(len(tokens))
         kind, how = tokens[at][0], dice.random()
         if how < 0.05:
-            marked(dice, tokens)
+            given_role(dice, tokens)
         elif how < 0.1:
             tokens[at:at + dice.randrange(2)] = [("", dice.choice(sorted(grammar.KEYWORDS) + ATOMS))]
         elif kind == "NAME":
@@ -299,6 +299,13 @@ def reworded(dice, text):
         elif kind in OPERATORS:
             tokens[at] = kind, dice.choice(list(OPERATORS))
     return " ".join(word for _, word in tokens)
+
+
+def faulty(dice, text):
+    """The bytes of a text that differs from a description in some bytes, or in a word or two."""
+    if dice.random() < 0.3:
+        return spoiled(dice, text, b" \n;:,(){}[]=<>!&|.+-*/%\"'\\0x9aP_" + bytes([dice.randrange(256)]))
+    return reworded(dice, text.decode("latin-1")).encode("latin-1")
 
 
 # ---- Inputs ----------------------------------------------------------------------------------------
