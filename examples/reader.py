@@ -91,7 +91,7 @@ def lines(description, data, options):
 
 
 def written(words, module, data, options):
-    """The same of a command that reads records and isn't refused."""
+    """What a command that reads records and isn't refused must leave: its output, what is on standard error, and the exit status."""
     found, notes = list(rows(module, data, options)), []
     if words[0] == 'print':
         discipline, most = option(options, 'records', 'nl'), int(option(options, 'max', 2 ** 20))
