@@ -22,11 +22,11 @@ use pads_value::Val;
 /// An environment with the latest bindings, which live on the stack: a value that is lent, and the
 /// variables of the `Pforall`s that are open.
 #[derive(Clone, Copy)]
-enum Scope<'s, 'a> {
+enum OpenBindings<'s, 'a> {
     Base(&'a [Binding]),
     Names(&'a [Lent<'a>]),
-    Lent(u16, &'a Val, &'s Scope<'s, 'a>),
-    Bind(u16, i128, &'s Scope<'s, 'a>),
+    Lent(u16, &'a Val, &'s OpenBindings<'s, 'a>),
+    Bind(u16, i128, &'s OpenBindings<'s, 'a>),
 }
 
 /// What a name stands for in bindings of which the last comes first.
@@ -38,20 +38,20 @@ fn binding<'a>(bindings: &'a [Binding], name: u16) -> Option<&'a Val>
 }
 
 /// What a name is worth in a scope.
-fn variable<'a>(scope: &Scope<'_, 'a>, name: u16) -> Option<Res<'a>>
+fn variable<'a>(scope: &OpenBindings<'_, 'a>, name: u16) -> Option<Res<'a>>
     ensures value { option_map seen result ≡ worth_or_none (variable_of (pairs_of scope.now) name) }
 {
     match scope {
-        Scope::Base(bindings) => worth(binding(bindings, name)?),
-        Scope::Names(bindings) => worth(lent_value(bindings, name)?),
-        Scope::Lent(bound, value, outer) => {
+        OpenBindings::Base(bindings) => worth(binding(bindings, name)?),
+        OpenBindings::Names(bindings) => worth(lent_value(bindings, name)?),
+        OpenBindings::Lent(bound, value, outer) => {
             if *bound == name {
                 worth(value)
             } else {
                 variable(*outer, name)
             }
         }
-        Scope::Bind(bound, number, outer) => {
+        OpenBindings::Bind(bound, number, outer) => {
             if *bound == name {
                 Some(Res::Num(*number))
             } else {
@@ -62,20 +62,20 @@ fn variable<'a>(scope: &Scope<'_, 'a>, name: u16) -> Option<Res<'a>>
 }
 
 /// The value that a name stands for, where it is one that is kept or lent.
-fn bound<'a>(scope: &Scope<'_, 'a>, name: u16) -> Option<&'a Val>
+fn bound<'a>(scope: &OpenBindings<'_, 'a>, name: u16) -> Option<&'a Val>
     ensures bound { IfSome result (λ val. found (pairs_of scope.now) name ≡ Some val.now) }
 {
     match scope {
-        Scope::Base(bindings) => binding(bindings, name),
-        Scope::Names(bindings) => lent_value(bindings, name),
-        Scope::Lent(bound_name, value, outer) => {
+        OpenBindings::Base(bindings) => binding(bindings, name),
+        OpenBindings::Names(bindings) => lent_value(bindings, name),
+        OpenBindings::Lent(bound_name, value, outer) => {
             if *bound_name == name {
                 Some(value)
             } else {
                 bound(*outer, name)
             }
         }
-        Scope::Bind(bound_name, _, outer) => {
+        OpenBindings::Bind(bound_name, _, outer) => {
             if *bound_name == name {
                 None
             } else {
@@ -112,7 +112,7 @@ fn number_at(first: i128, step: u32) -> i128
 /// for itself takes little: a function pays for room for all that it holds.
 #[cycle(evaluate)]
 #[tactic(auto, using(std::proofs::lemmas::Grind::common_steps, crate::proofs::Steps::values))]
-fn evaluate<'a>(e: &'a Expr, scope: &Scope<'_, 'a>) -> Option<Res<'a>>
+fn evaluate<'a>(e: &'a Expr, scope: &OpenBindings<'_, 'a>) -> Option<Res<'a>>
     ensures value { option_map seen result ≡ worth_or_none (value e.now (pairs_of scope.now)) }
 {
     match e {
@@ -136,7 +136,7 @@ fn evaluate<'a>(e: &'a Expr, scope: &Scope<'_, 'a>) -> Option<Res<'a>>
 
 /// An operator on an expression.
 #[cycle(evaluate)]
-fn unary<'a>(op: Unary, operand: &'a Expr, scope: &Scope<'_, 'a>) -> Option<Res<'a>>
+fn unary<'a>(op: Unary, operand: &'a Expr, scope: &OpenBindings<'_, 'a>) -> Option<Res<'a>>
     ensures value { option_map seen result ≡ worth_or_none (on (value operand.now (pairs_of scope.now)) (operate_one op)) }
 {
     apply_one(op, evaluate(operand, scope)?)
@@ -144,7 +144,12 @@ fn unary<'a>(op: Unary, operand: &'a Expr, scope: &Scope<'_, 'a>) -> Option<Res<
 
 /// An operator between two expressions.
 #[cycle(evaluate)]
-fn binary<'a>(op: BinOp, left: &'a Expr, right: &'a Expr, scope: &Scope<'_, 'a>) -> Option<Res<'a>>
+fn binary<'a>(
+    op: BinOp,
+    left: &'a Expr,
+    right: &'a Expr,
+    scope: &OpenBindings<'_, 'a>,
+) -> Option<Res<'a>>
     ensures value { option_map seen result ≡ worth_or_none (between op (value left.now (pairs_of scope.now)) (value right.now (pairs_of scope.now))) }
 {
     let left = evaluate(left, scope)?;
@@ -161,7 +166,7 @@ fn operation<'a>(
     op: BinOp,
     left: &'a Expr,
     right: &'a Expr,
-    scope: &Scope<'_, 'a>,
+    scope: &OpenBindings<'_, 'a>,
 ) -> Option<Res<'a>>
     ensures value { option_map seen result ≡ worth_or_none (between op (value left.now (pairs_of scope.now)) (value right.now (pairs_of scope.now))) }
 {
@@ -177,7 +182,7 @@ fn operation<'a>(
 
 /// The truth value that an expression has, where it has one.
 #[cycle(evaluate)]
-fn holds<'a>(e: &'a Expr, scope: &Scope<'_, 'a>) -> Option<bool>
+fn holds<'a>(e: &'a Expr, scope: &OpenBindings<'_, 'a>) -> Option<bool>
     ensures truth { option_map Truth result ≡ truth_alone (worth_or_none (value e.now (pairs_of scope.now))) }
 {
     match e {
@@ -188,7 +193,12 @@ fn holds<'a>(e: &'a Expr, scope: &Scope<'_, 'a>) -> Option<bool>
 
 /// The same of an operator between two expressions.
 #[cycle(evaluate)]
-fn condition<'a>(op: BinOp, left: &'a Expr, right: &'a Expr, scope: &Scope<'_, 'a>) -> Option<bool>
+fn condition<'a>(
+    op: BinOp,
+    left: &'a Expr,
+    right: &'a Expr,
+    scope: &OpenBindings<'_, 'a>,
+) -> Option<bool>
     ensures truth { option_map Truth result ≡ truth_alone (worth_or_none (between op (value left.now (pairs_of scope.now)) (value right.now (pairs_of scope.now)))) }
 {
     match op {
@@ -204,7 +214,12 @@ fn condition<'a>(op: BinOp, left: &'a Expr, right: &'a Expr, scope: &Scope<'_, '
 /// What a comparison says of two numbers or two texts that stand for themselves or in a value, where these are its
 /// operands: nothing is made of them first.
 #[cycle(evaluate)]
-fn at_once<'a>(op: BinOp, left: &'a Expr, right: &'a Expr, scope: &Scope<'_, 'a>) -> Option<bool>
+fn at_once<'a>(
+    op: BinOp,
+    left: &'a Expr,
+    right: &'a Expr,
+    scope: &OpenBindings<'_, 'a>,
+) -> Option<bool>
     ensures truth { IfSome result (λ holds. worth_or_none (between op (value left.now (pairs_of scope.now)) (value right.now (pairs_of scope.now))) ≡ Some (Truth holds)) }
 {
     if !compares(op) {
@@ -222,7 +237,7 @@ fn at_once<'a>(op: BinOp, left: &'a Expr, right: &'a Expr, scope: &Scope<'_, 'a>
 /// The number that stands for itself or in a value, where an expression is one.
 #[cycle(evaluate)]
 #[tactic(auto, using(std::proofs::lemmas::Grind::common_steps, crate::proofs::Steps::values))]
-fn number_in<'a>(e: &'a Expr, scope: &Scope<'_, 'a>) -> Option<&'a i128>
+fn number_in<'a>(e: &'a Expr, scope: &OpenBindings<'_, 'a>) -> Option<&'a i128>
     ensures number { IfSome result (λ number. worth_or_none (value e.now (pairs_of scope.now)) ≡ Some (Num number.now)) }
 {
     match e {
@@ -237,7 +252,7 @@ fn number_in<'a>(e: &'a Expr, scope: &Scope<'_, 'a>) -> Option<&'a i128>
 /// The text that stands for itself or in a value, where an expression is one.
 #[cycle(evaluate)]
 #[tactic(auto, using(std::proofs::lemmas::Grind::common_steps, crate::proofs::Steps::values))]
-fn text_in<'a>(e: &'a Expr, scope: &Scope<'_, 'a>) -> Option<&'a [u8]>
+fn text_in<'a>(e: &'a Expr, scope: &OpenBindings<'_, 'a>) -> Option<&'a [u8]>
     ensures text { IfSome result (λ text. worth_or_none (value e.now (pairs_of scope.now)) ≡ Some (Text text.now)) }
 {
     match e {
@@ -251,7 +266,7 @@ fn text_in<'a>(e: &'a Expr, scope: &Scope<'_, 'a>) -> Option<&'a [u8]>
 
 /// The value that a name, a part, a branch or an element stands for, where there is one.
 #[cycle(evaluate)]
-fn place<'a>(e: &'a Expr, scope: &Scope<'_, 'a>) -> Option<&'a Val>
+fn place<'a>(e: &'a Expr, scope: &OpenBindings<'_, 'a>) -> Option<&'a Val>
     ensures place { IfSome result (λ val. worth_or_none (value e.now (pairs_of scope.now)) ≡ worth_or_none (worth_of val.now)) }
 {
     match e {
@@ -268,7 +283,7 @@ fn place<'a>(e: &'a Expr, scope: &Scope<'_, 'a>) -> Option<&'a Val>
 
 /// Whether both conditions are met. The right one is looked at where the left one is met.
 #[cycle(evaluate)]
-fn both<'a>(left: &'a Expr, right: &'a Expr, scope: &Scope<'_, 'a>) -> Option<bool>
+fn both<'a>(left: &'a Expr, right: &'a Expr, scope: &OpenBindings<'_, 'a>) -> Option<bool>
     ensures truth { option_map Truth result ≡ worth_or_none (between And (value left.now (pairs_of scope.now)) (value right.now (pairs_of scope.now))) }
 {
     if holds(left, scope)? {
@@ -280,7 +295,7 @@ fn both<'a>(left: &'a Expr, right: &'a Expr, scope: &Scope<'_, 'a>) -> Option<bo
 
 /// Whether one of two conditions is met. The right one is looked at where the left one isn't met.
 #[cycle(evaluate)]
-fn either<'a>(left: &'a Expr, right: &'a Expr, scope: &Scope<'_, 'a>) -> Option<bool>
+fn either<'a>(left: &'a Expr, right: &'a Expr, scope: &OpenBindings<'_, 'a>) -> Option<bool>
     ensures truth { option_map Truth result ≡ worth_or_none (between Or (value left.now (pairs_of scope.now)) (value right.now (pairs_of scope.now))) }
 {
     if holds(left, scope)? {
@@ -292,7 +307,7 @@ fn either<'a>(left: &'a Expr, right: &'a Expr, scope: &Scope<'_, 'a>) -> Option<
 
 /// An element of an array.
 #[cycle(evaluate)]
-fn element<'a>(whole: &'a Expr, index: &'a Expr, scope: &Scope<'_, 'a>) -> Option<Res<'a>>
+fn element<'a>(whole: &'a Expr, index: &'a Expr, scope: &OpenBindings<'_, 'a>) -> Option<Res<'a>>
     ensures value { option_map seen result ≡ worth_or_none (on (value whole.now (pairs_of scope.now)) (λ array. on (value index.now (pairs_of scope.now)) (element_of array))) }
 {
     evaluate(whole, scope)?.element(evaluate(index, scope)?)
@@ -305,7 +320,7 @@ fn over_range<'a>(
     first: &'a Expr,
     last: &'a Expr,
     body: &'a Expr,
-    scope: &Scope<'_, 'a>,
+    scope: &OpenBindings<'_, 'a>,
 ) -> Option<Res<'a>>
     ensures value { option_map seen result ≡ worth_or_none (on (value first.now (pairs_of scope.now)) (λ a. on (value last.now (pairs_of scope.now)) (λ b. ranges.for_all (at_number (value body.now) name (pairs_of scope.now)) a b))) }
 {
@@ -321,7 +336,7 @@ fn for_all<'a>(
     first: Res<'a>,
     last: Res<'a>,
     body: &'a Expr,
-    scope: &Scope<'_, 'a>,
+    scope: &OpenBindings<'_, 'a>,
 ) -> Option<Res<'a>>
     ensures value { option_map seen result ≡ worth_or_none (ranges.for_all (at_number (value body.now) name (pairs_of scope.now)) (seen first.entry) (seen last.entry)) }
 {
@@ -331,7 +346,7 @@ fn for_all<'a>(
     let length = range_length(first, last)?;
     for step in 0..length {
         let number = number_at(first, step);
-        let holds = evaluate(body, &Scope::Bind(name, number, &*scope));
+        let holds = evaluate(body, &OpenBindings::Bind(name, number, &*scope));
         if !is_true(holds) {
             return truth_alone(holds);
         }
@@ -344,7 +359,7 @@ fn for_all<'a>(
 pub fn eval_in<'a>(e: &'a Expr, bindings: &'a [Binding]) -> Option<Res<'a>>
     ensures value { option_map seen result ≡ worth_or_none (value e.now (reverse bindings.now)) }
 {
-    evaluate(e, &Scope::Base(bindings))
+    evaluate(e, &OpenBindings::Base(bindings))
 }
 
 /// The same with one binding more, the latest, whose value is lent.
@@ -356,14 +371,17 @@ pub fn eval_with<'a>(
 ) -> Option<Res<'a>>
     ensures value { option_map seen result ≡ worth_or_none (value e.now ((name, lent.now) ∷ reverse bindings.now)) }
 {
-    evaluate(e, &Scope::Lent(name, lent, &Scope::Base(bindings)))
+    evaluate(
+        e,
+        &OpenBindings::Lent(name, lent, &OpenBindings::Base(bindings)),
+    )
 }
 
 /// The same where the values of all bindings are lent.
 pub fn eval_lent<'a>(e: &'a Expr, bindings: &'a [Lent<'a>]) -> Option<Res<'a>>
     ensures value { option_map seen result ≡ worth_or_none (value e.now (reverse bindings.now)) }
 {
-    evaluate(e, &Scope::Names(bindings))
+    evaluate(e, &OpenBindings::Names(bindings))
 }
 
 /// The value of an expression in an environment. It takes no memory; texts and parts are lent. `None`

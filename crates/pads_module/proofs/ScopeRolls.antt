@@ -2,8 +2,8 @@
 use Rattle.std.proofs.Common.{◌≡◌, ◌∙◌, sym, ap, refl, ℕ, List, [], ◌∷◌, Bor, Option, None, Some, Bool, true, false, ◌||◌, nat_eq, zero, suc, ◌+◌, take, length, ◌<◌, get_or, arith, add-one}
 use Rattle.std.specs.List.{list_any}
 use Rattle.pads_calc.specs.declared.term.Part.{Part}
-use Rattle.pads_module.specs.declared.scope.Scope.{Scope, Scope-F, fold-Scope, fold-roll-Scope}
-use Rattle.pads_module.specs.declared.scope.Scope.TheVariants as scope
+use Rattle.pads_module.specs.declared.scope.BoundNames.{BoundNames, BoundNames-F, fold-BoundNames, fold-roll-BoundNames}
+use Rattle.pads_module.specs.declared.scope.BoundNames.TheVariants as scope
 use Rattle.pads_module.specs.Bound.{parts_names, has_name, bound_names, bound_step}
 use Rattle.pads_module.specs.Scopes.{is_bound, bind_name}
 
@@ -25,11 +25,11 @@ bound-parts name (part ∷ parts) scope =
     ∙ ap (λ b. list_any (λ part. has_name name part.name) parts || b) (bound-bind name part.name scope)
     ∙ or-swap (list_any (λ part. has_name name part.name) parts) (has_name name part.name) (is_bound name scope)
 
-pub scope-Parts : (parts : Bor (List Part)) (outer : Bor Scope) → bound_names (scope.Parts parts outer) ≡ parts_names parts.now (bound_names outer.now)
-scope-Parts parts outer = ap bound_names (sym (scope.rolls-Parts parts outer)) ∙ fold-roll-Scope (List ℕ) bound_step (Scope-F.Parts parts outer)
+pub scope-Parts : (parts : Bor (List Part)) (outer : Bor BoundNames) → bound_names (scope.Parts parts outer) ≡ parts_names parts.now (bound_names outer.now)
+scope-Parts parts outer = ap bound_names (sym (scope.rolls-Parts parts outer)) ∙ fold-roll-BoundNames (List ℕ) bound_step (BoundNames-F.Parts parts outer)
 
-pub scope-Bind : (name : ℕ) (outer : Bor Scope) → bound_names (scope.Bind name outer) ≡ name ∷ bound_names outer.now
-scope-Bind name outer = ap bound_names (sym (scope.rolls-Bind name outer)) ∙ fold-roll-Scope (List ℕ) bound_step (Scope-F.Bind name outer)
+pub scope-Bind : (name : ℕ) (outer : Bor BoundNames) → bound_names (scope.Bind name outer) ≡ name ∷ bound_names outer.now
+scope-Bind name outer = ap bound_names (sym (scope.rolls-Bind name outer)) ∙ fold-roll-BoundNames (List ℕ) bound_step (BoundNames-F.Bind name outer)
 
 pub ruleset bound_rules = (scope-Bind)
 

@@ -4,7 +4,7 @@ ghost use Rattle.std.specs.List.{list_all};
 ghost use Rattle.pads_module.specs.Bound.{bound_names};
 ghost use Rattle.pads_module.specs.Scopes.{has_arity as has_arity_of, name_there as name_there_of, exprs_in_scope as exprs_in_scope_of, in_scope as in_scope_of, arities_of, parts_in, arm_in, case_in, binding_of, option_term_in, seq_in, decl_in_scope, shape_there, module_in_scope};
 
-use crate::scope::{Scope, expr_in_scope, exprs_in_scope, name_there, option_expr_in_scope};
+use crate::scope::{BoundNames, expr_in_scope, exprs_in_scope, name_there, option_expr_in_scope};
 use pads_calc::{Arm, Case, Decl, Exprs, Part, Seq, Shape, Term};
 use pads_value::NameTable;
 
@@ -41,7 +41,7 @@ fn part_names_there(names: u64, parts: &[Part]) -> bool
 
 impl Table<'_> {
     /// A call's declaration and its arguments.
-    fn call(&self, number: u16, args: &Exprs, scope: &Scope<'_>) -> bool
+    fn call(&self, number: u16, args: &Exprs, scope: &BoundNames<'_>) -> bool
         ensures call { result ≡ (has_arity_of (slice_get (arities_of self.now.decls.now) number) (length args.now) && exprs_in_scope_of self.now.names args.now (bound_names scope.now)) }
     {
         has_arity(self.decls, number, args.len())
@@ -51,7 +51,7 @@ impl Table<'_> {
     /// A term where these names are bound.
     #[cycle(in_scope)]
     #[tactic(auto, using(std::proofs::lemmas::Grind::common_steps, crate::proofs::TermRolls::term_rules, crate::proofs::ScopeRolls::bound_rules))]
-    fn term(&self, term: &Term, scope: &Scope<'_>) -> bool
+    fn term(&self, term: &Term, scope: &BoundNames<'_>) -> bool
         ensures in_scope { result ≡ in_scope_of self.now.names (arities_of self.now.decls.now) term.now (bound_names scope.now) }
     {
         match term {
@@ -74,7 +74,7 @@ impl Table<'_> {
                 if u64::from(*binder) >= self.names {
                     return false;
                 }
-                expr_in_scope(self.names, condition, &Scope::Bind(*binder, &*scope))
+                expr_in_scope(self.names, condition, &BoundNames::Bind(*binder, &*scope))
             }
             Term::Seq(seq) => self.seq(seq.get(), scope),
             Term::Call(number, args) => self.call(*number, args, scope),
@@ -86,11 +86,11 @@ impl Table<'_> {
 
     /// The parts of a struct, each with the names of the earlier ones.
     #[cycle(in_scope)]
-    fn parts(&self, parts: &[Part], scope: &Scope<'_>) -> bool
+    fn parts(&self, parts: &[Part], scope: &BoundNames<'_>) -> bool
         ensures in_scope { result ≡ parts_in (map (binding_of self.now.names (arities_of self.now.decls.now)) parts.now) (bound_names scope.now) }
     {
         for (number, part) in parts.iter().enumerate() {
-            if !self.term(&part.term, &Scope::Parts(&parts[..number], &*scope)) {
+            if !self.term(&part.term, &BoundNames::Parts(&parts[..number], &*scope)) {
                 return false;
             }
         }
@@ -98,14 +98,14 @@ impl Table<'_> {
     }
 
     #[cycle(in_scope)]
-    fn arm(&self, arm: &Arm, scope: &Scope<'_>) -> bool
+    fn arm(&self, arm: &Arm, scope: &BoundNames<'_>) -> bool
         ensures in_scope { result ≡ arm_in self.now.names (arities_of self.now.decls.now) arm.now (bound_names scope.now) }
     {
         u64::from(arm.name) < self.names && self.term(&arm.term, scope)
     }
 
     #[cycle(in_scope)]
-    fn arms(&self, arms: &[Arm], scope: &Scope<'_>) -> bool
+    fn arms(&self, arms: &[Arm], scope: &BoundNames<'_>) -> bool
         ensures in_scope { result ≡ list_all (λ arm. arm_in self.now.names (arities_of self.now.decls.now) arm (bound_names scope.now)) arms.now }
     {
         for arm in arms {
@@ -117,7 +117,7 @@ impl Table<'_> {
     }
 
     #[cycle(in_scope)]
-    fn cases(&self, cases: &[Case], scope: &Scope<'_>) -> bool
+    fn cases(&self, cases: &[Case], scope: &BoundNames<'_>) -> bool
         ensures in_scope { result ≡ list_all (λ case. case_in self.now.names (arities_of self.now.decls.now) case (bound_names scope.now)) cases.now }
     {
         for case in cases {
@@ -129,7 +129,7 @@ impl Table<'_> {
     }
 
     #[cycle(in_scope)]
-    fn option_term(&self, term: &Option<Term>, scope: &Scope<'_>) -> bool
+    fn option_term(&self, term: &Option<Term>, scope: &BoundNames<'_>) -> bool
         ensures in_scope { result ≡ option_term_in self.now.names (arities_of self.now.decls.now) term.now (bound_names scope.now) }
     {
         match term {
@@ -140,7 +140,7 @@ impl Table<'_> {
 
     #[cycle(in_scope)]
     #[tactic(auto, using(std::proofs::lemmas::Grind::common_steps, crate::proofs::ScopeRolls::bound_rules))]
-    fn seq(&self, seq: &Seq, scope: &Scope<'_>) -> bool
+    fn seq(&self, seq: &Seq, scope: &BoundNames<'_>) -> bool
         ensures in_scope { result ≡ seq_in self.now.names (arities_of self.now.decls.now) seq.now (bound_names scope.now) }
     {
         if !self.term(&seq.elem, scope) {
@@ -158,7 +158,7 @@ impl Table<'_> {
         if !option_expr_in_scope(self.names, &seq.size, scope) {
             return false;
         }
-        option_expr_in_scope(self.names, &seq.last, &Scope::Bind(seq.elts, &*scope))
+        option_expr_in_scope(self.names, &seq.last, &BoundNames::Bind(seq.elts, &*scope))
     }
 
     /// A declaration.
@@ -167,7 +167,7 @@ impl Table<'_> {
     {
         u64::from(decl.name) < self.names
             && params_there(self.names, decl.params.as_slice())
-            && self.term(&decl.body, &Scope::Params(decl.params.as_slice()))
+            && self.term(&decl.body, &BoundNames::Params(decl.params.as_slice()))
     }
 
     /// All declarations.

@@ -9,13 +9,13 @@ use pads_expr::Expr;
 
 /// Names that are bound, the latest outside.
 #[derive(Drop)]
-pub(crate) enum Scope<'s> {
+pub(crate) enum BoundNames<'s> {
     /// The parameters of a declaration.
     Params(&'s [u16]),
     /// One more name.
-    Bind(u16, &'s Scope<'s>),
+    Bind(u16, &'s BoundNames<'s>),
     /// The names of a struct's parts so far.
-    Parts(&'s [Part], &'s Scope<'s>),
+    Parts(&'s [Part], &'s BoundNames<'s>),
 }
 
 /// Whether a part has this name.
@@ -44,19 +44,19 @@ fn is_one_of(names: &[u16], name: u16) -> bool
 
 /// Whether the name is bound.
 
-fn is_in_scope(scope: &Scope<'_>, name: u16) -> bool
+fn is_in_scope(scope: &BoundNames<'_>, name: u16) -> bool
     ensures bound { result ≡ is_bound name (bound_names scope.now) }
 {
     match scope {
-        Scope::Params(names) => is_one_of(*names, name),
-        Scope::Bind(bound, outer) => name == *bound || is_in_scope(*outer, name),
-        Scope::Parts(parts, outer) => is_part(*parts, name) || is_in_scope(*outer, name),
+        BoundNames::Params(names) => is_one_of(*names, name),
+        BoundNames::Bind(bound, outer) => name == *bound || is_in_scope(*outer, name),
+        BoundNames::Parts(parts, outer) => is_part(*parts, name) || is_in_scope(*outer, name),
     }
 }
 
 /// Whether each variable of an expression is bound, and each name is one of so many.
 #[tactic(auto, using(std::proofs::lemmas::Grind::common_steps, crate::proofs::ExprRolls::expr_rules, crate::proofs::ScopeRolls::bound_rules))]
-pub(crate) fn expr_in_scope(names: u64, e: &Expr, scope: &Scope<'_>) -> bool
+pub(crate) fn expr_in_scope(names: u64, e: &Expr, scope: &BoundNames<'_>) -> bool
     ensures bound { result ≡ expr_in_scope_of names e.now (bound_names scope.now) }
 {
     match e {
@@ -86,13 +86,13 @@ pub(crate) fn expr_in_scope(names: u64, e: &Expr, scope: &Scope<'_>) -> bool
             if !expr_in_scope(names, last.get(), scope) {
                 return false;
             }
-            expr_in_scope(names, body.get(), &Scope::Bind(*name, &*scope))
+            expr_in_scope(names, body.get(), &BoundNames::Bind(*name, &*scope))
         }
     }
 }
 
 /// The same of each of some expressions.
-pub(crate) fn exprs_in_scope(names: u64, es: &[Expr], scope: &Scope<'_>) -> bool
+pub(crate) fn exprs_in_scope(names: u64, es: &[Expr], scope: &BoundNames<'_>) -> bool
     ensures bound { result ≡ exprs_in_scope_of names es.now (bound_names scope.now) }
 {
     for e in es {
@@ -104,7 +104,7 @@ pub(crate) fn exprs_in_scope(names: u64, es: &[Expr], scope: &Scope<'_>) -> bool
 }
 
 /// The same of an expression, if there is one.
-pub(crate) fn option_expr_in_scope(names: u64, e: &Option<Expr>, scope: &Scope<'_>) -> bool
+pub(crate) fn option_expr_in_scope(names: u64, e: &Option<Expr>, scope: &BoundNames<'_>) -> bool
     ensures bound { result ≡ option_in_scope names e.now (bound_names scope.now) }
 {
     match e {

@@ -12,8 +12,8 @@ use Rattle.pads_resolution.specs.declared.expr.Expr.TheVariants as tree
 use Rattle.pads_question.specs.Filters.{it}
 use Rattle.pads_question.specs.Levels.{Names, level_of_use, level_step, levelled}
 use Rattle.pads_question.specs.LevelScopes.{names_of, scope_step}
-use Rattle.pads_question.specs.declared.levels.Scope.{Scope, Scope-F, fold-roll-Scope}
-use Rattle.pads_question.specs.declared.levels.Scope.TheVariants as scope
+use Rattle.pads_question.specs.declared.levels.Levels.{Levels, Levels-F, fold-roll-Levels}
+use Rattle.pads_question.specs.declared.levels.Levels.TheVariants as scope
 
 level-roll : (layer : Tree-F Tree) → levelled (roll-Tree layer) ≡ level_step (map-Tree Tree (Names → Expr) levelled layer)
 unfolding levelled
@@ -76,9 +76,9 @@ pub ruleset level_rules = (
 )
 
 pub in-it : names_of scope.It ≡ it ∷ []
-in-it = ap names_of (sym scope.rolls-It) ∙ fold-roll-Scope Names scope_step Scope-F.It
+in-it = ap names_of (sym scope.rolls-It) ∙ fold-roll-Levels Names scope_step Levels-F.It
 
-pub in-inside : (name : Bor (List ℕ)) (outer : Bor Scope) → names_of (scope.Inside name outer) ≡ name.now ∷ names_of outer.now
-in-inside name outer = ap names_of (sym (scope.rolls-Inside name outer)) ∙ fold-roll-Scope Names scope_step (Scope-F.Inside name outer)
+pub in-inside : (name : Bor (List ℕ)) (outer : Bor Levels) → names_of (scope.Inside name outer) ≡ name.now ∷ names_of outer.now
+in-inside name outer = ap names_of (sym (scope.rolls-Inside name outer)) ∙ fold-roll-Levels Names scope_step (Levels-F.Inside name outer)
 
 pub ruleset scope_rules = (in-it, in-inside)

@@ -8,7 +8,7 @@ ghost use Rattle.pads_resolution.specs.Expressions as expressions;
 ghost use Rattle.pads_value.specs.Refusals.{OnFault};
 ghost use Rattle.pads_question.specs.Filters as filters;
 
-use crate::levels::{Scope as Levels, levelled};
+use crate::levels::{Levels, levelled};
 use crate::sorts::node_sort;
 use pads_ast::{Expr as Tree, ExprAst};
 use pads_declared::TypeTable;

@@ -14,30 +14,30 @@ use std::alloc::Global;
 
 /// The names in scope, on the stack.
 #[derive(Clone, Copy)]
-pub(crate) enum Scope<'s, 'a> {
+pub(crate) enum Levels<'s, 'a> {
     /// `it` alone.
     It,
     /// The variable of a `Pforall` inside others.
-    Inside(&'a [u8], &'s Scope<'s, 'a>),
+    Inside(&'a [u8], &'s Levels<'s, 'a>),
 }
 
 /// How many names are in scope.
-fn count(scope: &Scope<'_, '_>) -> u16
+fn count(scope: &Levels<'_, '_>) -> u16
     ensures count { result ≡ short (length (names_of scope.now)) }
 {
     match scope {
-        Scope::It => 1,
-        Scope::Inside(_, outer) => count(*outer).saturating_add(1),
+        Levels::It => 1,
+        Levels::Inside(_, outer) => count(*outer).saturating_add(1),
     }
 }
 
 /// The number of a name.
-fn level(scope: &Scope<'_, '_>, name: &[u8]) -> u16
+fn level(scope: &Levels<'_, '_>, name: &[u8]) -> u16
     ensures level { result ≡ levels.level_of (names_of scope.now) name.now }
 {
     match scope {
-        Scope::It => 0,
-        Scope::Inside(inner, outer) => {
+        Levels::It => 0,
+        Levels::Inside(inner, outer) => {
             if same_text(inner, name) {
                 count(*outer)
             } else {
@@ -49,7 +49,7 @@ fn level(scope: &Scope<'_, '_>, name: &[u8]) -> u16
 
 /// What a name stands for.
 #[tactic(auto, unfolding(crate::specs::Levels::level_of_use))]
-fn meaning(scope: &Scope<'_, '_>, meaning: &NameUse) -> Expr
+fn meaning(scope: &Levels<'_, '_>, meaning: &NameUse) -> Expr
     ensures meaning { result ≡ levels.level_of_use (names_of scope.now) meaning.now }
 {
     match meaning {
@@ -67,7 +67,7 @@ fn word(alloc: Global, points: &Bytes) -> Result<Expr, Memory>
 /// A resolved expression as one of a filter, with these names in scope.
 #[cycle(tree)]
 #[tactic(auto, using(std::proofs::lemmas::Grind::common_steps, crate::proofs::LevelRolls::level_rules))]
-pub(crate) fn levelled(alloc: Global, e: &Tree, scope: &Scope<'_, '_>) -> Result<Expr, Memory>
+pub(crate) fn levelled(alloc: Global, e: &Tree, scope: &Levels<'_, '_>) -> Result<Expr, Memory>
     ensures expr { IfOk result (λ made. made ≡ levels.levelled e.now (names_of scope.now)) }
 {
     match e {
@@ -109,7 +109,7 @@ pub(crate) fn levelled(alloc: Global, e: &Tree, scope: &Scope<'_, '_>) -> Result
 }
 
 #[cycle(tree)]
-fn boxed(alloc: Global, e: &Boxed<Tree>, scope: &Scope<'_, '_>) -> Result<Boxed<Expr>, Memory>
+fn boxed(alloc: Global, e: &Boxed<Tree>, scope: &Levels<'_, '_>) -> Result<Boxed<Expr>, Memory>
     ensures expr { IfOk result (λ made. made ≡ levels.levelled e.now (names_of scope.now)) }
 {
     Boxed::new(alloc, levelled(alloc, e.get(), scope)?)
@@ -122,9 +122,9 @@ fn boxed_inside(
     alloc: Global,
     e: &Boxed<Tree>,
     variable: &Bytes,
-    scope: &Scope<'_, '_>,
+    scope: &Levels<'_, '_>,
 ) -> Result<Boxed<Expr>, Memory>
     ensures expr { IfOk result (λ made. made ≡ levels.levelled e.now (variable.now ∷ names_of scope.now)) }
 {
-    boxed(alloc, e, &Scope::Inside(variable.as_slice(), &*scope))
+    boxed(alloc, e, &Levels::Inside(variable.as_slice(), &*scope))
 }
