@@ -10,7 +10,7 @@ use Rattle.pads_tool.proofs.Promises.{known-at}
 use Rattle.pads_tool.proofs.Texts.{if-known, within}
 use Rattle.pads_tool.specs.Describing.{Description, described}
 use Rattle.pads_tool.specs.Promises.{Counts, Keeps, Seen, summarizing}
-use Rattle.pads_tool.specs.Summing.{CanBeSummed, HasNoSummary, SumsGive, SumsMost, SumsOver, all_rows, are_too_many, report_for, sums}
+use Rattle.pads_tool.specs.Summing.{CanBeSummed, HasNoSummary, IsSummedBy, SumsGive, SumsMost, SumsOver, all_rows, are_too_many, report_for, sums}
 use Rattle.pads_tool.specs.Telling.{Tells}
 use Rattle.pads_tool.proofs.Masked.{masked-image, masked-item, masked-verdict, one-masked}
 use Rattle.pads_tool.specs.Masking.{IsBounded, IsReadUnder, IsRefusedUnder, bounded}
@@ -79,37 +79,41 @@ module _ (name : List ℕ) (settings : Settings) (mask : Mask) (s : Seen) (n : C
     summary-none ending.TooLong same h = absurd h
     summary-none ending.Limit same h = absurd h
 
-    -- The reading ends otherwise than at the end of the input.
-    pub summary-ended : (e : Ending) → s.out' ≡ s.out → SumsGive s.left' s.left n.source n.source' (described made settings.cutting) (Err e) → Keeps (summarizing name settings mask) s n e
-    summary-ended ending.ReadFault same h = (h.0, (same, (made, here, h.1)))
-    summary-ended ending.TooLong same h = ((same, (made, here, h)), λ can. can-most (s.content name) s.left settings mask can s.left' (described made settings.cutting) h)
-    summary-ended ending.Limit same h = ((made, here, h), same, λ can. can-over (s.content name) s.left settings mask can s.left' made here h)
-    summary-ended ending.Memory same h = same
-    summary-ended (ending.Refused why) same h = absurd h
-    summary-ended ending.FileFault same h = absurd h
-    summary-ended ending.Done same h = absurd h
-    summary-ended ending.Dirty same h = absurd h
-    summary-ended ending.Usage same h = absurd h
-    summary-ended ending.WriteFault same h = absurd h
+    module _ (few : size (lists_of made) ≤ most) where
+      by : IsSummedBy (s.content name) settings mask made
+      by = (here.0, (here.1, subst (λ (m : Contents). size (lists_of m) ≤ most) here.2 few), here.2)
 
-    -- The report was written of what was summed up, or not.
-    told-of : (summed : Summed) (input : List ℕ) (e : Ending) → summed ≡ (sums made).tally (all_rows (described made settings.cutting) input)
-        → Tells (report_text settings.top summed.summary.lists) summed.clean s.out s.out' n.out n.out' e
-        → Tells (report_for (described made settings.cutting) settings.top input) ((sums made).tally (all_rows (described made settings.cutting) input)).clean s.out s.out' n.out n.out' e
-    told-of summed input e is h = subst (λ (t : Summed). Tells (report_text settings.top t.summary.lists) t.clean s.out s.out' n.out n.out' e) is h
+      -- The reading ends otherwise than at the end of the input.
+      pub summary-ended : (e : Ending) → s.out' ≡ s.out → SumsGive s.left' s.left n.source n.source' (described made settings.cutting) (Err e) → Keeps (summarizing name settings mask) s n e
+      summary-ended ending.ReadFault same h = (h.0, (same, (made, by, h.1)))
+      summary-ended ending.TooLong same h = ((same, (made, by, h)), λ can. can-most (s.content name) s.left settings mask can s.left' (described made settings.cutting) h)
+      summary-ended ending.Limit same h = ((made, by, h), same, λ can. can-over (s.content name) s.left settings mask can s.left' made here h)
+      summary-ended ending.Memory same h = same
+      summary-ended (ending.Refused why) same h = absurd h
+      summary-ended ending.FileFault same h = absurd h
+      summary-ended ending.Done same h = absurd h
+      summary-ended ending.Dirty same h = absurd h
+      summary-ended ending.Usage same h = absurd h
+      summary-ended ending.WriteFault same h = absurd h
 
-    pub summary-told : (summed : Summed) (e : Ending) → SumsGive s.left' s.left n.source n.source' (described made settings.cutting) (Ok summed)
-        → Tells (report_text settings.top summed.summary.lists) summed.clean s.out s.out' n.out n.out' e → Keeps (summarizing name settings mask) s n e
-    summary-told summed ending.Done h t =
-        ((made, here, if-known _ _ s.left (λ input p. let told = told-of summed input ending.Done p.0 t in (told.0, told.1, p.1)) h), tt)
-    summary-told summed ending.Dirty h t =
-        ((made, here, if-known _ _ s.left (λ input p. let told = told-of summed input ending.Dirty p.0 t in (told.0, told.1, p.1)) h), tt)
-    summary-told summed ending.WriteFault h t =
-        (inl t.0, (made, here, if-known _ _ s.left (λ input p. let told = told-of summed input ending.WriteFault p.0 t in (told.1, p.1)) h), tt)
-    summary-told summed ending.Memory h t = t
-    summary-told summed (ending.Refused why) h t = absurd t
-    summary-told summed ending.FileFault h t = absurd t
-    summary-told summed ending.Usage h t = absurd t
-    summary-told summed ending.ReadFault h t = absurd t
-    summary-told summed ending.TooLong h t = absurd t
-    summary-told summed ending.Limit h t = absurd t
+      -- The report was written of what was summed up, or not.
+      told-of : (summed : Summed) (input : List ℕ) (e : Ending) → summed ≡ (sums made).tally (all_rows (described made settings.cutting) input)
+          → Tells (report_text settings.top summed.summary.lists) summed.clean s.out s.out' n.out n.out' e
+          → Tells (report_for (described made settings.cutting) settings.top input) ((sums made).tally (all_rows (described made settings.cutting) input)).clean s.out s.out' n.out n.out' e
+      told-of summed input e is h = subst (λ (t : Summed). Tells (report_text settings.top t.summary.lists) t.clean s.out s.out' n.out n.out' e) is h
+
+      pub summary-told : (summed : Summed) (e : Ending) → SumsGive s.left' s.left n.source n.source' (described made settings.cutting) (Ok summed)
+          → Tells (report_text settings.top summed.summary.lists) summed.clean s.out s.out' n.out n.out' e → Keeps (summarizing name settings mask) s n e
+      summary-told summed ending.Done h t =
+          ((made, by, if-known _ _ s.left (λ input p. let told = told-of summed input ending.Done p.0 t in (told.0, told.1, p.1)) h), tt)
+      summary-told summed ending.Dirty h t =
+          ((made, by, if-known _ _ s.left (λ input p. let told = told-of summed input ending.Dirty p.0 t in (told.0, told.1, p.1)) h), tt)
+      summary-told summed ending.WriteFault h t =
+          (inl t.0, (made, by, if-known _ _ s.left (λ input p. let told = told-of summed input ending.WriteFault p.0 t in (told.1, p.1)) h), tt)
+      summary-told summed ending.Memory h t = t
+      summary-told summed (ending.Refused why) h t = absurd t
+      summary-told summed ending.FileFault h t = absurd t
+      summary-told summed ending.Usage h t = absurd t
+      summary-told summed ending.ReadFault h t = absurd t
+      summary-told summed ending.TooLong h t = absurd t
+      summary-told summed ending.Limit h t = absurd t

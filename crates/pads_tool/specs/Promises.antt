@@ -21,8 +21,8 @@ use Rattle.pads_tool.specs.Printing.{IsKept, prints}
 use Rattle.pads_tool.specs.Querying.{CanBeAsked, IsUnaskedFor, answers, asking}
 use Rattle.pads_tool.specs.Reading.{ReadLittleAhead, Reads, WroteAll, WroteComplete, WroteMost, WrotePrefix, WroteSome, rows_in}
 use Rattle.pads_tool.specs.Testing.{TestsBy, all_clean, selftest_line}
-use Rattle.pads_tool.specs.Summing.{CanBeSummed, IsUnsummedFor, SumsAll, SumsComplete, SumsMost, SumsOver, SumsSome}
-use Rattle.pads_tool.specs.Masking.{IsBounded, IsReadUnder, Preparation, describing, masking}
+use Rattle.pads_tool.specs.Summing.{CanBeSummed, IsSummedBy, IsUnsummedFor, SumsAll, SumsComplete, SumsMost, SumsOver, SumsSome}
+use Rattle.pads_tool.specs.Masking.{IsBounded, Preparation, describing, masking}
 use Rattle.pads_tool.specs.Texts.{IsDescribedIn}
 use Rattle.pads_tool.specs.declared.reason.Reason.{Reason}
 use Rattle.pads_tool.specs.declared.ending.Ending.{Ending}
@@ -140,14 +140,15 @@ printing name settings = record (reading (describing settings.coding settings.sc
       (λ d input. All (λ row. is_clean row ≡ true → IsKept d row) (rows_in prints d (frames_of d input)));
 }
 
--- `summary`: the report of all records, once the input has ended, and nothing before.
+-- `summary`: the report of all records, once the input has ended, and nothing before. The module that they are read by has at
+-- most so many parts as a summary counts for.
 abbrev pub summarizing : List ℕ → Settings → Mask → Promise
 summarizing name settings mask = record {
-  finishes = λ well s. Reads (IsBounded settings.scan (λ whole. IsReadUnder (s.content name) settings.coding mask whole)) settings.cutting s.left (SumsAll s.left' s.out s.out' settings.top well);
-  stops_reading = λ s. (s.out' ≡ s.out) × Reads (IsBounded settings.scan (λ whole. IsReadUnder (s.content name) settings.coding mask whole)) settings.cutting s.left (SumsComplete s.left');
-  stops_at_limit = λ s. (s.out' ≡ s.out) × Reads (IsBounded settings.scan (λ whole. IsReadUnder (s.content name) settings.coding mask whole)) settings.cutting s.left (SumsMost s.left');
-  stops_at_count = λ s. Reads (IsBounded settings.scan (λ whole. IsReadUnder (s.content name) settings.coding mask whole)) settings.cutting s.left (SumsOver s.left');
-  stops_writing = λ s. Reads (IsBounded settings.scan (λ whole. IsReadUnder (s.content name) settings.coding mask whole)) settings.cutting s.left (SumsSome s.left' s.out s.out' settings.top);
+  finishes = λ well s. Reads (IsSummedBy (s.content name) settings mask) settings.cutting s.left (SumsAll s.left' s.out s.out' settings.top well);
+  stops_reading = λ s. (s.out' ≡ s.out) × Reads (IsSummedBy (s.content name) settings mask) settings.cutting s.left (SumsComplete s.left');
+  stops_at_limit = λ s. (s.out' ≡ s.out) × Reads (IsSummedBy (s.content name) settings mask) settings.cutting s.left (SumsMost s.left');
+  stops_at_count = λ s. Reads (IsSummedBy (s.content name) settings mask) settings.cutting s.left (SumsOver s.left');
+  stops_writing = λ s. Reads (IsSummedBy (s.content name) settings mask) settings.cutting s.left (SumsSome s.left' s.out s.out' settings.top);
   stays_near = λ s. Unit {0};
   stops_early = λ s. s.out' ≡ s.out;
   refused_for = λ content why. IsUnsummedFor (content name) settings.coding mask why;

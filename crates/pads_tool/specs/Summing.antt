@@ -19,7 +19,7 @@ use Rattle.pads_sums.specs.declared.part_sum.SumList.{SumList}
 use Rattle.pads_value.specs.Cuts.{Cut}
 use Rattle.pads_value.specs.declared.row.Row.{Row}
 use Rattle.pads_tool.specs.Describing.{Description, complete_frames_of, described, frames_of, is_clean, row_in}
-use Rattle.pads_tool.specs.Masking.{CanBeMasked, bounded, IsReadUnder, IsUnmaskedIn, IsUnreadUnder}
+use Rattle.pads_tool.specs.Masking.{CanBeMasked, bounded, IsBounded, IsReadUnder, IsUnmaskedIn, IsUnreadUnder}
 use Rattle.pads_tool.specs.Texts.{IsRefusedIn}
 use Rattle.pads_tool.specs.declared.ending.Ending.{Ending}
 use Rattle.pads_tool.specs.declared.ending.Ending.TheVariants as ending
@@ -108,6 +108,14 @@ module _ (left' : Option (List ℕ)) where
   SumsGive left source source' d (Err (ending.Refused why)) = ⊥
   SumsGive left source source' d (Err ending.FileFault) = ⊥
   SumsGive left source source' d (Err ending.WriteFault) = ⊥
+
+-- The module that records are summed up by: it has an image, and at most so many parts as a summary counts for,
+abbrev pub IsSummedUnder : Option (List ℕ) → Coding → Mask → Contents → Type 0
+IsSummedUnder content coding mask made = IsReadUnder content coding mask made × (size (lists_of made) ≤ most)
+
+-- with the order's bound on searches.
+abbrev pub IsSummedBy : Option (List ℕ) → Settings → Mask → Contents → Type 0
+IsSummedBy content settings mask made = IsBounded settings.scan (λ whole. IsSummedUnder content settings.coding mask whole) made
 
 -- The module has an image, and more parts than a summary counts for.
 abbrev pub IsTooLargeIn : Option (List ℕ) → Coding → Mask → Type 0

@@ -1,5 +1,5 @@
 ghost use Rattle.std.specs.Coded.{Coded-set, coded_list};
-ghost use Rattle.std.specs.Prelude.{◌≡◌, ◌≢◌, ℕ, [], Bool, List, Option, false, IfErr, IfOk, OnErr};
+ghost use Rattle.std.specs.Prelude.{◌≡◌, ◌≢◌, ◌≤◌, ℕ, [], Bool, List, Option, false, IfErr, IfOk, OnErr, OnOk};
 ghost use Rattle.pads_accum.specs.States.{IsSummaryOf};
 ghost use Rattle.pads_io.specs.Calls.{CallsOfTwo, Reads, Writes};
 ghost use Rattle.pads_module.specs.Modules.{contents};
@@ -170,6 +170,7 @@ fn empty_summary(alloc: Global, made: &Module) -> Result<Summary, Ending>
     ensures plan { IfOk result (λ summary. summary.plan ≡ lists_of (contents made.now)) }
     ensures empty { IfOk result (λ summary. IsSummaryOf summary []) }
     ensures unspent { IfOk result (λ summary. summary.spent ≡ false) }
+    ensures few { OnOk result (size (lists_of (contents made.now)) ≤ most) }
     ensures stops { IfErr result (HasNoSummary (contents made.now)) }
 {
     match Summary::new(alloc, made) {

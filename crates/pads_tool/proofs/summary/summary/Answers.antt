@@ -33,14 +33,14 @@ returns-clause-gives g c = λ noted noted' notes notes'.
     summary-ended c.args.name.now c.args.settings.now c.args.mask.now
     (seen (g.F.Files.content c.args.files.now) (g.S.Source.left c.args.source.now) (g.S.Source.left c.summed.new.source) (g.K.Sink.written c.args.out.now) (g.K.Sink.written c.args.out.now) noted noted')
     (counts (g.F.Files.faults c.args.files.now) (g.F.Files.faults c.read_under.new.files) (g.S.Source.faults c.args.source.now) (g.S.Source.faults c.summed.new.source)
-    (g.K.Sink.faults c.args.out.now) (g.K.Sink.faults c.args.out.now) notes notes') (contents c.in-Ok.reader.module) c.in-Ok.ensures.read c.in-Err-summed.ending refl c.in-Err-summed.ensures.gives
+    (g.K.Sink.faults c.args.out.now) (g.K.Sink.faults c.args.out.now) notes notes') (contents c.in-Ok.reader.module) c.in-Ok.ensures.read c.in-Ok-empty_summary.ensures.few c.in-Err-summed.ending refl c.in-Err-summed.ensures.gives
 
 pub returns-in-Ok-summed-clause-gives : goal.returns-in-Ok-summed-clause-gives
 returns-in-Ok-summed-clause-gives g c = λ noted noted' notes notes'.
     summary-told c.args.name.now c.args.settings.now c.args.mask.now
     (seen (g.F.Files.content c.args.files.now) (g.S.Source.left c.args.source.now) (g.S.Source.left c.summed.new.source) (g.K.Sink.written c.args.out.now) (g.K.Sink.written c.tell_report.new.out) noted noted')
     (counts (g.F.Files.faults c.args.files.now) (g.F.Files.faults c.read_under.new.files) (g.S.Source.faults c.args.source.now) (g.S.Source.faults c.summed.new.source)
-    (g.K.Sink.faults c.args.out.now) (g.K.Sink.faults c.tell_report.new.out) notes notes') (contents c.in-Ok.reader.module) c.in-Ok.ensures.read c.in-Ok-summed.summed c.tell_report.result
+    (g.K.Sink.faults c.args.out.now) (g.K.Sink.faults c.tell_report.new.out) notes notes') (contents c.in-Ok.reader.module) c.in-Ok.ensures.read c.in-Ok-empty_summary.ensures.few c.in-Ok-summed.summed c.tell_report.result
     c.in-Ok-summed.ensures.gives c.tell_report.ensures.tells
 
 pub returns-in-Ok-summed-clause-untouched : goal.returns-in-Ok-summed-clause-untouched
